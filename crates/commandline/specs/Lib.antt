@@ -1,5 +1,6 @@
 pub mod Channels
 pub mod CommandLine
+pub mod Globals
 pub mod Request
 pub mod RequestLaws
 pub mod Vectors

@@ -1,8 +1,8 @@
 // What the program's words may be, as clap's command.
 ghost use Rattle.std.specs.Prelude.{◌≡◌, codes, IfOk, false};
 ghost use Rattle.clap.specs.Words.{app_of, new_rule, rule_of, shape_of, with_rule};
-ghost use Rattle.clap.specs.declared.Command.TheViews.{out-Command as fields_of};
 ghost use Rattle.commandline.specs.CommandLine.{adlcons_app, check_shape, compare_shape, consolidate_shape, default_rule, explain_shape, flag_rule, option_rule, over_both, over_folders, over_media, place_rule, rendering_shape, show_shape, top_app, with_choice, with_range, with_times};
+ghost use Rattle.commandline.specs.Globals.{AsGlobal, HasNoGlobals};
 
 use clap::{Arg, ArgAction, Command};
 use std::alloc::{AllocError, Global};
@@ -65,7 +65,7 @@ fn top_command<'a>(alloc: Global) -> Result<Command<'a>, AllocError>
 /// The command that checks a list.
 fn check_command<'a>(alloc: Global) -> Result<Command<'a>, AllocError>
     ensures shape { IfOk result (λ command. shape_of command ≡ check_shape) }
-    ensures local { IfOk result (λ command. (fields_of command).has_globals ≡ false) }
+    ensures local { IfOk result HasNoGlobals }
 {
     let command = over_media(
         alloc,
@@ -80,7 +80,7 @@ fn check_command<'a>(alloc: Global) -> Result<Command<'a>, AllocError>
 /// The command that draws a list.
 fn show_command<'a>(alloc: Global) -> Result<Command<'a>, AllocError>
     ensures shape { IfOk result (λ command. shape_of command ≡ show_shape) }
-    ensures local { IfOk result (λ command. (fields_of command).has_globals ≡ false) }
+    ensures local { IfOk result HasNoGlobals }
 {
     let command = over_media(
         alloc,
@@ -96,7 +96,7 @@ fn show_command<'a>(alloc: Global) -> Result<Command<'a>, AllocError>
 /// The command that consolidates a list.
 fn consolidate_command<'a>(alloc: Global) -> Result<Command<'a>, AllocError>
     ensures shape { IfOk result (λ command. shape_of command ≡ consolidate_shape) }
-    ensures local { IfOk result (λ command. (fields_of command).has_globals ≡ false) }
+    ensures local { IfOk result HasNoGlobals }
 {
     let command = over_folders(
         alloc,
@@ -118,7 +118,7 @@ fn consolidate_command<'a>(alloc: Global) -> Result<Command<'a>, AllocError>
 /// The command that renders a list.
 fn render_command<'a>(alloc: Global) -> Result<Command<'a>, AllocError>
     ensures shape { IfOk result (λ command. shape_of command ≡ rendering_shape (codes "render")) }
-    ensures local { IfOk result (λ command. (fields_of command).has_globals ≡ false) }
+    ensures local { IfOk result HasNoGlobals }
 {
     let command = over_folders(
         alloc,
@@ -133,7 +133,7 @@ fn render_command<'a>(alloc: Global) -> Result<Command<'a>, AllocError>
 /// The command that goes on with a rendering.
 fn resume_command<'a>(alloc: Global) -> Result<Command<'a>, AllocError>
     ensures shape { IfOk result (λ command. shape_of command ≡ rendering_shape (codes "resume")) }
-    ensures local { IfOk result (λ command. (fields_of command).has_globals ≡ false) }
+    ensures local { IfOk result HasNoGlobals }
 {
     let command = over_folders(
         alloc,
@@ -148,7 +148,7 @@ fn resume_command<'a>(alloc: Global) -> Result<Command<'a>, AllocError>
 /// The command that compares two lists.
 fn compare_command<'a>(alloc: Global) -> Result<Command<'a>, AllocError>
     ensures shape { IfOk result (λ command. shape_of command ≡ compare_shape) }
-    ensures local { IfOk result (λ command. (fields_of command).has_globals ≡ false) }
+    ensures local { IfOk result HasNoGlobals }
 {
     let command = over_both(alloc)?;
     let report = "Print all that is found as JSON";
@@ -159,7 +159,7 @@ fn compare_command<'a>(alloc: Global) -> Result<Command<'a>, AllocError>
 /// The command with what may be chosen of a rendering.
 fn with_choice<'a>(alloc: Global, command: Command<'a>) -> Result<Command<'a>, AllocError>
     ensures app { IfOk result (λ added. app_of added ≡ with_choice (app_of command.entry)) }
-    ensures local { IfOk result (λ added. (fields_of added).has_globals ≡ (fields_of command.entry).has_globals) }
+    ensures local { IfOk result (AsGlobal command.entry) }
 {
     let command = with_range(alloc, command)?;
     let depth = "Bits of a sample: 16, 24 or 32";
@@ -173,7 +173,7 @@ fn with_choice<'a>(alloc: Global, command: Command<'a>) -> Result<Command<'a>, A
 /// The command with the times and the channels that may be chosen.
 fn with_range<'a>(alloc: Global, command: Command<'a>) -> Result<Command<'a>, AllocError>
     ensures app { IfOk result (λ added. app_of added ≡ with_range (app_of command.entry)) }
-    ensures local { IfOk result (λ added. (fields_of added).has_globals ≡ (fields_of command.entry).has_globals) }
+    ensures local { IfOk result (AsGlobal command.entry) }
 {
     let command = with_times(alloc, command)?;
     let channels = "Channels, 1 to 64 [default: all that entries name]";
@@ -183,7 +183,7 @@ fn with_range<'a>(alloc: Global, command: Command<'a>) -> Result<Command<'a>, Al
 /// The command with the times that may be chosen.
 fn with_times<'a>(alloc: Global, command: Command<'a>) -> Result<Command<'a>, AllocError>
     ensures app { IfOk result (λ added. app_of added ≡ with_times (app_of command.entry)) }
-    ensures local { IfOk result (λ added. (fields_of added).has_globals ≡ (fields_of command.entry).has_globals) }
+    ensures local { IfOk result (AsGlobal command.entry) }
 {
     let from = "The first sample, hh.mm.ss.ff/rrrr [default: the first in]";
     let command = with_option(alloc, command, "from", "T", from)?;
@@ -200,7 +200,7 @@ fn over_media<'a>(
     example: &'a str,
 ) -> Result<Command<'a>, AllocError>
     ensures app { IfOk result (λ command. app_of command ≡ over_media name.entry.now) }
-    ensures local { IfOk result (λ command. (fields_of command).has_globals ≡ false) }
+    ensures local { IfOk result HasNoGlobals }
 {
     let command = Command::new(alloc, name).about(about).after_help(example);
     let list = "The list, a file; - is standard input";
@@ -222,7 +222,7 @@ fn over_folders<'a>(
     example: &'a str,
 ) -> Result<Command<'a>, AllocError>
     ensures app { IfOk result (λ command. app_of command ≡ over_folders name.entry.now) }
-    ensures local { IfOk result (λ command. (fields_of command).has_globals ≡ false) }
+    ensures local { IfOk result HasNoGlobals }
 {
     let command = over_media(alloc, name, about, example)?;
     with_place(alloc, command, "OUT", out)
@@ -231,7 +231,7 @@ fn over_folders<'a>(
 /// The command over two lists, each with the folder of its media.
 fn over_both<'a>(alloc: Global) -> Result<Command<'a>, AllocError>
     ensures app { IfOk result (λ command. app_of command ≡ over_both) }
-    ensures local { IfOk result (λ command. (fields_of command).has_globals ≡ false) }
+    ensures local { IfOk result HasNoGlobals }
 {
     let command = over_media(
         alloc,
@@ -248,7 +248,7 @@ fn over_both<'a>(alloc: Global) -> Result<Command<'a>, AllocError>
 /// The command that tells what the numbers of refusals mean.
 fn explain_command<'a>(alloc: Global) -> Result<Command<'a>, AllocError>
     ensures shape { IfOk result (λ command. shape_of command ≡ explain_shape) }
-    ensures local { IfOk result (λ command. (fields_of command).has_globals ≡ false) }
+    ensures local { IfOk result HasNoGlobals }
 {
     let command = Command::new(alloc, "explain")
         .about("Tell what the number of a refusal or notice means, and what to do")
@@ -267,7 +267,7 @@ fn with_word<'a>(
     help: &'a str,
 ) -> Result<Command<'a>, AllocError>
     ensures app { IfOk result (λ added. app_of added ≡ with_rule (app_of command.entry) (new_rule id.entry.now)) }
-    ensures local { IfOk result (λ added. (fields_of added).has_globals ≡ (fields_of command.entry).has_globals) }
+    ensures local { IfOk result (AsGlobal command.entry) }
 {
     command.arg(Arg::new(alloc, id).help(help))
 }
@@ -280,7 +280,7 @@ fn with_place<'a>(
     help: &'a str,
 ) -> Result<Command<'a>, AllocError>
     ensures app { IfOk result (λ added. app_of added ≡ with_rule (app_of command.entry) (place_rule id.entry.now)) }
-    ensures local { IfOk result (λ added. (fields_of added).has_globals ≡ (fields_of command.entry).has_globals) }
+    ensures local { IfOk result (AsGlobal command.entry) }
 {
     command.arg(Arg::new(alloc, id).required(true).help(help))
 }
@@ -293,7 +293,7 @@ fn with_flag<'a>(
     help: &'a str,
 ) -> Result<Command<'a>, AllocError>
     ensures app { IfOk result (λ added. app_of added ≡ with_rule (app_of command.entry) (flag_rule id.entry.now)) }
-    ensures local { IfOk result (λ added. (fields_of added).has_globals ≡ (fields_of command.entry).has_globals) }
+    ensures local { IfOk result (AsGlobal command.entry) }
 {
     command.arg(
         Arg::new(alloc, id)
@@ -320,7 +320,7 @@ fn with_option<'a>(
     help: &'a str,
 ) -> Result<Command<'a>, AllocError>
     ensures app { IfOk result (λ added. app_of added ≡ with_rule (app_of command.entry) (option_rule id.entry.now)) }
-    ensures local { IfOk result (λ added. (fields_of added).has_globals ≡ (fields_of command.entry).has_globals) }
+    ensures local { IfOk result (AsGlobal command.entry) }
 {
     command.arg(option(alloc, id, value, help))
 }
@@ -336,7 +336,7 @@ fn with_default<'a>(
 ) -> Result<Command<'a>, AllocError>
     ensures app { IfOk result
         (λ added. app_of added ≡ with_rule (app_of command.entry) (default_rule id.entry.now default.entry.now)) }
-    ensures local { IfOk result (λ added. (fields_of added).has_globals ≡ (fields_of command.entry).has_globals) }
+    ensures local { IfOk result (AsGlobal command.entry) }
 {
     command.arg(option(alloc, id, value, help).default_value(default))
 }

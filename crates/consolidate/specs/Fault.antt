@@ -1,8 +1,8 @@
 -- The number and the place of each fault.
-use Rattle.std.specs.Prelude.{◌≡◌, ℕ, ⊤, true, false, IsSome, Some, slice_get, string_bytes, codes}
+use Rattle.std.specs.Prelude.{◌≡◌, ℕ, ⊤, true, false, IsSome, None, Some, slice_get, string_bytes, codes}
 use Rattle.std.specs.Prelude as bytes
 use Rattle.sound_terms.specs.Sounds.{SoundFacts}
-use Rattle.work_terms.specs.Refusals.{Refusal, Where, Nowhere, File, Job}
+use Rattle.work_terms.specs.Refusals.{Refusal, Where, Nowhere, File, Job, IsDue}
 use Rattle.list_terms.specs.Renewed.{media_name}
 use Rattle.markfile.specs.Fault.{name_of, number_of}
 use Rattle.markfile.specs.declared.fault.MarkFault.{MarkFault}
@@ -62,6 +62,10 @@ refusal_of (Marks fault) = refusal_of_marks fault
 refusal_of WorkerMemory = late 60 Nowhere
 refusal_of (GivenUp job) = late 66 (Job job)
 refusal_of (Output file) = late 62 (File (name_of_output file))
+
+-- its refusal may come where none is due
+abbrev pub IsAlwaysDue : Fault → Type 0
+IsAlwaysDue fault = IsDue (refusal_of fault) None
 
 -- a file that a fault of a consolidation tells is one of those opened
 abbrev pub IsOpenedIn : bytes.List SoundFacts → ConsolidationFault → Type 0

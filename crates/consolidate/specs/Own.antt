@@ -1,5 +1,5 @@
 -- Which faults each call may tell.
-use Rattle.std.specs.Prelude.{◌≡◌, ℕ, ◌≤◌, Bool, IsTrue, false, ⊤}
+use Rattle.std.specs.Prelude.{◌≡◌, ℕ, ◌≤◌, Bool, IsTrue, false, ⊤, Result, IfErr}
 use Rattle.std.specs.Prelude as bytes
 use Rattle.work_terms.specs.Disk.{Files}
 use Rattle.opening.specs.Own as opening
@@ -78,3 +78,11 @@ IsOfConsolidation reported text _ = ⊥
 abbrev pub IsOfConsolidationSchedule : bytes.List ℕ → Fault → Type 0
 IsOfConsolidationSchedule text fault.WorkerMemory = ⊤
 IsOfConsolidationSchedule text of = IsOfConsolidation false text of
+
+-- whatever the list is: where a call fails, its fault is one of rendering it
+abbrev pub FailsAtRendering : {X : Type 0} → Result X Fault → Type 0
+FailsAtRendering result = (text : bytes.List ℕ) → IfErr result (IsOfRendering text)
+
+-- or one of the schedule of that
+abbrev pub FailsAtSchedule : {X : Type 0} → Result X Fault → Type 0
+FailsAtSchedule result = (text : bytes.List ℕ) → IfErr result (IsOfRenderSchedule text)

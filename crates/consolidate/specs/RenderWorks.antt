@@ -14,7 +14,7 @@ use Rattle.job_terms.specs.declared.BoardEvent.{BoardEvent}
 use Rattle.job_terms.specs.declared.Progress.{Progress}
 use Rattle.markfile.specs.Started.{NoneStarted}
 use Rattle.markfile.specs.declared.run.RunId.{RunId}
-use Rattle.rendering.specs.Maker.{marks_of, plan_of}
+use Rattle.rendering.specs.Maker.{HasSoundJobs, IsMarkedWork, marks_of, plan_of}
 use Rattle.rendering.specs.Marked.{IsLeftByRun, IsOther, IsResumable, MarkedWork, full_marks}
 use Rattle.rendering.specs.Work.{done_before, work_of}
 use Rattle.workboard.specs.Indexed.{IsOrder}
@@ -31,6 +31,11 @@ abbrev pub IsUnbegun : Fault → Type 0
 IsUnbegun fault.BoardMemory = ⊤
 IsUnbegun fault.RenderMemory = ⊤
 IsUnbegun _ = ⊥
+
+-- its jobs are all its blocks, and sound
+pub record IsSoundWork (marked : MarkedWork) : Type 0 where
+  pub whole : IsMarkedWork marked
+  pub jobs : HasSoundJobs marked
 
 -- nothing of this work is begun: all its jobs are open, in an order of them all, and no worker holds anything
 pub record IsPrepared (marked : MarkedWork) (run : ExecutionView MarkedWork) : Type 0 where

@@ -1,13 +1,17 @@
 // What a command renders, and what of it was clipped.
+ghost use Rattle.rendering.specs.Rendering.{HaveChannels};
+
 use clipping::Clips;
 use rendering::{JobLength, Options};
 use sampletime::SampleTime;
 
-/// What is rendered of a list, and how long the jobs are. The file is the same for each length.
+/// What is rendered of a list, on 1 to 64 channels where their number is chosen, and how long the jobs are. The file is
+/// the same for each length.
 #[derive(Clone, Copy, Debug, PartialEq, Eq)]
 pub struct RenderChoice {
     pub options: Options,
     pub jobs: JobLength,
+    ghost few_channels: { HaveChannels options },
 }
 
 /// What was clipped of a rendering: the tally of its exact sums, of which the first stands at the first frame on channel 1,

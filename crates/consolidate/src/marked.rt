@@ -1,19 +1,18 @@
 // The jobs of a rendering whose blocks are marked.
-ghost use Rattle.std.specs.Prelude.{◌≡◌, Bool, IfErr, IfOk, IsTrue, List, None, OnOk, Some, true, ℕ};
+ghost use Rattle.std.specs.Prelude.{◌≡◌, Bool, IfErr, IfOk, IsTrue, List, OnOk, Some, true, ℕ};
 ghost use Rattle.std.specs.List.{All};
 ghost use Rattle.list_terms.specs.Steps.{ok_map};
 ghost use Rattle.work_terms.specs.Disk.{LeavesOnly};
-ghost use Rattle.work_terms.specs.Refusals.{IsDue};
 ghost use Rattle.markfile.specs.Format.{marks_name};
 ghost use Rattle.rendering.specs.Clipping.{ClipsUnmarked};
 ghost use Rattle.rendering.specs.Cut.{IsUniform};
-ghost use Rattle.rendering.specs.Maker.{HasSoundJobs, IsMarkedWork, marks_of};
+ghost use Rattle.rendering.specs.Maker.{marks_of};
 ghost use Rattle.rendering.specs.Marked.{HoldsMarked};
 ghost use Rattle.rendering.specs.Work.{heard};
-ghost use Rattle.consolidate.specs.Fault.{refusal_of};
-ghost use Rattle.consolidate.specs.Own.{IsOfRenderSchedule, IsOfRendering};
+ghost use Rattle.consolidate.specs.Fault.{IsAlwaysDue};
+ghost use Rattle.consolidate.specs.Own.{FailsAtRendering, FailsAtSchedule};
 ghost use Rattle.consolidate.specs.RenderOutcome.{in_rounds};
-ghost use Rattle.consolidate.specs.RenderWorks.{BeginsWork, GoesOnWithWork, IsAllDone, IsPrepared, IsTakenUp, IsUnbegun, StandsAsMarked};
+ghost use Rattle.consolidate.specs.RenderWorks.{BeginsWork, GoesOnWithWork, IsAllDone, IsPrepared, IsSoundWork, IsTakenUp, IsUnbegun, StandsAsMarked};
 
 use crate::Fault;
 use clipping::Clips;
@@ -87,8 +86,7 @@ pub(crate) fn render_anew<S: Shelf, B: Bench, W: Watch>(
     bench: &mut B,
     watch: &mut W,
 ) -> Result<Worked, Fault>
-    requires whole { IsMarkedWork work }
-    requires jobs { HasSoundJobs work }
+    requires { IsSoundWork work }
     ensures does { BeginsWork S.Shelf B.Bench in_rounds work.entry shelf.old shelf.new bench.old bench.new
         (ok_map (λ worked. worked.progress) result) }
     ensures clips { IsTrue (S.honest shelf.old) → (marked : List Bool)
@@ -96,8 +94,8 @@ pub(crate) fn render_anew<S: Shelf, B: Bench, W: Watch>(
         work.entry.work.planned.range (heard work.entry.work.planned work.entry.work.sounds (S.stored shelf.old))
         worked.clips) }
     ensures finished { IfOk result (λ worked. IsAllDone worked.progress) }
-    ensures own { (text : List ℕ) → IfErr result (IsOfRendering text) }
-    ensures due { IfErr result (λ fault. IsDue (refusal_of fault) None) }
+    ensures own { FailsAtRendering result }
+    ensures due { IfErr result IsAlwaysDue }
 {
     let mut execution = match prepared(alloc, work, checked, order) {
         Ok(execution) => execution,
@@ -122,12 +120,11 @@ pub(crate) fn render_by_events<S: Shelf, B: Bench>(
     shelf: &mut S,
     bench: &mut B,
 ) -> Result<Progress, Fault>
-    requires whole { IsMarkedWork work }
-    requires jobs { HasSoundJobs work }
+    requires { IsSoundWork work }
     ensures does { BeginsWork S.Shelf B.Bench (λ _. events.now) work.entry shelf.old shelf.new bench.old bench.new
         result }
-    ensures own { (text : List ℕ) → IfErr result (IsOfRenderSchedule text) }
-    ensures due { IfErr result (λ fault. IsDue (refusal_of fault) None) }
+    ensures own { FailsAtSchedule result }
+    ensures due { IfErr result IsAlwaysDue }
 {
     let mut execution = match prepared(alloc, work, checked, order) {
         Ok(execution) => execution,
@@ -150,8 +147,7 @@ pub(crate) fn go_on_marked<S: Shelf, B: Bench, W: Watch>(
     bench: &mut B,
     watch: &mut W,
 ) -> Result<Worked, Fault>
-    requires whole { IsMarkedWork work }
-    requires jobs { HasSoundJobs work }
+    requires { IsSoundWork work }
     ensures does { GoesOnWithWork S.Shelf B.Bench work.entry shelf.old shelf.new bench.old bench.new
         (ok_map (λ worked. worked.progress) result) }
     ensures keeps { IsTrue (S.honest shelf.old) → IsTrue (B.honest bench.old)
@@ -164,8 +160,8 @@ pub(crate) fn go_on_marked<S: Shelf, B: Bench, W: Watch>(
         work.entry.work.planned.range (heard work.entry.work.planned work.entry.work.sounds (S.stored shelf.old))
         worked.clips) }
     ensures finished { IfOk result (λ worked. IsAllDone worked.progress) }
-    ensures own { (text : List ℕ) → IfErr result (IsOfRendering text) }
-    ensures due { IfErr result (λ fault. IsDue (refusal_of fault) None) }
+    ensures own { FailsAtRendering result }
+    ensures due { IfErr result IsAlwaysDue }
 {
     let mut execution = match taken_up(alloc, work, checked, order) {
         Ok(execution) => execution,

@@ -1,5 +1,5 @@
 // Renders a list to one sound file.
-ghost use Rattle.std.specs.Prelude.{◌≡◌, IfErr, IfOk, IsTrue, List, [], true, ℕ, ℤ, ⊤};
+ghost use Rattle.std.specs.Prelude.{◌≡◌, IfOk, IsTrue, [], true, ℕ, ℤ, ⊤};
 ghost use Rattle.devices.specs.Views.{output_view, source_view};
 ghost use Rattle.work_terms.specs.Refusals.{Answers};
 ghost use Rattle.sound_terms.specs.Render.{ReadsBack, rendering_of};
@@ -14,7 +14,7 @@ ghost use Rattle.consolidate.specs.Clipping.{ClipsList, IsClipping};
 ghost use Rattle.consolidate.specs.Commands.{IsRendering};
 ghost use Rattle.consolidate.specs.Fault.{refusal_of};
 ghost use Rattle.consolidate.specs.Marks.{list_marking};
-ghost use Rattle.consolidate.specs.Own.{IsOfRendering};
+ghost use Rattle.consolidate.specs.Own.{FailsAtRendering};
 ghost use Rattle.consolidate.specs.RenderOutcome.{RendersBound, in_rounds};
 ghost use Rattle.consolidate.specs.RenderWorks.{DoesWork};
 
@@ -61,7 +61,6 @@ fn render_checked<S: Shelf, B: Bench, W: Watch>(
     bench: &mut B,
     watch: &mut W,
 ) -> Result<Made, Fault>
-    requires { HaveChannels choice.now.options }
     ensures does { DoesWork S.Shelf B.Bench (λ _. ⊤) (λ _ progress. progress.finished ≡ true)
         (list_marking list.now (values_of choice.now.options) (S.stored shelf.old) checked.now.project checked.now.bound)
         (run_of list.now (range_of checked.now.project (values_of choice.now.options))) ⊤ (NoneStarted (B.may_leave bench.old))
@@ -77,7 +76,7 @@ fn render_checked<S: Shelf, B: Bench, W: Watch>(
         (range_of checked.now.project (values_of choice.now.options))
         (project_mix (S.stored shelf.old) checked.now.project checked.now.bound) made.clipping) }
     ensures refusals { Answers refusal_of result (render_fault checked.now.project (values_of choice.now.options)) }
-    ensures own { (text : List ℕ) → IfErr result (IsOfRendering text) }
+    ensures own { FailsAtRendering result }
 {
     let work = match RenderingWork::plan(alloc, checked, &choice.options, list, choice.jobs) {
         Ok(work) => work,
@@ -149,7 +148,6 @@ pub fn render_watched<S: Shelf, B: Bench, W: Watch>(
     bench: &mut B,
     watch: &mut W,
 ) -> Result<RenderedSound, Fault>
-    requires { HaveChannels choice.now.options }
     ensures renders { IsRendering S.Shelf B.Bench choice.now.jobs list.now
         (values_of choice.now.options) shelf.old shelf.new bench.old bench.new (ok_map (λ made. made.rendered) result) }
     ensures clips { IsTrue (S.honest shelf.old) → IfOk result (λ made.

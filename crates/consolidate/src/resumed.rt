@@ -67,7 +67,6 @@ fn resume_checked<S: Shelf, B: Bench, W: Watch>(
     bench: &mut B,
     watch: &mut W,
 ) -> Result<Found, Fault>
-    requires { HaveChannels choice.now.options }
     ensures does { DoesWork S.Shelf B.Bench (λ _. ⊤) (λ _ progress. progress.finished ≡ true)
         (list_marking list.now (values_of choice.now.options) (S.stored shelf.old) checked.now.project checked.now.bound)
         (run_of list.now (range_of checked.now.project (values_of choice.now.options)))
@@ -191,7 +190,6 @@ pub fn resume_watched<S: Shelf, B: Bench, W: Watch>(
     bench: &mut B,
     watch: &mut W,
 ) -> Result<ResumedSound, Fault>
-    requires { HaveChannels choice.now.options }
     ensures resumes { IsResuming S.Shelf B.Bench choice.now.jobs list.now
         (values_of choice.now.options) shelf.old shelf.new bench.old bench.new (ok_map (λ made. made.resumed) result) }
     ensures clips { IsTrue (S.honest shelf.old) → IsTrue (B.honest bench.old) → IfOk result (λ made.

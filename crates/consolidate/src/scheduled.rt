@@ -1,15 +1,15 @@
 // Renders a list by the events of any number of workers.
-ghost use Rattle.std.specs.Prelude.{◌≡◌, IfErr, IfOk, List, ℕ, ℤ, ⊤};
+ghost use Rattle.std.specs.Prelude.{◌≡◌, IfOk, ℕ, ℤ, ⊤};
 ghost use Rattle.devices.specs.Views.{output_view, source_view};
 ghost use Rattle.work_terms.specs.Refusals.{Answers};
 ghost use Rattle.sound_terms.specs.Render.{ReadsBack, rendering_of};
 ghost use Rattle.list_terms.specs.Accepted.{range_of};
 ghost use Rattle.markfile.specs.Started.{NoneStarted};
 ghost use Rattle.rendering.specs.Marked.{run_of};
-ghost use Rattle.rendering.specs.Rendering.{HaveChannels, render_fault, values_of};
+ghost use Rattle.rendering.specs.Rendering.{render_fault, values_of};
 ghost use Rattle.consolidate.specs.Fault.{refusal_of};
 ghost use Rattle.consolidate.specs.Marks.{list_marking};
-ghost use Rattle.consolidate.specs.Own.{IsOfRenderSchedule};
+ghost use Rattle.consolidate.specs.Own.{FailsAtSchedule};
 ghost use Rattle.consolidate.specs.RenderOutcome.{RendersBound};
 ghost use Rattle.consolidate.specs.RenderWorks.{DoesWork, IsAllDone};
 ghost use Rattle.consolidate.specs.Schedules.{IsRenderSchedule};
@@ -35,7 +35,6 @@ fn schedule_checked<S: Shelf, B: Bench>(
     shelf: &mut S,
     bench: &mut B,
 ) -> Result<Progress, Fault>
-    requires { HaveChannels choice.now.options }
     ensures does { DoesWork S.Shelf B.Bench IsAllDone (λ reported progress. reported ≡ progress)
         (list_marking list.now (values_of choice.now.options) (S.stored shelf.old) checked.now.project checked.now.bound)
         (run_of list.now (range_of checked.now.project (values_of choice.now.options))) ⊤ (NoneStarted (B.may_leave bench.old))
@@ -46,7 +45,7 @@ fn schedule_checked<S: Shelf, B: Bench>(
         → ReadsBack (range_of checked.now.project (values_of choice.now.options)) mix
         (rendering_of (range_of checked.now.project (values_of choice.now.options)) mix)) }
     ensures refusals { Answers refusal_of result (render_fault checked.now.project (values_of choice.now.options)) }
-    ensures own { (text : List ℕ) → IfErr result (IsOfRenderSchedule text) }
+    ensures own { FailsAtSchedule result }
 {
     let work = match RenderingWork::plan(alloc, checked, &choice.options, list, choice.jobs) {
         Ok(work) => work,
@@ -75,7 +74,6 @@ pub fn schedule_render<S: Shelf, B: Bench>(
     shelf: &mut S,
     bench: &mut B,
 ) -> Result<Progress, Fault>
-    requires { HaveChannels choice.now.options }
     ensures { IsRenderSchedule S.Shelf B.Bench choice.now.jobs list.now
         (values_of choice.now.options) events.now shelf.old shelf.new bench.old bench.new result }
 {

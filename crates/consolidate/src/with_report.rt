@@ -2,7 +2,7 @@
 ghost use Rattle.std.specs.Prelude.{◌≡◌};
 ghost use Rattle.list_terms.specs.Steps.{ok_map};
 ghost use Rattle.renderreport.specs.Report.{facts_of};
-ghost use Rattle.rendering.specs.Rendering.{HaveChannels, values_of};
+ghost use Rattle.rendering.specs.Rendering.{values_of};
 ghost use Rattle.consolidate.specs.SoundReports.{IsReportedRendering, IsReportedResuming, WritesReport, asked_of, rendered_facts, resumed_facts};
 
 use crate::choice::{RenderChoice, RenderReport};
@@ -88,7 +88,6 @@ pub fn render_reported<'a, S: Shelf, B: Bench, W: Watch>(
     bench: &mut B,
     watch: &mut W,
 ) -> Result<RenderedSound, Fault>
-    requires { HaveChannels choice.now.options }
     ensures { IsReportedRendering S.Shelf B.Bench (asked_of report.entry) choice.now.jobs list.now
         (values_of choice.now.options) shelf.old shelf.new bench.old bench.new (ok_map (λ made. made.rendered) result) }
 {
@@ -112,7 +111,6 @@ pub fn resume_reported<'a, S: Shelf, B: Bench, W: Watch>(
     bench: &mut B,
     watch: &mut W,
 ) -> Result<ResumedSound, Fault>
-    requires { HaveChannels choice.now.options }
     ensures { IsReportedResuming S.Shelf B.Bench (asked_of report.entry) choice.now.jobs list.now
         (values_of choice.now.options) shelf.old shelf.new bench.old bench.new (ok_map (λ made. made.resumed) result) }
 {

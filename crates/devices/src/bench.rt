@@ -1,6 +1,7 @@
 // Outputs: files that are written, and what a crash may leave of them.
 ghost use Rattle.std.specs.Prelude.{◌≡◌, ◌≢◌, ◌≤◌, ℕ, Bool, Some, None, List, length, replicate, IsTrue, IfOk, OnOk, OnErr, IsSome, IsErrOf, ⊤};
 ghost use Rattle.work_terms.specs.Disk.{Files, IsRange, IsEmptyOrAbsent, end_of, Changes, IsCreated, MayBeCreated, IsPending, IsWritten, IsTorn, IsAppended, IsGrown, IsTornBehind, Follows, IsDurable, Elapses, HasAppended, ReadsTo, WritesTo};
+ghost use Rattle.devices.specs.Fault.{IsThere};
 
 use crate::{DeviceFault, ShelfFault};
 
@@ -97,7 +98,7 @@ pub trait Bench {
     /// device, and so is a file that isn't there. After a fault the buffer holds any bytes.
     fn read_at(&mut self, name: &str, at: u64, buffer: &mut [u8]) -> Result<(), ShelfFault>
         ensures read { IsTrue (honest self.old) → OnOk result (IsRange (stored self.old name.now) at buffer.new) }
-        ensures not_missing { IsErrOf result ShelfFault.NotFound → ⊥ }
+        ensures not_missing { IsThere result }
         ensures crash { (c : Files) → may_leave self.new c → may_leave self.old c }
         ensures time { Elapses (moment self.old) (moment self.new) (left_since self.old) (left_since self.new)
             (may_leave self.new) }

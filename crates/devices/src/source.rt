@@ -1,6 +1,7 @@
 // Sources: files that are read at any place.
 ghost use Rattle.std.specs.Prelude.{◌≡◌, ℕ, Bool, Some, None, List, length, IsTrue, IfOk, OnOk, IsErrOf};
 ghost use Rattle.work_terms.specs.Disk.{Files, IsRange, ReadsTo};
+ghost use Rattle.devices.specs.Fault.{IsThere};
 
 use crate::ShelfFault;
 
@@ -31,7 +32,7 @@ pub trait Shelf {
     /// device, and so is a file that isn't there. After a fault the buffer holds any bytes.
     fn read_at(&mut self, name: &str, at: u64, buffer: &mut [u8]) -> Result<(), ShelfFault>
         ensures read { IsTrue (honest self.old) → OnOk result (IsRange (stored self.old name.now) at buffer.new) }
-        ensures not_missing { IsErrOf result ShelfFault.NotFound → ⊥ }
+        ensures not_missing { IsThere result }
         ensures only_reads { ReadsTo stored honest failures failed_at self.old self.new result
             (λ fault. fault ≡ ShelfFault.Device) (λ _ failed. failed name.now) };
 }

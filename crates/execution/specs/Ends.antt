@@ -1,5 +1,5 @@
 -- How a run of jobs ends, by what a call answers.
-use Rattle.std.specs.Prelude.{◌≢◌, ◌<◌, ⊤, ℕ, Option, None, Some, Result, Ok, Err, List, [], ◌∷◌, length, slice_index_or}
+use Rattle.std.specs.Prelude.{◌≡◌, ◌≢◌, ◌<◌, ⊤, ℕ, Bool, false, Option, None, Some, Result, Ok, Err, IsErrOf, List, [], ◌∷◌, length, slice_index_or}
 use Rattle.job_terms.specs.declared.BoardEvent.{BoardEvent}
 use Rattle.job_terms.specs.declared.BoardEvent.TheVariants as event
 use Rattle.job_terms.specs.Workers.{End, GivenUp, MarkFailed}
@@ -42,6 +42,15 @@ abbrev pub IsMemory : ExecutionFault → Type 0
 IsMemory fault.Memory = ⊤
 IsMemory fault.JobMemory = ⊤
 IsMemory _ = ⊥
+
+-- memory is wanted for events that were given, and for no round
+pub record OnlyInEvents {X : Type 0} (in_rounds : Bool) (result : Result X ExecutionFault) : Type 0 where
+  pub memory : IsErrOf result fault.Memory → in_rounds ≡ false
+  pub job_memory : IsErrOf result fault.JobMemory → in_rounds ≡ false
+
+-- it isn't an output that failed
+abbrev pub FailsNoOutput : {X : Type 0} → Result X ExecutionFault → Type 0
+FailsNoOutput result = (file : ℕ) → IsErrOf result (fault.Output file) → ⊥
 
 -- an event of another worker than the first, who may need a place
 abbrev pub NeedsPlace : BoardEvent → Type 0

@@ -1,5 +1,5 @@
 -- What each worker holds.
-use Rattle.std.specs.Prelude.{◌≡◌, ℕ, ◌==◌, ◌||◌, Bool, cond, is_some, length}
+use Rattle.std.specs.Prelude.{◌≡◌, ◌<◌, ◌+◌, ◌^◌, ℕ, ◌==◌, ◌||◌, Bool, cond, is_some, length}
 use Rattle.std.specs.Ordering.{nat_cmp}
 use Rattle.std.specs.BTreeMap.{get}
 use Rattle.job_terms.specs.Board.{Board}
@@ -24,3 +24,8 @@ pub record IsReady (jobs : JobsBy) (board : Board) (hands : Hands) : Type 0 wher
   pub whole : length board.jobs ≡ jobs.count
   pub fits : (w : ℕ) → FitsHand jobs (hands_in hands w)
   pub room : HasRoom jobs hands.first.room
+
+-- and one more delivery under a stale ticket can be counted
+pub record MayStep (jobs : JobsBy) (board : Board) (hands : Hands) (stale : ℕ) : Type 0 where
+  pub ready : IsReady jobs board hands
+  pub few : stale + 1 < 2 ^ 64

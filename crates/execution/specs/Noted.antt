@@ -1,6 +1,15 @@
 -- What a work notes of its jobs, and that a run loses nothing of it.
 use Rattle.std.specs.Prelude.{◌≡◌, ◌⊎◌, ℕ, Bool, true, ⊤}
+use Rattle.work_terms.specs.Disk.{Files}
 use Rattle.job_terms.specs.Workers.{Hand, Holds, Made, Nothing}
+
+-- a work is still each that it was
+abbrev pub StillIs : {W : Type 0} → (W → W → Type 0) → W → W → Type 0
+StillIs {W = W} remains old new = (first : W) → remains first old → remains first new
+
+-- it still has noted what it had, whatever the sources hold
+abbrev pub StillNoted : {W : Type 0} → (W → Files → ℕ → Type 0) → W → W → Type 0
+StillNoted noted old new = (sources : Files) (k : ℕ) → noted old sources k → noted new sources k
 
 -- a job whose bytes were made is noted
 abbrev pub IsNoted : (ℕ → Type 0) → Hand → Type 0

@@ -1,15 +1,15 @@
 // The course of a work: its outputs laid out, its jobs done, and what comes last.
-ghost use Rattle.std.specs.Prelude.{◌≡◌, IfOk, IsErrOf, IsTrue, OnOk, false, true};
+ghost use Rattle.std.specs.Prelude.{◌≡◌, IfOk, IsTrue, OnOk, true};
 ghost use Rattle.devices.specs.Views.{output_view, source_view};
 ghost use Rattle.job_terms.specs.Board.{is_finished};
 ghost use Rattle.job_terms.specs.Workers.{Nothing};
 ghost use Rattle.execution.specs.Alone.{AtRest};
+ghost use Rattle.execution.specs.Ends.{OnlyInEvents};
 ghost use Rattle.execution.specs.EventRun.{listed, snapshot_of};
 ghost use Rattle.execution.specs.Held.{IsReady, hands_in};
 ghost use Rattle.execution.specs.Marking.{done_of};
 ghost use Rattle.execution.specs.Noted.{KeepsNotes};
 ghost use Rattle.execution.specs.Outcome.{Executed, Resumed};
-ghost use Rattle.execution.specs.declared.fault.ExecutionFault.TheVariants as execution_fault;
 
 use crate::performance::perform;
 use crate::workshop::Workshop;
@@ -40,8 +40,7 @@ pub fn resume<W: JobMaker, S: Shelf, B: Bench, T: Watch>(
         (W.noted shop.old.work (S.stored shelf.old)) (W.noted shop.new.work (S.stored shelf.old))
         (done_of shop.old.board) (done_of shop.new.board) (hands_in shop.old.hands) (hands_in shop.new.hands) }
     ensures ready { IsReady (W.plan shop.new.work).jobs shop.new.board shop.new.hands }
-    ensures memory { IsErrOf result execution_fault.Memory → in_rounds ≡ false }
-    ensures job_memory { IsErrOf result execution_fault.JobMemory → in_rounds ≡ false }
+    ensures memory { OnlyInEvents in_rounds result }
 {
     let progress = match perform(shop, in_rounds, events, shelf, bench, watch) {
         Ok(progress) => progress,
@@ -79,8 +78,7 @@ pub fn execute<W: JobMaker, S: Shelf, B: Bench, T: Watch>(
         (W.noted shop.old.work (S.stored shelf.old)) (W.noted shop.new.work (S.stored shelf.old))
         (done_of shop.old.board) (done_of shop.new.board) (hands_in shop.old.hands) (hands_in shop.new.hands) }
     ensures ready { IsReady (W.plan shop.new.work).jobs shop.new.board shop.new.hands }
-    ensures memory { IsErrOf result execution_fault.Memory → in_rounds ≡ false }
-    ensures job_memory { IsErrOf result execution_fault.JobMemory → in_rounds ≡ false }
+    ensures memory { OnlyInEvents in_rounds result }
 {
     match shop.work.lay_out(bench) {
         Ok(()) => {}

@@ -1,8 +1,8 @@
 // One event.
-ghost use Rattle.std.specs.Prelude.{◌≡◌, ◌≢◌, ◌<◌, ◌≤◌, ◌+◌, ◌^◌, ◌∷◌, [], ℕ, IsErr, IsErrOf, IsOk, IsTrue, None, OnOk, length};
+ghost use Rattle.std.specs.Prelude.{◌≡◌, ◌≢◌, ◌<◌, ◌≤◌, ◌+◌, ◌^◌, ◌∷◌, [], IsErr, IsErrOf, IsOk, IsTrue, None, OnOk, length};
 ghost use Rattle.job_terms.specs.Workers.{jobs_over};
-ghost use Rattle.execution.specs.Ends.{NeedsPlace, NeedsRoom, end_of, ended_of, events_of};
-ghost use Rattle.execution.specs.Held.{IsAtWork, IsReady, hands_in};
+ghost use Rattle.execution.specs.Ends.{FailsNoOutput, NeedsPlace, NeedsRoom, end_of, ended_of, events_of};
+ghost use Rattle.execution.specs.Held.{IsAtWork, IsReady, MayStep, hands_in};
 ghost use Rattle.execution.specs.Marking.{done_of};
 ghost use Rattle.execution.specs.Noted.{KeepsNotes, alone};
 ghost use Rattle.execution.specs.EventRun.{ActionStep, EventRun, WorkerStep, event_of, snapshot_of};
@@ -113,8 +113,7 @@ fn act<W: JobMaker, S: Shelf, B: Bench>(
     shelf: &mut S,
     bench: &mut B,
 ) -> Result<(), ExecutionFault>
-    requires ready { IsReady (W.plan shop.old.work).jobs shop.old.board shop.old.hands }
-    requires few { stale.old + 1 < 2 ^ 64 }
+    requires { MayStep (W.plan shop.old.work).jobs shop.old.board shop.old.hands stale.old }
     ensures ran { EventRun
         (snapshot_of (W.plan shop.old.work) shop.old.board stale.old (source_view S.Shelf shelf.old) (output_view B.Bench bench.old))
         (hands_in shop.old.hands) (events_of result (event_of action number))
@@ -128,7 +127,7 @@ fn act<W: JobMaker, S: Shelf, B: Bench>(
     ensures counted { stale.new ≤ stale.old + 1 }
     ensures memory { IsErrOf result execution_fault.Memory → number ≢ 1 }
     ensures room { IsErrOf result execution_fault.JobMemory → (action ≡ action_kind.Work) × (number ≢ 1) }
-    ensures no_output { (file : ℕ) → IsErrOf result (execution_fault.Output file) → ⊥ }
+    ensures no_output { FailsNoOutput result }
 {
     match shop.hands.make_place(shop.alloc, number) {
         Ok(()) => {}
@@ -167,8 +166,7 @@ pub fn step<W: JobMaker, S: Shelf, B: Bench>(
     shelf: &mut S,
     bench: &mut B,
 ) -> Result<(), ExecutionFault>
-    requires ready { IsReady (W.plan shop.old.work).jobs shop.old.board shop.old.hands }
-    requires few { stale.old + 1 < 2 ^ 64 }
+    requires { MayStep (W.plan shop.old.work).jobs shop.old.board shop.old.hands stale.old }
     ensures ran { EventRun
         (snapshot_of (W.plan shop.old.work) shop.old.board stale.old (source_view S.Shelf shelf.old) (output_view B.Bench bench.old))
         (hands_in shop.old.hands) (events_of result event)
@@ -182,7 +180,7 @@ pub fn step<W: JobMaker, S: Shelf, B: Bench>(
     ensures counted { stale.new ≤ stale.old + 1 }
     ensures memory { IsErrOf result execution_fault.Memory → NeedsPlace event }
     ensures room { IsErrOf result execution_fault.JobMemory → NeedsRoom event }
-    ensures no_output { (file : ℕ) → IsErrOf result (execution_fault.Output file) → ⊥ }
+    ensures no_output { FailsNoOutput result }
 {
     match event {
         BoardEvent::Give(number) => { act(shop, stale, number, Action::Give, shelf, bench) }

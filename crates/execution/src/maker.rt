@@ -5,6 +5,7 @@ ghost use Rattle.devices.specs.Frame.{OnlyReads, OnlyWrites};
 ghost use Rattle.devices.specs.Views.{output_view};
 ghost use Rattle.execution.specs.Maker.{Finishes, LaysOut};
 ghost use Rattle.execution.specs.Marking.{IsRunningBy, Marking, Marks};
+ghost use Rattle.execution.specs.Noted.{StillIs, StillNoted};
 ghost use Rattle.execution.specs.Plan.{IsAt, IsForeign, JobPlan, Stays};
 ghost use Rattle.execution.specs.Worlds.{IsPlaced};
 
@@ -47,7 +48,7 @@ pub trait JobMaker {
         ensures made { IsTrue (S.honest shelf.old)
             → OnOk result (bytes.new ≡ (plan self.old).jobs.bytes (S.stored shelf.old) job) }
         ensures same { plan self.new ≡ plan self.old }
-        ensures remains { (first : Self) → remains first self.old → remains first self.new }
+        ensures remains { StillIs remains self.old self.new }
         ensures notes { IsTrue (S.honest shelf.old) → OnOk result (noted self.new (S.stored shelf.old) job) }
         ensures keeps { IsTrue (S.honest shelf.old) → (k : ℕ) → noted self.old (S.stored shelf.old) k
             → noted self.new (S.stored shelf.old) k }
@@ -60,8 +61,8 @@ pub trait JobMaker {
         ensures placed { IsTrue (B.honest bench.old) → IsPlaced (plan self.old).jobs (plan self.old).marks job bytes.now
             (B.stored bench.old) (B.stored bench.new) result }
         ensures same { plan self.new ≡ plan self.old }
-        ensures remains { (first : Self) → remains first self.old → remains first self.new }
-        ensures keeps { (sources : Files) (k : ℕ) → noted self.old sources k → noted self.new sources k }
+        ensures remains { StillIs remains self.old self.new }
+        ensures keeps { StillNoted noted self.old self.new }
         ensures marks { IsTrue (B.honest bench.old) → (sources : Files) (done : ℕ → Bool)
             → bytes.now ≡ (plan self.old).jobs.bytes sources job → done job ≡ false
             → IsRunningBy ((plan self.old).marking sources) done (B.may_leave bench.old)
@@ -77,8 +78,8 @@ pub trait JobMaker {
     fn lay_out<B: Bench>(&mut self, bench: &mut B) -> Result<(), OutputFault>
         ensures lays_out { LaysOut (plan self.old) (output_view B.Bench bench.old) (output_view B.Bench bench.new) result }
         ensures same { plan self.new ≡ plan self.old }
-        ensures remains { (first : Self) → remains first self.old → remains first self.new }
-        ensures keeps { (sources : Files) (k : ℕ) → noted self.old sources k → noted self.new sources k }
+        ensures remains { StillIs remains self.old self.new }
+        ensures keeps { StillNoted noted self.old self.new }
         ensures only_writes { OnlyWrites B.Bench (Stays (plan self.old)) bench.old bench.new result (λ _. ⊤)
             (λ fault failed. IsAt (plan self.old) fault.file failed) };
 
@@ -87,8 +88,8 @@ pub trait JobMaker {
     fn finish<B: Bench>(&mut self, bench: &mut B) -> Result<(), OutputFault>
         ensures finishes { Finishes (plan self.old) (output_view B.Bench bench.old) (output_view B.Bench bench.new) result }
         ensures same { plan self.new ≡ plan self.old }
-        ensures remains { (first : Self) → remains first self.old → remains first self.new }
-        ensures keeps { (sources : Files) (k : ℕ) → noted self.old sources k → noted self.new sources k }
+        ensures remains { StillIs remains self.old self.new }
+        ensures keeps { StillNoted noted self.old self.new }
         ensures only_writes { OnlyWrites B.Bench (IsForeign (plan self.old)) bench.old bench.new result (λ _. ⊤)
             (λ fault failed. IsAt (plan self.old) fault.file failed) };
 }

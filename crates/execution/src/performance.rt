@@ -1,15 +1,14 @@
 // Events, one after the other.
-ghost use Rattle.std.specs.Prelude.{◌≡◌, ◌<◌, ◌*◌, ◌+◌, ℕ, Bool, false, true, cond, IsErrOf, IsTrue, length, slice_index_or};
+ghost use Rattle.std.specs.Prelude.{◌≡◌, ◌<◌, ◌*◌, ◌+◌, ℕ, Bool, true, cond, IsTrue, length, slice_index_or};
 ghost use Rattle.job_terms.specs.declared.BoardEvent.TheVariants as event_kind;
 ghost use Rattle.job_terms.specs.Workers.{rounds};
-ghost use Rattle.execution.specs.Ends.{NeedsPlace, NeedsRoom};
+ghost use Rattle.execution.specs.Ends.{FailsNoOutput, NeedsPlace, NeedsRoom, OnlyInEvents};
 ghost use Rattle.execution.specs.Boards as spec;
 ghost use Rattle.execution.specs.Held.{IsReady, hands_in};
 ghost use Rattle.execution.specs.Marking.{done_of};
 ghost use Rattle.execution.specs.Noted.{KeepsNotes};
 ghost use Rattle.execution.specs.EventRun.{Performed, listed, snapshot_of};
 ghost use Rattle.devices.specs.Views.{output_view, source_view};
-ghost use Rattle.execution.specs.declared.fault.ExecutionFault.TheVariants as execution_fault;
 
 use crate::events::step;
 use crate::hands::Hands;
@@ -146,9 +145,8 @@ pub fn perform<W: JobMaker, S: Shelf, B: Bench, T: Watch>(
         (W.noted shop.old.work (S.stored shelf.old)) (W.noted shop.new.work (S.stored shelf.old))
         (done_of shop.old.board) (done_of shop.new.board) (hands_in shop.old.hands) (hands_in shop.new.hands) }
     ensures ready { IsReady (W.plan shop.new.work).jobs shop.new.board shop.new.hands }
-    ensures memory { IsErrOf result execution_fault.Memory → in_rounds ≡ false }
-    ensures job_memory { IsErrOf result execution_fault.JobMemory → in_rounds ≡ false }
-    ensures no_output { (file : ℕ) → IsErrOf result (execution_fault.Output file) → ⊥ }
+    ensures memory { OnlyInEvents in_rounds result }
+    ensures no_output { FailsNoOutput result }
 {
     let count = shop.work.count();
     let whole = how_many(in_rounds, events, count);

@@ -6,6 +6,7 @@ ghost use Rattle.execution.specs.Marking.{IsRight, IsRunningBy, MarksOn, done_of
 ghost use Rattle.execution.specs.Noted.{KeepsNotes, alone};
 ghost use Rattle.job_terms.specs.Workers.{JobsBy, DeliverStep, FaultStep, GiveStep, Nothing, State, WorkStep, after_fault, jobs_over};
 ghost use Rattle.job_terms.specs.Board.{accepted, is_current};
+ghost use Rattle.execution.specs.Boards.{HasAsMany};
 ghost use Rattle.execution.specs.Ends.{ended_of};
 ghost use Rattle.execution.specs.Plan.{Stays};
 ghost use Rattle.execution.specs.EventRun.{MarkFails};
@@ -27,7 +28,7 @@ use workboard::{Board, BoardFault};
 pub fn hand_out(board: &mut Board, worker: &mut Worker, number: u32)
     ensures fits { (jobs : JobsBy) → length board.old.jobs ≡ jobs.count → FitsHand jobs worker.old.hand → FitsHand
         jobs worker.new.hand }
-    ensures size { length board.new.jobs ≡ length board.old.jobs }
+    ensures size { HasAsMany board.old board.new }
     ensures same_room { worker.new.room ≡ worker.old.room }
     ensures step { (files : Files) (stale shelf bench : ℕ)
         → GiveStep (state_of board.old files stale shelf bench None) worker.old.hand
@@ -50,7 +51,7 @@ fn failed(board: &mut Board, ticket: Ticket) -> Result<(), JobFault>
     ensures turned { ended_of result ≡ None → is_current board.old ticket ≡ true
         → Turned board.old ticket board.new }
     ensures only { IfErr result (λ f. f ≡ fault.GivenUp ticket.job) }
-    ensures size { length board.new.jobs ≡ length board.old.jobs }
+    ensures size { HasAsMany board.old board.new }
 {
     match board.fault(ticket) {
         Err(BoardFault::GivenUp { job }) => Err(JobFault::GivenUp { job }),
@@ -109,7 +110,7 @@ pub fn make<W: JobMaker, S: Shelf>(
     ensures source { Reads (source_view S.Shelf shelf.old) (source_view S.Shelf shelf.new) }
     ensures no_mark { IsErrOf result fault.Mark → ⊥ }
     ensures same_room { worker.new.room ≡ worker.old.room }
-    ensures size { length board.new.jobs ≡ length board.old.jobs }
+    ensures size { HasAsMany board.old board.new }
 {
     let Some(ticket) = worker.ticket else {
         return Ok(());
@@ -134,7 +135,7 @@ pub fn make<W: JobMaker, S: Shelf>(
 fn accept(board: &mut Board, ticket: Ticket)
     requires { is_current board.old ticket ≡ true }
     ensures done { board.new ≡ accepted board.old ticket.job }
-    ensures size { length board.new.jobs ≡ length board.old.jobs }
+    ensures size { HasAsMany board.old board.new }
 {
     let _ = board.deliver(ticket);
 }
@@ -169,7 +170,7 @@ pub fn deliver<W: JobMaker, B: Bench>(
     ensures mark { IsErrOf result fault.Mark → MarkFails (W.plan maker.old) (output_view B.Bench bench.old)
         (output_view B.Bench bench.new) }
     ensures same_room { worker.new.room ≡ worker.old.room }
-    ensures size { length board.new.jobs ≡ length board.old.jobs }
+    ensures size { HasAsMany board.old board.new }
     ensures counted { stale.new ≤ stale.old + 1 }
 {
     let Some(ticket) = worker.ticket else {
@@ -202,7 +203,7 @@ pub fn fail(board: &mut Board, worker: &mut Worker) -> Result<(), JobFault>
         FaultStep (state_of board.old files stale shelf bench None) worker.old.hand
         (state_of board.new files stale shelf bench (ended_of result)) worker.new.hand }
     ensures nothing { worker.new.hand ≡ Nothing }
-    ensures size { length board.new.jobs ≡ length board.old.jobs }
+    ensures size { HasAsMany board.old board.new }
     ensures same_room { worker.new.room ≡ worker.old.room }
     ensures no_mark { IsErrOf result fault.Mark → ⊥ }
 {

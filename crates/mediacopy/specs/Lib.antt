@@ -1,3 +1,4 @@
 pub mod Copied
 pub mod Fault
+pub mod Moment
 pub mod Pieces

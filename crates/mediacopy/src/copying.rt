@@ -7,6 +7,7 @@ ghost use Rattle.list_terms.specs.Renewed.{media_name};
 ghost use Rattle.devices.specs.Frame.{OnlyReads, OnlyWrites};
 ghost use Rattle.mediacopy.specs.Pieces.{IsPieceOf, piece_bytes, piece_length, piece_place, run_at};
 ghost use Rattle.mediacopy.specs.Pieces as spec;
+ghost use Rattle.mediacopy.specs.Moment.{IsLater};
 
 use crate::naming::medium_name;
 use crate::{CopyFault, CopyJob, info_of};
@@ -129,7 +130,7 @@ pub fn place_piece<B: Bench>(
     ensures output { IfErr result (λ fault. fault ≡ CopyFault.Output) }
     ensures only_writes { OnlyWrites B.Bench (λ n. n ≢ media_name (job.run + 1)) bench.old bench.new result (λ _. ⊤)
         (λ _ failed. failed (media_name (job.run + 1))) }
-    ensures later { B.moment bench.old ≤ B.moment bench.new }
+    ensures later { IsLater B.moment bench.old bench.new }
 {
     let sound = source_of(bound, runs, job);
     let offset = place_in_media(sound) + job.from * frame_of(sound);
@@ -169,7 +170,7 @@ pub fn copy_piece<S: Shelf, B: Bench>(
         (λ _ failed. failed (spec.source_of (sounds_of bound.now) runs.now job).name) }
     ensures only_writes { OnlyWrites B.Bench (λ n. n ≢ media_name (job.run + 1)) bench.old bench.new result
         (λ fault. fault ≡ CopyFault.Output) (λ _ failed. failed (media_name (job.run + 1))) }
-    ensures later { B.moment bench.old ≤ B.moment bench.new }
+    ensures later { IsLater B.moment bench.old bench.new }
 {
     fetch_piece(shelf, bound, runs, job, bytes)?;
     place_piece(bench, bound, runs, job, bytes)

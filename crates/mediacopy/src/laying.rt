@@ -4,6 +4,7 @@ ghost use Rattle.sound_terms.specs.Waves.{data_place};
 ghost use Rattle.devices.specs.Frame.{OnlyWrites};
 ghost use Rattle.wavwrite.specs.Info.{Fits};
 ghost use Rattle.mediacopy.specs.Copied.{laid_out};
+ghost use Rattle.mediacopy.specs.Moment.{IsLater};
 
 use crate::CopyFault;
 use devices::{Bench, DeviceFault};
@@ -19,7 +20,7 @@ pub fn lay_out<B: Bench>(bench: &mut B, name: &str, info: &SoundInfo) -> Result<
     ensures output { IfErr result (λ fault. fault ≡ CopyFault.Output) }
     ensures only_writes { OnlyWrites B.Bench (λ n. n ≢ name.now) bench.old bench.new result (λ _. ⊤)
         (λ _ failed. failed name.now) }
-    ensures later { B.moment bench.old ≤ B.moment bench.new }
+    ensures later { IsLater B.moment bench.old bench.new }
 {
     let mut room = [0; LONGEST_HEADER];
     match lay_out_in(bench, name, &info.lent(), &mut room) {
@@ -41,7 +42,7 @@ pub fn lay_out_in<B: Bench>(
     ensures laid { IsTrue (B.honest bench.old) → OnOk result (B.stored bench.new name.now ≡ Some (laid_out info.now)) }
     ensures only_writes { OnlyWrites B.Bench (λ n. n ≢ name.now) bench.old bench.new result (λ _. ⊤)
         (λ _ failed. failed name.now) }
-    ensures later { B.moment bench.old ≤ B.moment bench.new }
+    ensures later { IsLater B.moment bench.old bench.new }
 {
     let head = &mut room[..info.header_length()];
     info.put_header(head);

@@ -1,6 +1,7 @@
 pub mod Alone
 pub mod Ends
 pub mod Fault
+pub mod Keeping
 pub mod Laws
 pub mod Left
 pub mod Looks

@@ -1,7 +1,9 @@
 // Passes, one after the other.
-ghost use Rattle.std.specs.Prelude.{◌≡◌, ℕ, [], IsTrue, IfErr, IfOk, if◌then◌else◌};
-ghost use Rattle.sound_terms.specs.Groups.{SameMix, are_whole, mix_of, reads};
+ghost use Rattle.std.specs.Prelude.{◌≡◌, ℕ, [], false, IsTrue, IfErr, IfOk, if◌then◌else◌};
+ghost use Rattle.std.specs.List.{list_any};
+ghost use Rattle.sound_terms.specs.Groups.{SameMix, mix_of, reads};
 ghost use Rattle.sound_terms.specs.Passes.{in_turn, silences, standard_groups};
+ghost use Rattle.passes.specs.Keeping.{ReadsNoMore, StayWhole};
 ghost use Rattle.passes.specs.Silent.{AsksFor};
 ghost use Rattle.passes.specs.Standard.{AreStandard, reads_sounding};
 ghost use Rattle.passes.specs.declared.fault.PassFault.TheVariants.{Memory};
@@ -19,9 +21,8 @@ pub fn turn(
 ) -> Result<Intervals, PassFault>
     ensures given { IfOk result (λ new. new ≡ gives pass intervals silent.now) }
     ensures keeps_mix { IfOk result (λ new. SameMix intervals silent.now new) }
-    ensures keeps_whole { IfOk result (λ new. IsTrue (are_whole intervals) → IsTrue (are_whole new)) }
-    ensures reads_no_more { (file channel frame : ℕ)
-        → IfOk result (λ new. IsTrue (reads new file channel frame) → IsTrue (reads intervals file channel frame)) }
+    ensures keeps_whole { IfOk result (StayWhole intervals) }
+    ensures reads_no_more { ReadsNoMore intervals result }
     ensures memory { IfErr result (λ fault. fault ≡ Memory) }
 {
     pass.apply(alloc, intervals, silent)
@@ -39,10 +40,10 @@ fn asked<P: Samples>(
     ensures keeps_mix { IsTrue (P.honest samples.old) → (channel time : ℕ)
         → IfOk result (λ new. mix_of (P.reading samples.old) new channel time
         ≡ mix_of (P.reading samples.old) intervals channel time) }
-    ensures keeps_whole { IfOk result (λ new. IsTrue (are_whole intervals) → IsTrue (are_whole new)) }
-    ensures reads_no_more { (file channel frame : ℕ)
-        → IfOk result (λ new. IsTrue (reads new file channel frame) → IsTrue (reads intervals file channel frame)) }
+    ensures keeps_whole { IfOk result (StayWhole intervals) }
+    ensures reads_no_more { ReadsNoMore intervals result }
     ensures looks { AsksFor P.Samples samples.old samples.new result }
+    ensures unasked { looking pass ≡ false → samples.new ≡ samples.old }
 {
     if pass.looks() {
         let silent = silent_of(alloc, &intervals, samples)?;
@@ -72,10 +73,10 @@ pub fn run<P: Samples>(
         → AreStandard (λ pass. looking pass) (λ pass. gives pass) passes.items → (file channel frame : ℕ)
         → IfOk result (λ new. reads new file channel frame
         ≡ reads_sounding (P.reading samples.old) intervals file channel frame) }
-    ensures keeps_whole { IfOk result (λ new. IsTrue (are_whole intervals) → IsTrue (are_whole new)) }
-    ensures reads_no_more { (file channel frame : ℕ)
-        → IfOk result (λ new. IsTrue (reads new file channel frame) → IsTrue (reads intervals file channel frame)) }
+    ensures keeps_whole { IfOk result (StayWhole intervals) }
+    ensures reads_no_more { ReadsNoMore intervals result }
     ensures looks { AsksFor P.Samples samples.old samples.new result }
+    ensures unasked { list_any (λ pass. looking pass) passes.items ≡ false → samples.new ≡ samples.old }
 {
     let mut left = intervals;
     for pass in passes {

@@ -1,7 +1,8 @@
 // Passes over groups.
-ghost use Rattle.std.specs.Prelude.{◌≡◌, ℕ, Bool, List, IsTrue, IfOk, IfErr, OnErr};
+ghost use Rattle.std.specs.Prelude.{◌≡◌, Bool, List, IfOk, IfErr, OnErr};
 ghost use Rattle.sound_terms.specs.declared.piece.Piece.{Piece};
-ghost use Rattle.sound_terms.specs.Groups.{SameMix, are_whole, reads};
+ghost use Rattle.sound_terms.specs.Groups.{SameMix};
+ghost use Rattle.passes.specs.Keeping.{ReadsNoMore, StayWhole};
 ghost use Rattle.passes.specs.declared.fault.PassFault.TheVariants.{Memory};
 
 use crate::PassFault;
@@ -30,9 +31,8 @@ pub trait Pass: Drop {
     ) -> Result<Intervals, PassFault>
         ensures given { IfOk result (λ new. new ≡ gives self.old intervals silent.now) }
         ensures keeps_mix { IfOk result (λ new. SameMix intervals silent.now new) }
-        ensures keeps_whole { IfOk result (λ new. IsTrue (are_whole intervals) → IsTrue (are_whole new)) }
-        ensures reads_no_more { (file channel frame : ℕ)
-            → IfOk result (λ new. IsTrue (reads new file channel frame) → IsTrue (reads intervals file channel frame)) }
+        ensures keeps_whole { IfOk result (StayWhole intervals) }
+        ensures reads_no_more { ReadsNoMore intervals result }
         ensures memory { IfErr result (λ fault. fault ≡ Memory) }
         ensures unchanged { OnErr result (self.new ≡ self.old) };
 }

@@ -1,7 +1,8 @@
 // The samples of files, as passes ask for them.
-ghost use Rattle.std.specs.Prelude.{◌≡◌, ℕ, Bool, IsTrue, IfOk, IsErrOf};
+ghost use Rattle.std.specs.Prelude.{◌≡◌, ℕ, Bool, IsTrue, IfOk};
 ghost use Rattle.sound_terms.specs.Mix.{Reading};
 ghost use Rattle.sound_terms.specs.Passes.{are_zero};
+ghost use Rattle.devices.specs.Fault.{IsThere};
 ghost use Rattle.passes.specs.Looks.{LooksTo};
 
 use devices::ShelfFault;
@@ -32,7 +33,7 @@ pub trait Samples {
     ) -> Result<bool, ShelfFault>
         ensures answer { IsTrue (honest self.old)
             → IfOk result (λ zero. zero ≡ are_zero (reading self.old) file first width from length) }
-        ensures not_missing { IsErrOf result ShelfFault.NotFound → ⊥ }
+        ensures not_missing { IsThere result }
         ensures looks { LooksTo reading honest failures failed_at self.old self.new result
             (λ fault. fault ≡ ShelfFault.Device) (λ _ failed. failed file) };
 }

@@ -1,6 +1,5 @@
 // Hashes media over their sources.
-ghost use Rattle.std.specs.Prelude.{◌≡◌, ◌++◌, ◌+◌, ◌*◌, ◌^◌, ◌<◌, ◌≤◌, ℕ, All, IfOk, IsTrue, List, OnOk, length, ⊤};
-ghost use Rattle.sampletime.specs.TimeCode.{day};
+ghost use Rattle.std.specs.Prelude.{◌≡◌, ◌++◌, ◌+◌, ◌*◌, ◌^◌, ◌<◌, ◌≤◌, ℕ, All, IfOk, IsTrue, List, OnOk, ⊤};
 ghost use Rattle.sha2.specs.Hashers.{Holds256};
 ghost use Rattle.sha2.specs.Sha256.{sha256};
 ghost use Rattle.sound_terms.specs.Media.{IsRunOf, frame_length, frames_in, medium_of};
@@ -10,6 +9,7 @@ ghost use Rattle.devices.specs.Frame.{OnlyReads};
 ghost use Rattle.provenance.specs.Fault.{FailsAt, IsDevice};
 ghost use Rattle.provenance.specs.Media.{IsHashed, IsTellable, media_of, medium_bytes};
 
+use crate::kept::Kept;
 use crate::wholes::source_digest;
 use crate::{Medium, ReportFault};
 use devices::{DeviceFault, Shelf};
@@ -39,11 +39,11 @@ fn hash_frames<S: Shelf>(
     sound: &Sound,
     from: u64,
     count: usize,
-    room: &mut [u8],
+    room: &mut [u8; ROOM],
     hasher: &mut Sha256,
 ) -> Result<(), DeviceFault>
     requires inside { from + count ≤ sound.now.frames }
-    requires room { count * frame_length sound.now ≤ length room.old }
+    requires room { count * frame_length sound.now ≤ 66226 }
     ensures hashed { IsTrue (S.honest shelf.old) → (m : List ℕ) → Holds256 hasher.old m
         → OnOk result (IsHashed sound.now (S.stored shelf.old) from count m hasher.new) }
     ensures only_reads { OnlyReads S.Shelf shelf.old shelf.new result (λ _. ⊤) (λ _ failed. failed sound.now.name) }
@@ -61,17 +61,17 @@ fn hash_frames<S: Shelf>(
 /// Hashes the frames of a run, through `room`.
 fn hash_run<S: Shelf>(
     shelf: &mut S,
-    sound: &Sound,
-    run: &Run,
-    room: &mut [u8],
+    kept: &Kept,
+    room: &mut [u8; ROOM],
     hasher: &mut Sha256,
 ) -> Result<(), DeviceFault>
-    requires inside { run.now.first + run.now.length ≤ sound.now.frames }
-    requires room { length room.old ≡ 66226 }
     ensures hashed { IsTrue (S.honest shelf.old) → (m : List ℕ) → Holds256 hasher.old m
-        → OnOk result (IsHashed sound.now (S.stored shelf.old) run.now.first run.now.length m hasher.new) }
-    ensures only_reads { OnlyReads S.Shelf shelf.old shelf.new result (λ _. ⊤) (λ _ failed. failed sound.now.name) }
+        → OnOk result (IsHashed kept.now.sound.now (S.stored shelf.old) kept.now.run.first kept.now.run.length m
+        hasher.new) }
+    ensures only_reads { OnlyReads S.Shelf shelf.old shelf.new result (λ _. ⊤)
+        (λ _ failed. failed kept.now.sound.now.name) }
 {
+    let (sound, run) = (kept.sound, kept.run);
     let most = (ROOM / frame_of(sound)) as u64;
     let mut done = 0;
     while done < run.length {
@@ -82,30 +82,26 @@ fn hash_run<S: Shelf>(
     Ok(())
 }
 
-/// The SHA-256 of the medium of a run, whose source's first frame stands at `base`: of its header, its frames and a
-/// pad.
+/// The SHA-256 of the medium of a run: of its header, its frames and a pad.
 fn digest_of<S: Shelf>(
     shelf: &mut S,
-    sound: &Sound,
-    base: u64,
-    run: &Run,
-    room: &mut [u8],
+    kept: &Kept,
+    room: &mut [u8; ROOM],
 ) -> Result<[u8; 32], DeviceFault>
-    requires inside { run.now.first + run.now.length ≤ sound.now.frames }
-    requires in_day { (base + run.now.first) + run.now.length ≤ day }
-    requires room { length room.old ≡ 66226 }
-    ensures digest { IsTrue (S.honest shelf.old) → IfOk result (λ digest. digest
-        ≡ sha256 (medium_of sound.now (content (S.stored shelf.old) sound.now.name) base run.now)) }
-    ensures only_reads { OnlyReads S.Shelf shelf.old shelf.new result (λ _. ⊤) (λ _ failed. failed sound.now.name) }
+    ensures digest { let sound = kept.now.sound.now in
+        IsTrue (S.honest shelf.old) → IfOk result (λ digest. digest
+        ≡ sha256 (medium_of sound (content (S.stored shelf.old) sound.name) kept.now.base kept.now.run)) }
+    ensures only_reads { OnlyReads S.Shelf shelf.old shelf.new result (λ _. ⊤)
+        (λ _ failed. failed kept.now.sound.now.name) }
 {
     // Its length is known to be told by 64 bits from here on.
-    reads_back(sound, base, run);
-    let info = info_of(sound, base, run);
+    reads_back(kept.sound, kept.base, &kept.run);
+    let info = info_of(kept.sound, kept.base, &kept.run);
     let head = &mut room[..info.header_length()];
     info.put_header(head);
     let mut hasher = Sha256::new();
     hasher.update(&*head);
-    hash_run(shelf, sound, run, room, &mut hasher)?;
+    hash_run(shelf, kept, room, &mut hasher)?;
     let pad = &[0][..(info.data_length() % 2) as usize];
     hasher.update(pad);
     Ok(hasher.finalize())
@@ -119,11 +115,10 @@ fn hashed_medium<S: Shelf>(
     number: u32,
     run: &Run,
     source: Option<[u8; 32]>,
-    room: &mut [u8],
+    room: &mut [u8; ROOM],
 ) -> Result<Medium, ReportFault>
     requires of_file { IsRunOf sounds.now run.now }
     requires in_day { EndsInDay homes.now run.now }
-    requires room { length room.old ≡ 66226 }
     ensures medium { IsTrue (S.honest shelf.old) → IfOk result (λ medium. medium
         ≡ record {
           number = number;
@@ -134,8 +129,12 @@ fn hashed_medium<S: Shelf>(
     ensures tellable { IfOk result (IsTellable sounds.now homes.now) }
     ensures only_reads { OnlyReads S.Shelf shelf.old shelf.new result IsDevice (FailsAt sounds.now) }
 {
-    let sound = &sounds[run.file as usize];
-    match digest_of(shelf, sound, homes.base(run.file), run, room) {
+    let kept = Kept {
+        sound: &sounds[run.file as usize],
+        base: homes.base(run.file),
+        run: *run,
+    };
+    match digest_of(shelf, &kept, room) {
         Ok(digest) => Ok(Medium {
             number,
             run: *run,

@@ -6,6 +6,7 @@ mod asked;
 mod entries;
 mod fault;
 mod hashing;
+mod kept;
 mod lines;
 mod media;
 mod medium;

@@ -40,10 +40,10 @@ fn hash_bytes<S: Shelf>(
     name: &str,
     at: u64,
     count: usize,
-    room: &mut [u8],
+    room: &mut [u8; ROOM],
     hasher: &mut Sha256,
 ) -> Result<(), DeviceFault>
-    requires room { count ≤ length room.old }
+    requires { count ≤ 66226 }
     ensures hashed { let bytes = content (S.stored shelf.old) name.now in IsTrue (S.honest shelf.old)
         → Holds256 hasher.old (take at bytes) → OnOk result (Holds256 hasher.new (take (at + count) bytes)) }
     ensures only_reads { OnlyReads S.Shelf shelf.old shelf.new result (λ _. ⊤) (λ _ failed. failed name.now) }
@@ -62,9 +62,8 @@ fn hash_bytes<S: Shelf>(
 fn file_digest<S: Shelf>(
     shelf: &mut S,
     name: &str,
-    room: &mut [u8],
+    room: &mut [u8; ROOM],
 ) -> Result<[u8; 32], DeviceFault>
-    requires room { length room.old ≡ 66226 }
     ensures digest { IsTrue (S.honest shelf.old)
         → IfOk result (λ digest. digest ≡ sha256 (content (S.stored shelf.old) name.now)) }
     ensures only_reads { OnlyReads S.Shelf shelf.old shelf.new result (λ _. ⊤) (λ _ failed. failed name.now) }
@@ -88,10 +87,9 @@ pub fn source_digest<S: Shelf>(
     run: &Run,
     before: Option<&Medium>,
     digests: bool,
-    room: &mut [u8],
+    room: &mut [u8; ROOM],
 ) -> Result<Option<[u8; 32]>, ReportFault>
-    requires of_file { IsRunOf sounds.now run.now }
-    requires room { length room.old ≡ 66226 }
+    requires { IsRunOf sounds.now run.now }
     ensures digest { IsTrue (S.honest shelf.old)
         → ((m : medium.Medium) → option_copied before.entry ≡ Some m
         → HasSource digests (S.stored shelf.old) sounds.now m)

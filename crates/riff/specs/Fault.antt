@@ -1,5 +1,6 @@
 -- The numbers of what is wrong with a sound file.
-use Rattle.std.specs.Prelude.{ℕ, Result, Ok, Err}
+use Rattle.std.specs.Prelude.{◌≡◌, ℕ, true, Result, Ok, Err}
+use Rattle.work_terms.specs.Refusals.{is_excused}
 use Rattle.devices.specs.declared.fault.ShelfFault.{ShelfFault}
 use Rattle.devices.specs.declared.fault.ShelfFault.TheVariants as shelf
 use Rattle.sound_terms.specs.declared.SoundFault.{SoundFault}
@@ -19,6 +20,10 @@ number_of BadFormat = 27
 number_of BadDs64 = 28
 number_of WrongRate = 29
 number_of Memory = 31
+
+-- no fault of the file: its device failed, or no memory was left
+abbrev pub IsExcused : MediaFault → Type 0
+IsExcused fault = is_excused (number_of fault) ≡ true
 
 -- the fault of a file whose shelf failed so
 abbrev pub fault_of : ShelfFault → MediaFault

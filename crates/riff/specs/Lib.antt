@@ -1,3 +1,4 @@
+pub mod Channels
 pub mod Fault
 pub mod Form
 pub mod Found

@@ -1,5 +1,5 @@
 // The entries of the table of `ds64` (EBU Tech 3306).
-ghost use Rattle.std.specs.Prelude.{◌≡◌, ◌≤◌, length, take};
+ghost use Rattle.std.specs.Prelude.{◌≡◌, ◌≤◌, ◌*◌, length, take};
 ghost use Rattle.byteorder.specs.Endian.{little_number};
 ghost use Rattle.sound_terms.specs.Chunks.{number_at};
 ghost use Rattle.riff.specs.Ids.{IsId};
@@ -20,6 +20,14 @@ pub const BLOCK: u32 = 341;
 pub struct Entry {
     pub id: [u8; 4],
     pub size: u64,
+}
+
+/// Entries of the table, one after the other.
+#[derive(Clone, Copy)]
+pub struct Entries<'a> {
+    pub bytes: &'a [u8],
+    pub count: usize,
+    ghost whole: { length bytes.now ≡ 12 * count },
 }
 
 impl Entry {

@@ -1,6 +1,7 @@
 // The head of a sound file: RIFF, or RF64 with the chunk `ds64` (EBU Tech 3306).
 ghost use Rattle.std.specs.Prelude.{◌≡◌, ◌≤◌, ◌+◌, ◌*◌, ◌↔◌, ℕ, List, Some, true, false, codes, length, IsTrue, IfOk, IsErrOf};
 ghost use Rattle.sound_terms.specs.Walks.{is_riff, is_rf64};
+ghost use Rattle.devices.specs.Fault.{IsThere};
 ghost use Rattle.devices.specs.Frame.{OnlyReads};
 ghost use Rattle.riff.specs.Found.{HasHead, heads_of};
 ghost use Rattle.riff.specs.Form.{OpensAs};
@@ -54,7 +55,7 @@ fn is_rf64(form: &[u8; 12]) -> bool
 fn head_at<S: Shelf>(shelf: &mut S, name: &str, at: u64) -> Result<Head, ShelfFault>
     ensures head { IsTrue (S.honest shelf.old) → (file : List ℕ) → S.stored shelf.old name.now ≡ Some file
         → IfOk result (HasHead file at) }
-    ensures not_missing { IsErrOf result ShelfFault.NotFound → ⊥ }
+    ensures not_missing { IsThere result }
     ensures only_reads { OnlyReads S.Shelf shelf.old shelf.new result (λ fault. fault ≡ ShelfFault.Device)
         (λ _ failed. failed name.now) }
 {

@@ -1,13 +1,12 @@
 // An index of the table of `ds64` (EBU Tech 3306).
-ghost use Rattle.std.specs.Prelude.{◌≡◌, ◌+◌, ◌*◌, ℕ, List, Some, IsTrue, IfOk, IfErr, OnOk, length, true};
-ghost use Rattle.work_terms.specs.Refusals.{is_excused};
+ghost use Rattle.std.specs.Prelude.{◌≡◌, ◌+◌, ◌*◌, ℕ, List, Some, IsTrue, IfOk, IfErr, OnOk};
 ghost use Rattle.devices.specs.Frame.{OnlyReads};
-ghost use Rattle.riff.specs.Fault.{number_of};
+ghost use Rattle.riff.specs.Fault.{IsExcused};
 ghost use Rattle.riff.specs.Found.{IsAhead};
 ghost use Rattle.riff.specs.Sizes.{HasEntry, IsIndexed, entries_of};
 
 use crate::MediaFault;
-use crate::entry::{BLOCK, ENTRY_LENGTH, Entry, TABLE, key_of};
+use crate::entry::{BLOCK, ENTRY_LENGTH, Entries, Entry, TABLE, key_of};
 use devices::Shelf;
 use sound_terms::Ds64;
 use std::alloc::{AllocError, Global};
@@ -28,14 +27,13 @@ fn add_entry(index: &mut Index, entry: &Entry) -> Result<(), AllocError>
     Ok(())
 }
 
-/// Takes in the entries in these bytes, behind those that were taken in.
-fn add_entries(index: &mut Index, bytes: &[u8], count: usize) -> Result<(), AllocError>
-    requires { length bytes.now ≡ 12 * count }
-    ensures { (file : List ℕ) (n : ℕ) → IsAhead file (48 + 12 * n) bytes.now → IsIndexed file n index.old
-        → OnOk result (IsIndexed file (n + count) index.new) }
+/// Takes in entries, behind those that were taken in.
+fn add_entries(index: &mut Index, entries: &Entries) -> Result<(), AllocError>
+    ensures { (file : List ℕ) (n : ℕ) → IsAhead file (48 + 12 * n) entries.now.bytes.now → IsIndexed file n index.old
+        → OnOk result (IsIndexed file (n + entries.now.count) index.new) }
 {
-    for i in 0..count {
-        let entry = Entry::of(&bytes[ENTRY_LENGTH * i..]);
+    for i in 0..entries.count {
+        let entry = Entry::of(&entries.bytes[ENTRY_LENGTH * i..]);
         add_entry(index, &entry)?;
     }
     Ok(())
@@ -60,7 +58,7 @@ pub fn index_of<S: Shelf>(
 ) -> Result<Index, MediaFault>
     ensures indexed { IsTrue (S.honest shelf.old) → (file : List ℕ) → S.stored shelf.old name.now ≡ Some file
         → IfOk result (IsIndexed file (entries_of sizes.now)) }
-    ensures excused { IfErr result (λ fault. is_excused (number_of fault) ≡ true) }
+    ensures excused { IfErr result IsExcused }
     ensures only_reads { OnlyReads S.Shelf shelf.old shelf.new result (λ fault. fault ≡ MediaFault.Device)
         (λ _ failed. failed name.now) }
 {
@@ -72,18 +70,21 @@ pub fn index_of<S: Shelf>(
         let count = BLOCK.min(entries - done);
         let bytes = &mut block[..count as usize * ENTRY_LENGTH];
         shelf.read_at(name, TABLE + ENTRY_LENGTH as u64 * u64::from(done), bytes)?;
-        add_block(&mut index, bytes, count as usize)?;
+        let block_entries = Entries {
+            bytes,
+            count: count as usize,
+        };
+        add_block(&mut index, &block_entries)?;
         done += count;
     }
     Ok(index)
 }
 
 /// Takes in the entries of a block; `Memory` where no memory was left.
-fn add_block(index: &mut Index, bytes: &[u8], count: usize) -> Result<(), MediaFault>
-    requires { length bytes.now ≡ 12 * count }
-    ensures added { (file : List ℕ) (n : ℕ) → IsAhead file (48 + 12 * n) bytes.now → IsIndexed file n index.old
-        → OnOk result (IsIndexed file (n + count) index.new) }
+fn add_block(index: &mut Index, block: &Entries) -> Result<(), MediaFault>
+    ensures added { (file : List ℕ) (n : ℕ) → IsAhead file (48 + 12 * n) block.now.bytes.now → IsIndexed file n index.old
+        → OnOk result (IsIndexed file (n + block.now.count) index.new) }
     ensures memory { IfErr result (λ fault. fault ≡ MediaFault.Memory) }
 {
-    add_entries(index, bytes, count).map_err(|_| MediaFault::Memory)
+    add_entries(index, block).map_err(|_| MediaFault::Memory)
 }

@@ -2,6 +2,7 @@
 ghost use Rattle.std.specs.Prelude.{◌≡◌, ◌≤◌, ◌+◌, length, IfOk};
 ghost use Rattle.sound_terms.specs.Chunks.{number_at, stands_at};
 ghost use Rattle.sound_terms.specs.Formats.{depth_of, is_pcm, format_of};
+ghost use Rattle.riff.specs.Channels.{HasFewChannels};
 ghost use Rattle.riff.specs.Fault.{as_media};
 
 use crate::MediaFault;
@@ -82,14 +83,14 @@ fn depth_of(bits: u16) -> Option<Depth>
 /// bytes; bytes behind these aren't looked at.
 pub fn read_fmt(bytes: &[u8]) -> Result<Format, MediaFault>
     ensures exact { result ≡ as_media (format_of bytes.now) }
-    ensures channels { IfOk result (λ format. (1 ≤ format.channels) × (format.channels ≤ 64)) }
+    ensures channels { IfOk result HasFewChannels }
 {
     Ok(format_in(bytes)?)
 }
 
 fn format_in(bytes: &[u8]) -> Result<Format, SoundFault>
     ensures exact { result ≡ format_of bytes.now }
-    ensures channels { IfOk result (λ format. (1 ≤ format.channels) × (format.channels ≤ 64)) }
+    ensures channels { IfOk result HasFewChannels }
 {
     if bytes.len() < 16 || !is_pcm(bytes) {
         return Err(SoundFault::BadFormat);

@@ -1,12 +1,13 @@
 // The sizes of chunks: as they stand, or as `ds64` tells them (EBU Tech 3306).
-ghost use Rattle.std.specs.Prelude.{◌≡◌, ◌+◌, ◌*◌, ℕ, List, Some, IsTrue, IfOk, IfSome, IsErrOf, length};
+ghost use Rattle.std.specs.Prelude.{◌≡◌, ◌+◌, ◌*◌, ℕ, List, Some, IsTrue, IfOk, IfSome, IsErrOf};
 ghost use Rattle.std.specs.Option.{option_or};
+ghost use Rattle.devices.specs.Fault.{IsThere};
 ghost use Rattle.devices.specs.Frame.{OnlyReads};
 ghost use Rattle.riff.specs.Found.{IsAhead};
 ghost use Rattle.riff.specs.Sizes.{HasSize, HasEntrySize, IsIndexed, IsIndexOf, TellsSize, entry_from, entry_size};
 
 use crate::MediaFault;
-use crate::entry::{BLOCK, ENTRY_LENGTH, Entry, TABLE, key_of};
+use crate::entry::{BLOCK, ENTRY_LENGTH, Entries, Entry, TABLE, key_of};
 use crate::head::Head;
 use crate::index::Index;
 use devices::{Shelf, ShelfFault};
@@ -53,14 +54,14 @@ fn size_in(entries: u32, index: &Option<Index>, id: &[u8; 4]) -> Size
     }
 }
 
-/// The size in the first entry of an id, of so many entries in these bytes.
-fn size_among(bytes: &[u8], count: usize, id: [u8; 4]) -> Option<u64>
-    requires { length bytes.now ≡ 12 * count }
-    ensures { (file : List ℕ) (at rest : ℕ) → IsAhead file at bytes.now
-        → entry_from file at (count + rest) id ≡ option_or result (entry_from file (at + 12 * count) rest id) }
+/// The size in the first entry of an id, of some entries.
+fn size_among(entries: &Entries, id: [u8; 4]) -> Option<u64>
+    ensures { (file : List ℕ) (at rest : ℕ) → IsAhead file at entries.now.bytes.now
+        → entry_from file at (entries.now.count + rest) id
+        ≡ option_or result (entry_from file (at + 12 * entries.now.count) rest id) }
 {
-    for i in 0..count {
-        let entry = Entry::of(&bytes[ENTRY_LENGTH * i..]);
+    for i in 0..entries.count {
+        let entry = Entry::of(&entries.bytes[ENTRY_LENGTH * i..]);
         if entry.id == id {
             return Some(entry.size);
         }
@@ -77,7 +78,7 @@ fn entry_of<S: Shelf>(
 ) -> Result<Option<u64>, ShelfFault>
     ensures found { IsTrue (S.honest shelf.old) → (file : List ℕ) → S.stored shelf.old name.now ≡ Some file
         → IfOk result (λ size. size ≡ entry_size file entries id) }
-    ensures not_missing { IsErrOf result ShelfFault.NotFound → ⊥ }
+    ensures not_missing { IsThere result }
     ensures only_reads { OnlyReads S.Shelf shelf.old shelf.new result (λ fault. fault ≡ ShelfFault.Device)
         (λ _ failed. failed name.now) }
 {
@@ -87,7 +88,11 @@ fn entry_of<S: Shelf>(
         let count = BLOCK.min(entries - done);
         let bytes = &mut block[..count as usize * ENTRY_LENGTH];
         shelf.read_at(name, TABLE + ENTRY_LENGTH as u64 * u64::from(done), bytes)?;
-        if let Some(size) = size_among(bytes, count as usize, id) {
+        let block_entries = Entries {
+            bytes,
+            count: count as usize,
+        };
+        if let Some(size) = size_among(&block_entries, id) {
             return Ok(Some(size));
         }
         done += count;

@@ -1,5 +1,5 @@
 -- Files by name in memory.
-use Rattle.std.specs.Prelude.{◌≡◌, ◌⊎◌, ℕ, ◌+◌, ◌<◌, Option, Some, None, List, option_map}
+use Rattle.std.specs.Prelude.{◌≡◌, ◌⊎◌, ℕ, ◌+◌, ◌<◌, Option, Some, None, List, Result, OnErr, option_map}
 use Rattle.std.specs.BTreeMap.{get_by_text}
 use Rattle.work_terms.specs.Disk.{Files, end_of}
 use Rattle.shelf.specs.declared.memory.files.NamedFiles.{NamedFiles}
@@ -7,6 +7,10 @@ use Rattle.shelf.specs.declared.memory.files.NamedFiles.{NamedFiles}
 -- the bytes of each file
 abbrev pub files_of : NamedFiles → Files
 files_of named name = option_map (λ bytes. bytes.items) (get_by_text named.files name)
+
+-- where a call fails, they are as they were
+abbrev pub KeepsFiles : {X E : Type 0} → NamedFiles → NamedFiles → Result X E → Type 0
+KeepsFiles old new result = OnErr result ((n : List ℕ) → files_of new n ≡ files_of old n)
 
 -- the file has these bytes now
 abbrev pub IsPut : List ℕ → Option (List ℕ) → Option (List ℕ) → Type 0

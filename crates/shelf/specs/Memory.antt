@@ -1,6 +1,6 @@
 -- Stores in memory as their callers see them.
-use Rattle.std.specs.Prelude.{ℕ, ◌-◌, Bool, ◌&&◌, ◌==◌, nat_lt, if◌then◌else◌}
-use Rattle.work_terms.specs.Disk.{Files}
+use Rattle.std.specs.Prelude.{ℕ, ◌-◌, Bool, ◌&&◌, ◌==◌, nat_lt, if◌then◌else◌, Result, IsOk, IsErr}
+use Rattle.work_terms.specs.Disk.{Files, HasCause}
 use Rattle.shelf.specs.declared.memory.device.Device.{Device}
 use Rattle.shelf.specs.declared.memory.sources.MemoryShelf.{MemoryShelf}
 use Rattle.shelf.specs.declared.memory.bench.MemoryBench.{MemoryBench}
@@ -42,6 +42,10 @@ bench_files bench = read_of (bench_history bench)
 -- how often a bench has failed
 abbrev pub bench_failures : MemoryBench → ℕ
 bench_failures bench = bench.device.failures
+
+-- what a call leaves of them: one more where it fails
+abbrev pub CountsFault : {X E : Type 0} → MemoryBench → MemoryBench → Result X E → Type 0
+CountsFault old new result = HasCause (bench_failures old) (bench_failures new) (IsOk result) (IsErr result)
 
 -- which calls of a bench fail
 abbrev pub bench_stretch : MemoryBench → ℕ × ℕ

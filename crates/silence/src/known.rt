@@ -1,7 +1,8 @@
 // What is known of the silence of a file.
-ghost use Rattle.std.specs.Prelude.{◌≡◌, ◌*◌, ◌≤◌, is_some, length, slice_get, unwrap_or, List, IsErrOf, IfOk, IsTrue, Some};
+ghost use Rattle.std.specs.Prelude.{◌≡◌, ◌*◌, ◌≤◌, is_some, length, slice_get, unwrap_or, List, IfOk, IsTrue, Some};
 ghost use Rattle.sound_terms.specs.Mix.{Reading};
 ghost use Rattle.sound_terms.specs.Sounds.{SoundFacts, reading_by};
+ghost use Rattle.devices.specs.Fault.{IsThere};
 ghost use Rattle.devices.specs.Frame.{OnlyReads};
 ghost use Rattle.silence.specs.Known.{IsSo, Reaches, Tells};
 ghost use Rattle.silence.specs.Zero.{LiesIn};
@@ -97,7 +98,7 @@ pub fn looked_at<S: Shelf, W: Watch>(
         → IsSo (reading_by (S.stored shelf.old) sounds) known
         → IfOk result (IsSo (reading_by (S.stored shelf.old) sounds)) }
     ensures tells { IsTrue (S.honest shelf.old) → IfOk result (λ new. Tells new known.file part.now) }
-    ensures not_missing { IsErrOf result ShelfFault.NotFound → ⊥ }
+    ensures not_missing { IsThere result }
     ensures only_reads { OnlyReads S.Shelf shelf.old shelf.new result (λ fault. fault ≡ ShelfFault.Device)
         (λ _ failed. failed sound.now.name) }
 {

@@ -1,8 +1,10 @@
 // Passes over opened sound files, one after the other.
-ghost use Rattle.std.specs.Prelude.{◌≡◌, ℕ, [], IfOk, IsTrue, if◌then◌else◌};
-ghost use Rattle.sound_terms.specs.Groups.{are_whole, mix_of, reads};
+ghost use Rattle.std.specs.Prelude.{◌≡◌, ℕ, [], false, IfOk, IsTrue, if◌then◌else◌};
+ghost use Rattle.std.specs.List.{list_any};
+ghost use Rattle.sound_terms.specs.Groups.{mix_of, reads};
 ghost use Rattle.sound_terms.specs.Passes.{in_turn, silences, standard_groups};
 ghost use Rattle.sound_terms.specs.Sounds.{reading_by};
+ghost use Rattle.passes.specs.Keeping.{ReadsNoMore, StayWhole};
 ghost use Rattle.passes.specs.Silent.{IsDevice};
 ghost use Rattle.passes.specs.Standard.{AreStandard, reads_sounding};
 ghost use Rattle.devices.specs.Frame.{OnlyReads};
@@ -29,10 +31,10 @@ fn asked<S: Shelf, W: Watch>(
     ensures keeps_mix { IsTrue (S.honest shelf.old) → (channel time : ℕ)
         → IfOk result (λ new. mix_of (reading_by (S.stored shelf.old) sounds.now) new channel time
         ≡ mix_of (reading_by (S.stored shelf.old) sounds.now) intervals channel time) }
-    ensures keeps_whole { IfOk result (λ new. IsTrue (are_whole intervals) → IsTrue (are_whole new)) }
-    ensures reads_no_more { (file channel frame : ℕ)
-        → IfOk result (λ new. IsTrue (reads new file channel frame) → IsTrue (reads intervals file channel frame)) }
+    ensures keeps_whole { IfOk result (StayWhole intervals) }
+    ensures reads_no_more { ReadsNoMore intervals result }
     ensures only_reads { OnlyReads S.Shelf shelf.old shelf.new result IsDevice (FailsAt sounds.now) }
+    ensures unasked { looking pass ≡ false → shelf.new ≡ shelf.old }
 {
     if pass.looks() {
         let silent = silent_of(alloc, &intervals, sounds, shelf, watch)?;
@@ -66,10 +68,10 @@ pub fn run<S: Shelf, W: Watch>(
     ensures keeps_mix { IsTrue (S.honest shelf.old) → (channel time : ℕ)
         → IfOk result (λ new. mix_of (reading_by (S.stored shelf.old) sounds.now) new channel time
         ≡ mix_of (reading_by (S.stored shelf.old) sounds.now) intervals channel time) }
-    ensures keeps_whole { IfOk result (λ new. IsTrue (are_whole intervals) → IsTrue (are_whole new)) }
-    ensures reads_no_more { (file channel frame : ℕ)
-        → IfOk result (λ new. IsTrue (reads new file channel frame) → IsTrue (reads intervals file channel frame)) }
+    ensures keeps_whole { IfOk result (StayWhole intervals) }
+    ensures reads_no_more { ReadsNoMore intervals result }
     ensures only_reads { OnlyReads S.Shelf shelf.old shelf.new result IsDevice (FailsAt sounds.now) }
+    ensures unasked { list_any (λ pass. looking pass) passes.items ≡ false → shelf.new ≡ shelf.old }
 {
     let mut left = intervals;
     for pass in passes {

@@ -1,5 +1,6 @@
 // The first frame of a part of a sound file that isn't zero, block by block.
-ghost use Rattle.std.specs.Prelude.{◌≡◌, ◌+◌, ◌-◌, ◌*◌, ◌/◌, ◌≤◌, length, IsErrOf, IfOk, IsTrue};
+ghost use Rattle.std.specs.Prelude.{◌≡◌, ◌+◌, ◌-◌, ◌*◌, ◌/◌, ◌≤◌, length, IfOk, IsTrue};
+ghost use Rattle.devices.specs.Fault.{IsThere};
 ghost use Rattle.devices.specs.Frame.{OnlyReads};
 ghost use Rattle.silence.specs.Zero.{IsFirstSounding, IsFrameZero, IsZeroAt, LiesIn, sound_by};
 
@@ -40,7 +41,7 @@ fn first_in_block<S: Shelf>(
     requires room { length samples.old * 4 ≤ length bytes.old }
     ensures found { IsTrue (S.honest shelf.old) → IfOk result (IsFirstSounding
         (IsZeroAt (sound_by (S.stored shelf.old) sound.now) part.now.first part.now.width) part.now.from part.now.to) }
-    ensures not_missing { IsErrOf result ShelfFault.NotFound → ⊥ }
+    ensures not_missing { IsThere result }
     ensures only_reads { OnlyReads S.Shelf shelf.old shelf.new result (λ fault. fault ≡ ShelfFault.Device)
         (λ _ failed. failed sound.now.name) }
 {
@@ -67,7 +68,7 @@ pub fn first_sounding<S: Shelf, W: Watch>(
     requires { LiesIn sound.now part.now }
     ensures found { IsTrue (S.honest shelf.old) → IfOk result (IsFirstSounding
         (IsZeroAt (sound_by (S.stored shelf.old) sound.now) part.now.first part.now.width) part.now.from part.now.to) }
-    ensures not_missing { IsErrOf result ShelfFault.NotFound → ⊥ }
+    ensures not_missing { IsThere result }
     ensures only_reads { OnlyReads S.Shelf shelf.old shelf.new result (λ fault. fault ≡ ShelfFault.Device)
         (λ _ failed. failed sound.now.name) }
 {

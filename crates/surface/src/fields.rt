@@ -1,15 +1,41 @@
 // The fields of the types that calls take and answer, each read once.
-use adlmodel::{Event, Source};
+use adlmodel::{Event, Header, KeptLines, Project, Source};
 use consolidate::{Accepted, Progress, Rendered, Resumed, Written};
 use interval::{Piece, Placed, Shape};
 use list_terms::Notice;
+use markfile::RunId;
 use mediacopy::CopyJob;
 use mediaset::Run;
 use rf64::Ds64;
 use riff::{Chunks, Format};
-use sampletime::SampleTime;
+use sampletime::{Rate, SampleTime, Separators};
+use sourceindex::BoundIndex;
 use wavread::{Depth, Sound};
 use workboard::Ticket;
+
+/// The header of a project, the rate of frames of its times, and their separators.
+pub fn of_project(project: &Project) -> (&Header, Rate, Separators) {
+    (project.header(), project.rate(), project.separators())
+}
+
+/// How many lines of a section are kept, where it is there.
+fn kept_in(section: &Option<KeptLines>) -> Option<usize> {
+    match section {
+        Some(lines) => Some(lines.as_slice().len()),
+        None => None,
+    }
+}
+
+/// How many lines are kept of VERSION, PROJECT, SYSTEM, SEQUENCE and TRACKLIST.
+pub fn of_header(header: &Header) -> [Option<usize>; 5] {
+    [
+        kept_in(&header.version),
+        kept_in(&header.project),
+        kept_in(&header.system),
+        kept_in(&header.sequence),
+        kept_in(&header.track_list),
+    ]
+}
 
 /// The number, the URL, the identifier, the start and the length of a source.
 pub fn of_source(source: &Source) -> (u32, &[u8], &[u8], [Option<SampleTime>; 2]) {
@@ -47,8 +73,8 @@ pub fn of_notice(notice: &Notice) -> (u8, u64) {
     (kind, at)
 }
 
-/// Where the chunks of a file lie: `fmt `, `data`, and `bext` if it is there; whether it has others.
-pub fn of_chunks(chunks: &Chunks) -> ([u64; 4], Option<(u64, u64)>, bool) {
+/// Where the chunks of a file lie: `fmt `, `data`, and `bext` if it is there; whether it has others, and how many heads.
+pub fn of_chunks(chunks: &Chunks) -> ([u64; 4], Option<(u64, u64)>, bool, u64) {
     let bext = match chunks.bext {
         Some(bext) => Some((bext.at, bext.length)),
         None => None,
@@ -62,6 +88,7 @@ pub fn of_chunks(chunks: &Chunks) -> ([u64; 4], Option<(u64, u64)>, bool) {
         ],
         bext,
         chunks.others,
+        chunks.seen,
     )
 }
 
@@ -96,6 +123,22 @@ pub fn of_sound(sound: &Sound) -> (u8, Depth, u64, &[u8], [bool; 4]) {
             sound.others(),
         ],
     )
+}
+
+/// The media name of a file.
+pub fn name_of(sound: &Sound) -> &str {
+    sound.name()
+}
+
+/// The number and the file of a bound index, its base and the frames that can be addressed.
+pub fn of_bound_index(index: &BoundIndex) -> ([u32; 2], [u64; 2]) {
+    let BoundIndex {
+        number,
+        file,
+        base,
+        addressable,
+    } = *index;
+    ([number, file], [base, addressable])
 }
 
 /// The times, the file, the channels and the shape of a piece.
@@ -150,6 +193,16 @@ pub fn of_run(place: u32, run: &Run) -> (u32, u64, CopyJob) {
         frames: length.min(65_536) as u32,
     };
     (file, first, job)
+}
+
+/// The digest of a rendering, its blocks, and the bytes of its file.
+pub fn of_run_id(run: &RunId) -> ([u8; 32], u32, u64) {
+    let RunId {
+        digest,
+        blocks,
+        length,
+    } = *run;
+    (digest, blocks, length)
 }
 
 /// The job and the serial number of a ticket.

@@ -1,6 +1,6 @@
 // The number of each fault.
 
-use adlread::AdlFault;
+use adlread::{AdlFault, Location, TextFault};
 use adltoken::TokenFault;
 use adlwrite::WriteFault;
 use blockmachine::MachineFault;
@@ -20,6 +20,27 @@ use workboard::BoardFault;
 /// The numbers of faults of a list, and where they lie.
 pub fn of_lists(token: &TokenFault, list: &AdlFault, written: &WriteFault) -> [u8; 3] {
     [token.number(), list.number(), written.number()]
+}
+
+/// The line that can't be cut into tokens, and whether it has a byte that no list may have.
+pub fn line_of_token(fault: &TokenFault) -> (u64, bool) {
+    let is_byte = match fault {
+        TokenFault::BadByte { .. } => true,
+        TokenFault::BadLine { .. } => false,
+    };
+    (fault.line(), is_byte)
+}
+
+/// Where a list lacks a field.
+pub fn missing_field(fault: &AdlFault) -> Option<Location> {
+    match fault {
+        AdlFault::Text {
+            fault: TextFault::MissingField,
+            location,
+            ..
+        } => Some(*location),
+        _ => None,
+    }
 }
 
 /// The line of a list's fault, and its entry or index.

@@ -24,6 +24,10 @@ fn a_line_is_cut_up_to_its_fault(rt: HostRuntime) -> Result<(), Fail> {
     for _ in 0..2 {
         let fault = tokens.next_token().err();
         assert!(rt; fault == Some(TokenFault::BadByte { line: 12 }));
+        assert_eq!(rt;
+            fault.map(|fault| (fault.number(), fault.line())),
+            Some((1, 12))
+        );
         assert_eq!(rt; tokens.rest, b" \x01 C".as_slice());
         assert_eq!(rt; tokens.at, 15);
     }

@@ -150,5 +150,7 @@ fn a_piece_is_copied_or_its_medium_is_torn_within_it_alone(rt: HostRuntime) -> R
     for case in CASES {
         assert!(rt; is_copied_so(&rt, rt.alloc(), &bound, &before, case)?);
     }
+    let numbers = [CopyFault::Source.number(), CopyFault::Output.number()];
+    assert_eq!(rt; numbers, [22, 62]);
     Ok(())
 }

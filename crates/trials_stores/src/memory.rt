@@ -112,6 +112,7 @@ const OUTSIDE: [Call; 5] = [
 fn a_chosen_call_of_a_bench_fails(rt: HostRuntime) -> Result<(), Fail> {
     let mut bench = MemoryBench::new(rt.alloc()).failing(1, 1);
     assert!(rt; put_file(&mut bench, "A.wav", &[1]) == Err(DeviceFault));
+    assert_eq!(rt; DeviceFault.number(), 22);
     assert!(rt; bench.bytes("A.wav") == Some([].as_slice()));
     assert!(rt; put_file(&mut bench, "A.wav", &[1]).is_ok() & (bench.failures() == 1));
     Ok(())

@@ -14,7 +14,7 @@ use Rattle.riff.specs.declared.fault.MediaFault.TheVariants.{NotFound}
 use Rattle.riff.specs.Fault.{as_media, media_fault, number_of}
 use Rattle.riff.specs.Walk.{walked_file}
 use Rattle.sound_terms.specs.Depth.{bits_of}
-use Rattle.wavread.specs.declared.bext_chunk.Told.{Told}
+use Rattle.wavread.specs.declared.told.Told.{Told}
 use Rattle.wavread.specs.Told.{TellsAll}
 use Rattle.wavread.specs.Facts.{sound_of_file, facts_told}
 

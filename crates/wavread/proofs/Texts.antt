@@ -8,7 +8,7 @@ use Rattle.sound_terms.specs.declared.Span.{Span}
 use Rattle.sound_terms.specs.Chunks.{number_at}
 use Rattle.sound_terms.specs.Sounds.{bytes_of_span, history_limit}
 use Rattle.sound_terms.specs.Bext.{bext_of}
-use Rattle.wavread.specs.declared.bext_chunk.Told.{Told}
+use Rattle.wavread.specs.declared.told.Told.{Told}
 use Rattle.wavread.specs.Told.{TellsAll}
 
 -- as many bytes as the chunk has

@@ -3,7 +3,7 @@ use Rattle.std.specs.Prelude.{◌≡◌, ℕ, ◌+◌, ◌&&◌, nat_le, nat_lt,
 use Rattle.sound_terms.specs.declared.Span.{Span}
 use Rattle.sound_terms.specs.Chunks.{number_at}
 use Rattle.sound_terms.specs.Sounds.{bytes_of_span, history_limit}
-use Rattle.wavread.specs.declared.bext_chunk.Told.{Told}
+use Rattle.wavread.specs.declared.told.Told.{Told}
 
 -- the contents of the chunk, empty where there is none
 abbrev pub contents_of : List ℕ → Option Span → List ℕ

@@ -1,11 +1,12 @@
 // What the `bext` of a file tells (EBU Tech 3285, 2.3).
-ghost use Rattle.std.specs.Prelude.{◌≡◌, ◌≤◌, ◌<◌, ◌+◌, ◌^◌, ℕ, List, Some, IsTrue, IfOk, IfErr, IfSome, IsErrOf, length, take, drop, true, vec_len};
+ghost use Rattle.std.specs.Prelude.{◌≡◌, ◌≤◌, ◌<◌, ◌+◌, ◌^◌, ℕ, List, Some, IsTrue, IfOk, IfErr, IfSome, length, take, drop, vec_len};
 ghost use Rattle.sound_terms.specs.Bext.{bext_of};
-ghost use Rattle.work_terms.specs.Refusals.{is_excused};
+ghost use Rattle.devices.specs.Fault.{IsThere};
 ghost use Rattle.devices.specs.Frame.{OnlyReads};
-ghost use Rattle.riff.specs.Fault.{number_of};
+ghost use Rattle.riff.specs.Fault.{IsExcused};
 ghost use Rattle.wavread.specs.Told.{TellsAll, contents_of};
 
+use crate::told::Told;
 use bext::read_bext;
 use devices::{Shelf, ShelfFault};
 use riff::MediaFault;
@@ -21,21 +22,11 @@ const HISTORY: u64 = 602;
 /// The most bytes of a CodingHistory that are kept.
 const HISTORY_LIMIT: u64 = 65_536;
 
-/// The fields and the CodingHistory of a `bext`; whether it is too short for its fields, and whether the end of the
-/// CodingHistory isn't kept.
-#[derive(Drop)]
-pub struct Told {
-    pub bext: Option<Bext>,
-    pub history: Vec<u8>,
-    pub short: bool,
-    pub cut: bool,
-}
-
 /// Reads the fields of a `bext` that begins at this place.
 fn read_fields<S: Shelf>(shelf: &mut S, name: &str, at: u64) -> Result<Option<Bext>, ShelfFault>
     ensures fields { IsTrue (S.honest shelf.old) → (file : List ℕ) → S.stored shelf.old name.now ≡ Some file
         → IfOk result (λ bext. bext ≡ bext_of (take 346 (drop at file))) }
-    ensures not_missing { IsErrOf result ShelfFault.NotFound → ⊥ }
+    ensures not_missing { IsThere result }
     ensures only_reads { OnlyReads S.Shelf shelf.old shelf.new result (λ fault. fault ≡ ShelfFault.Device)
         (λ _ failed. failed name.now) }
 {
@@ -56,7 +47,7 @@ fn read_history<S: Shelf>(
     ensures history { IsTrue (S.honest shelf.old) → (file : List ℕ) → S.stored shelf.old name.now ≡ Some file
         → IfOk result (λ history. history.items ≡ take count (drop at file)) }
     ensures few { IfOk result (λ history. vec_len history ≡ count) }
-    ensures excused { IfErr result (λ fault. is_excused (number_of fault) ≡ true) }
+    ensures excused { IfErr result IsExcused }
     ensures only_reads { OnlyReads S.Shelf shelf.old shelf.new result (λ fault. fault ≡ MediaFault.Device)
         (λ _ failed. failed name.now) }
 {
@@ -77,8 +68,7 @@ fn read_whole<S: Shelf>(
     ensures texts { IsTrue (S.honest shelf.old) → (file : List ℕ) → S.stored shelf.old name.now ≡ Some file
         → contents.at + contents.length ≤ length file
         → IfOk result (TellsAll (Some contents) (contents_of file (Some contents))) }
-    ensures few { IfOk result (λ texts. vec_len texts.history ≤ 65536) }
-    ensures excused { IfErr result (λ fault. is_excused (number_of fault) ≡ true) }
+    ensures excused { IfErr result IsExcused }
     ensures only_reads { OnlyReads S.Shelf shelf.old shelf.new result (λ fault. fault ≡ MediaFault.Device)
         (λ _ failed. failed name.now) }
 {
@@ -121,8 +111,7 @@ pub fn read_told<S: Shelf>(
     ensures texts { IsTrue (S.honest shelf.old) → (file : List ℕ) → S.stored shelf.old name.now ≡ Some file
         → IfSome contents (λ span. span.at + span.length ≤ length file)
         → IfOk result (TellsAll contents (contents_of file contents)) }
-    ensures few { IfOk result (λ texts. vec_len texts.history ≤ 65536) }
-    ensures excused { IfErr result (λ fault. is_excused (number_of fault) ≡ true) }
+    ensures excused { IfErr result IsExcused }
     ensures only_reads { OnlyReads S.Shelf shelf.old shelf.new result (λ fault. fault ≡ MediaFault.Device)
         (λ _ failed. failed name.now) }
 {

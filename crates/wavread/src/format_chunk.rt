@@ -1,9 +1,10 @@
 // The format of a file.
-ghost use Rattle.std.specs.Prelude.{◌≡◌, ◌≤◌, ℕ, List, Some, IsTrue, IfOk, IsErrOf};
+ghost use Rattle.std.specs.Prelude.{◌≡◌, ℕ, List, Some, IsTrue, IfOk, IsErrOf};
 ghost use Rattle.sound_terms.specs.Sounds.{bytes_of_span};
 ghost use Rattle.sound_terms.specs.Formats.{format_of};
 ghost use Rattle.work_terms.specs.Refusals.{Gives};
 ghost use Rattle.devices.specs.Frame.{OnlyReads};
+ghost use Rattle.riff.specs.Channels.{HasFewChannels};
 ghost use Rattle.riff.specs.Fault.{number_of, as_media};
 
 use devices::Shelf;
@@ -22,7 +23,7 @@ pub fn read_format<S: Shelf>(
     ensures exact { IsTrue (S.honest shelf.old) → (file : List ℕ) → S.stored shelf.old name.now ≡ Some file
         → Gives (λ format. format) (λ fault. fault) number_of result
         (as_media (format_of (bytes_of_span file contents))) }
-    ensures channels { IfOk result (λ format. (1 ≤ format.channels) × (format.channels ≤ 64)) }
+    ensures channels { IfOk result HasFewChannels }
     ensures only_reads { OnlyReads S.Shelf shelf.old shelf.new result (λ fault. fault ≡ MediaFault.Device)
         (λ _ failed. failed name.now) }
 {

@@ -5,6 +5,7 @@ mod bext_chunk;
 mod format_chunk;
 mod opening;
 mod sound;
+mod told;
 
 pub use opening::open;
 pub use riff::MediaFault;

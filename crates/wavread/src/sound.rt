@@ -1,15 +1,16 @@
 // An opened sound file.
-ghost use Rattle.std.specs.Prelude.{◌≡◌, ◌≤◌, ◌<◌, ◌+◌, ◌-◌, ◌*◌, ◌/◌, ◌^◌, ℕ, List, Some, pos, get_or, length, option_map, string_bytes, vec_len, IsTrue, IsErrOf, IsSome, OnOk};
+ghost use Rattle.std.specs.Prelude.{◌≡◌, ◌≤◌, ◌<◌, ◌+◌, ◌-◌, ◌*◌, ◌/◌, ◌^◌, ℕ, List, Some, pos, get_or, length, option_map, string_bytes, IsTrue, IsSome, OnOk};
 ghost use Rattle.std.specs.List.{All};
 ghost use Rattle.sound_terms.specs.Depth.{bits_of};
 ghost use Rattle.work_terms.specs.Disk.{IsRange};
+ghost use Rattle.devices.specs.Fault.{IsThere};
 ghost use Rattle.devices.specs.Frame.{OnlyReads};
 ghost use Rattle.sound_terms.specs.Media.{frame_length};
 ghost use Rattle.sound_terms.specs.Waves.{sample_at};
 ghost use Rattle.wavread.specs.Facts.{facts_told, AreFrames};
 ghost use Rattle.pcm.specs.Samples.{FitsDepth};
 
-use crate::bext_chunk::Told;
+use crate::told::Told;
 use devices::{Shelf, ShelfFault};
 use pcm::unpack;
 use riff::{Format, Span};
@@ -58,7 +59,6 @@ impl Sound {
     /// The file of these parts.
     pub fn of(name: String, format: Format, sound: Span, texts: Told, others: bool) -> Self
         requires channels { (1 ≤ format.channels) × (format.channels ≤ 64) }
-        requires history { vec_len texts.history ≤ 65536 }
         requires ends { sound.at + sound.length < 2 ^ 64 }
         ensures { result ≡ facts_told (string_bytes name) format.channels format.depth
             (sound.length / (format.channels * (bits_of format.depth / 8)))
@@ -172,7 +172,7 @@ impl Sound {
         ensures bytes { IsTrue (S.honest shelf.old)
             → OnOk result (IsRange (S.stored shelf.old self.now.name) (self.now.offset + from * frame_length self.now)
             bytes.new) }
-        ensures not_missing { IsErrOf result ShelfFault.NotFound → ⊥ }
+        ensures not_missing { IsThere result }
         ensures only_reads { OnlyReads S.Shelf shelf.old shelf.new result (λ fault. fault ≡ ShelfFault.Device)
             (λ _ failed. failed self.now.name) }
     {
@@ -194,7 +194,7 @@ impl Sound {
         ensures samples { IsTrue (S.honest shelf.old) → (file : List ℕ) → S.stored shelf.old self.now.name ≡ Some file
             → OnOk result ((i : ℕ) → i < length samples.new → get_or samples.new i (pos 0)
             ≡ sample_at file self.now.offset self.now.channels (bits_of self.now.depth) (from + i) channel) }
-        ensures not_missing { IsErrOf result ShelfFault.NotFound → ⊥ }
+        ensures not_missing { IsThere result }
         ensures only_reads { OnlyReads S.Shelf shelf.old shelf.new result (λ fault. fault ≡ ShelfFault.Device)
             (λ _ failed. failed self.now.name) }
     {
@@ -236,7 +236,7 @@ impl Sound {
             frames.new) }
         ensures there { IsTrue (S.honest shelf.old) → OnOk result (IsSome (S.stored shelf.old self.now.name)) }
         ensures fit { OnOk result (All (FitsDepth (bits_of self.now.depth)) frames.new) }
-        ensures not_missing { IsErrOf result ShelfFault.NotFound → ⊥ }
+        ensures not_missing { IsThere result }
         ensures only_reads { OnlyReads S.Shelf shelf.old shelf.new result (λ fault. fault ≡ ShelfFault.Device)
             (λ _ failed. failed self.now.name) }
     {

@@ -1,9 +1,16 @@
 // Which names a file right inside a folder can have.
-ghost use Rattle.std.specs.Prelude.{◌≡◌, true, false, OnOk, OnErr};
+ghost use Rattle.std.specs.Prelude.{◌≡◌, true, false, IfOk, OnOk, OnErr};
 ghost use Rattle.shelf.specs.FileName as spec;
 
 use std::io;
 use std::io::{Error, ErrorKind};
+
+/// A name that a file right inside a folder can have.
+#[derive(Clone, Copy)]
+pub struct FileName<'a> {
+    pub text: &'a str,
+    ghost named: { spec.is_file_name text.now ≡ true },
+}
 
 /// Whether a file right inside a folder can have the name: it isn't empty, `.` or `..`, and has no slash and no NUL.
 pub fn is_file_name(name: &str) -> bool
@@ -12,13 +19,14 @@ pub fn is_file_name(name: &str) -> bool
     !is_dots(name) && name.as_bytes().iter().all(|byte| is_file_name_byte(*byte))
 }
 
-/// Fails where no file right inside a folder can have the name.
-pub fn require_file_name(name: &str) -> io::Result<()>
-    ensures named { OnOk result (spec.is_file_name name.now ≡ true) }
-    ensures not_named { OnErr result (spec.is_file_name name.now ≡ false) }
+/// The name. It fails where no file right inside a folder can have it.
+pub fn require_file_name<'a>(name: &'a str) -> io::Result<FileName<'a>>
+    ensures text { IfOk result (λ named. named.text.now ≡ name.entry.now) }
+    ensures named { OnOk result (spec.is_file_name name.entry.now ≡ true) }
+    ensures not_named { OnErr result (spec.is_file_name name.entry.now ≡ false) }
 {
     if is_file_name(name) {
-        Ok(())
+        Ok(FileName { text: name })
     } else {
         Err(Error::from(ErrorKind::InvalidFilename))
     }

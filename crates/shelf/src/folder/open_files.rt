@@ -1,12 +1,12 @@
 // The open files of a folder.
-ghost use Rattle.std.specs.Prelude.{◌≡◌, ◌++◌, codes, false, string_bytes, IsTrue, IsErr, IfOk};
-ghost use Rattle.shelf.specs.FileName.{is_file_name};
+ghost use Rattle.std.specs.Prelude.{◌≡◌, ◌++◌, codes, string_bytes, IfOk};
+ghost use Rattle.shelf.specs.FileName.{RefusesName};
 ghost use Rattle.shelf.specs.Folder.{folder_named};
 ghost use Rattle.shelf.specs.declared.folder.open_files.TheConstants.{OPEN_FILES};
 
 use super::handle::Handle;
 use super::identity::Identity;
-use super::name::{is_file_name, require_file_name};
+use super::name::{FileName, require_file_name};
 use super::state::State;
 use lru::LruCache;
 use std::alloc::{AllocError, Global};
@@ -129,14 +129,14 @@ where
 
     /// How many bytes the file has, or `None` where no file has the name.
     pub fn length(&mut self, name: &str) -> io::Result<Option<u64>>
-        ensures no_name { is_file_name name.now ≡ false → IsErr result }
+        ensures no_name { RefusesName name.now result }
     {
         Ok(self.handle(name)?.map(|handle| handle.length()))
     }
 
     /// Fills the buffer with the file's bytes from `at` on.
     pub fn read_at(&mut self, name: &str, at: u64, buffer: &mut [u8]) -> io::Result<()>
-        ensures no_name { is_file_name name.now ≡ false → IsErr result }
+        ensures no_name { RefusesName name.now result }
     {
         let outcome = self.handle_there(name)?.read_at(at, buffer);
         self.closed_if_failed(name, outcome)
@@ -144,7 +144,7 @@ where
 
     /// Writes the bytes over those of the file from `at` on.
     pub fn write_at(&mut self, name: &str, at: u64, bytes: &[u8]) -> io::Result<()>
-        ensures no_name { is_file_name name.now ≡ false → IsErr result }
+        ensures no_name { RefusesName name.now result }
     {
         self.begin_writing(name);
         let outcome = self.handle_there(name)?.write_at(at, bytes);
@@ -153,7 +153,7 @@ where
 
     /// Adds the bytes at the end of the file.
     pub fn append(&mut self, name: &str, bytes: &[u8]) -> io::Result<()>
-        ensures no_name { is_file_name name.now ≡ false → IsErr result }
+        ensures no_name { RefusesName name.now result }
     {
         self.begin_writing(name);
         let outcome = self.handle_there(name)?.append(bytes);
@@ -162,7 +162,7 @@ where
 
     /// Adds so many zeros at the end of an output, which has to be there.
     pub fn append_zeros(&mut self, name: &str, count: u64) -> io::Result<()>
-        ensures no_name { is_file_name name.now ≡ false → IsErr result }
+        ensures no_name { RefusesName name.now result }
     {
         self.begin_writing(name);
         let outcome = self.handle_there(name)?.append_zeros(count);
@@ -179,7 +179,7 @@ where
     /// Waits until the file is on the disk, and its name too if it is new. It stays open. It fails where the name isn't
     /// that of this file with this length any more.
     pub fn sync(&mut self, name: &str) -> io::Result<()>
-        ensures no_name { is_file_name name.now ≡ false → IsErr result }
+        ensures no_name { RefusesName name.now result }
     {
         require_file_name(name)?;
         let synced = match self.synced_length(name) {
@@ -197,9 +197,7 @@ where
     }
 
     /// Waits until the file's bytes are on the disk. Tells how many they are.
-    fn sync_bytes(&mut self, name: &str) -> io::Result<u64>
-        requires { IsTrue (is_file_name name.now) }
-    {
+    fn sync_bytes(&mut self, name: &str) -> io::Result<u64> {
         let handle = self.handle_there(name)?;
         let length = handle.length();
         let outcome = handle.sync();
@@ -209,8 +207,8 @@ where
 
     /// Fails where the name isn't that of the file that was written, with this length.
     fn require_whole(&self, name: &str, length: u64) -> io::Result<()> {
-        require_file_name(name)?;
-        let found = fs::symlink_metadata(&self.files, &self.path_of(name)?)?;
+        let named = require_file_name(name)?;
+        let found = fs::symlink_metadata(&self.files, &self.path_of(named)?)?;
         let is_same = match self.outputs.get(name) {
             Some(output) => output.identity == Identity::of(&found),
             None => false,
@@ -243,14 +241,14 @@ where
 
     /// Makes an empty file of the name. Where the name is there already it fails, or empties the file.
     pub fn create(&mut self, name: &str) -> io::Result<()>
-        ensures no_name { is_file_name name.now ≡ false → IsErr result }
+        ensures no_name { RefusesName name.now result }
     {
-        require_file_name(name)?;
+        let named = require_file_name(name)?;
         self.begin_writing(name);
         self.handles.pop(name);
         self.has_new_names = true;
         self.is_made = false;
-        let path = self.path_of(name)?;
+        let path = self.path_of(named)?;
         let file = match self.replaced(&path)? {
             Some(found) => self.open_emptied(name, &path, &found)?,
             None => self.open(
@@ -361,18 +359,18 @@ where
 
     /// The open file of the name. It fails where no file has the name.
     fn handle_there<'a>(&'a mut self, name: &str) -> io::Result<&'a mut Handle<R::File>>
-        ensures no_name { is_file_name name.now ≡ false → IsErr result }
+        ensures no_name { RefusesName name.now result }
     {
         self.handle(name)?.ok_or(Error::from(ErrorKind::NotFound))
     }
 
     /// The open file of the name, opened where it wasn't, or `None` where no file has the name.
     fn handle<'a>(&'a mut self, name: &str) -> io::Result<Option<&'a mut Handle<R::File>>>
-        ensures no_name { is_file_name name.now ≡ false → IsErr result }
+        ensures no_name { RefusesName name.now result }
     {
-        require_file_name(name)?;
+        let named = require_file_name(name)?;
         if !self.handles.contains(name) {
-            match self.existing(name)? {
+            match self.existing(named)? {
                 Some(handle) => self.keep(name, handle)?,
                 None => return Ok(None),
             }
@@ -382,10 +380,9 @@ where
 
     /// Opens the file of the name, or gives `None` where no file has it. Its kind is asked for before it is opened,
     /// since opening a pipe may wait for ever. A link to a source is followed, one to an output isn't.
-    fn existing(&mut self, name: &str) -> io::Result<Option<Handle<R::File>>>
-        requires { IsTrue (is_file_name name.now) }
-    {
-        let path = self.source_path(name)?;
+    fn existing(&mut self, named: FileName<'_>) -> io::Result<Option<Handle<R::File>>> {
+        let name = named.text;
+        let path = self.source_path(named)?;
         let found = if self.access == Access::Read {
             fs::metadata(&self.files, &path)
         } else {
@@ -425,30 +422,27 @@ where
 
     /// How the file of this name is now; `None` where that can't be told.
     fn state_now(&self, name: &str) -> Option<State> {
-        if !is_file_name(name) {
-            return None;
-        }
-        let found = fs::metadata(&self.files, &self.source_path(name).ok()?).ok()?;
+        let named = require_file_name(name).ok()?;
+        let found = fs::metadata(&self.files, &self.source_path(named).ok()?).ok()?;
         Some(State::of(&found))
     }
 
     /// The path of the file of this name: of a source that lies further below, the path that it was found under.
-    fn source_path(&self, name: &str) -> Result<String, AllocError>
-        requires { IsTrue (is_file_name name.now) }
-    {
+    fn source_path(&self, name: FileName<'_>) -> Result<String, AllocError> {
         let folder = self.folder.as_str();
-        match self.paths_below.get(name) {
+        match self.paths_below.get(name.text) {
             Some(path) => format!(in self.alloc; "{folder}/{path}"),
             None => self.path_of(name),
         }
     }
 
     /// The path of the file of this name. It lies right inside the folder.
-    fn path_of(&self, name: &str) -> Result<String, AllocError>
-        requires { IsTrue (is_file_name name.now) }
-        ensures { IfOk result (λ path. string_bytes path ≡ string_bytes self.now.folder ++ (codes "/" ++ name.now)) }
+    fn path_of(&self, name: FileName<'_>) -> Result<String, AllocError>
+        ensures { IfOk result (λ path. string_bytes path ≡ string_bytes self.now.folder
+            ++ (codes "/" ++ name.entry.text.now)) }
     {
         let folder = self.folder.as_str();
+        let name = name.text;
         format!(in self.alloc; "{folder}/{name}")
     }
 

@@ -1,9 +1,9 @@
 // Outputs in memory.
-ghost use Rattle.std.specs.Prelude.{◌≡◌, ◌≢◌, ◌+◌, ◌≤◌, ◌↔◌, ℕ, true, None, List, [], IfOk, IsOk, IsErr, IsTrue, IsSomeAnd, OnOk, option_copied, option_map, length, replicate, ⊤};
-ghost use Rattle.work_terms.specs.Disk.{Changes, Files, HasCause, IsEmptyOrAbsent};
+ghost use Rattle.std.specs.Prelude.{◌≡◌, ◌≢◌, ◌+◌, ◌≤◌, ◌↔◌, ℕ, true, None, List, [], IfOk, IsErr, IsTrue, IsSomeAnd, OnOk, option_copied, option_map, length, replicate, ⊤};
+ghost use Rattle.work_terms.specs.Disk.{Changes, Files, IsEmptyOrAbsent};
 ghost use Rattle.shelf.specs.Crashes.{IsChange, counts_now, gone_held, only_now, reads_held};
 ghost use Rattle.shelf.specs.History.{LeftSince, MayLeave, Note, crashed, noted, read_of, step};
-ghost use Rattle.shelf.specs.Memory.{bench_failures, bench_files, bench_history, bench_part, bench_stretch, fails_now};
+ghost use Rattle.shelf.specs.Memory.{CountsFault, bench_failures, bench_files, bench_history, bench_part, bench_stretch, fails_now};
 ghost use Rattle.shelf.specs.declared.memory.call.Kind.TheVariants.{Sync};
 
 use super::call::{Call, Kind};
@@ -127,7 +127,7 @@ impl MemoryBench {
     fn begin(&mut self) -> Result<(), DeviceFault>
         ensures fails { IsErr result ↔ IsTrue (fails_now (bench_stretch self.old)) }
         ensures history { bench_history self.new ≡ bench_history self.old }
-        ensures cause { HasCause (bench_failures self.old) (bench_failures self.new) (IsOk result) (IsErr result) }
+        ensures cause { CountsFault self.old self.new result }
     {
         match self.device.begin() {
             Ok(()) => return Ok(()),
@@ -142,7 +142,7 @@ impl MemoryBench {
     fn refused(&mut self) -> Result<(), DeviceFault>
         ensures history { bench_history self.new ≡ bench_history self.old }
         ensures fails { IsErr result }
-        ensures cause { HasCause (bench_failures self.old) (bench_failures self.new) (IsOk result) (IsErr result) }
+        ensures cause { CountsFault self.old self.new result }
     {
         match self.begin() {
             Ok(()) => return self.device.counted(Err(DeviceFault)),
@@ -215,7 +215,7 @@ impl MemoryBench {
           bytes = bytes.now;
           part = bench_part self.old;
         }) (bench_history self.old) (bench_history self.new) }
-        ensures cause { HasCause (bench_failures self.old) (bench_failures self.new) (IsOk result) (IsErr result) }
+        ensures cause { CountsFault self.old self.new result }
     {
         let part = self.part;
         match self.begin() {

@@ -1,7 +1,7 @@
 // Files by name, each with its bytes.
 ghost use Rattle.std.specs.Prelude.{◌≡◌, ◌+◌, ◌<◌, ℕ, false, IsTrue, None, List, length, IfOk, OnOk, OnErr, IfSome, IfNone, IsSomeAnd, ◌≤◌, option_copied, option_map, string_bytes};
 ghost use Rattle.work_terms.specs.Disk.{Changes, IsRange};
-ghost use Rattle.shelf.specs.Files.{IsMade, IsOutside, IsPut, files_of};
+ghost use Rattle.shelf.specs.Files.{IsMade, IsOutside, IsPut, KeepsFiles, files_of};
 ghost use Rattle.shelf.specs.History.{done, has_place, left_of, note_of, or_else, placed, spoilt_by, with_bytes};
 
 use super::call::{Call, Kind};
@@ -43,7 +43,7 @@ impl NamedFiles {
     /// Puts the bytes under the name, in place of what is there.
     pub fn put(&mut self, name: &str, bytes: &[u8]) -> Result<(), AllocError>
         ensures put { OnOk result (Changes (IsPut bytes.now) name.now (files_of self.old) (files_of self.new)) }
-        ensures unchanged { OnErr result ((n : List ℕ) → files_of self.new n ≡ files_of self.old n) }
+        ensures unchanged { KeepsFiles self.old self.new result }
     {
         let name = String::from_str(self.alloc, name)?;
         self.files.insert(name, bytes.to_vec(self.alloc)?)?;
@@ -69,10 +69,9 @@ impl NamedFiles {
         count: usize,
         bytes: &[u8],
     ) -> Result<(), AllocError>
-        requires { length bytes.now ≤ count }
         ensures placed { OnOk result (Changes (IsMade (option_map (with_bytes kind at count bytes.now))) name.now
             (files_of self.old) (files_of self.new)) }
-        ensures unchanged { OnErr result ((n : List ℕ) → files_of self.new n ≡ files_of self.old n) }
+        ensures unchanged { KeepsFiles self.old self.new result }
     {
         let Some(file) = self.files.get_mut(name) else {
             return Ok(());
@@ -87,7 +86,7 @@ impl NamedFiles {
     pub fn apply(&mut self, call: &Call) -> Result<(), AllocError>
         ensures done { OnOk result (Changes (IsMade (done (note_of call.now))) (string_bytes call.now.name)
             (files_of self.old) (files_of self.new)) }
-        ensures unchanged { OnErr result ((n : List ℕ) → files_of self.new n ≡ files_of self.old n) }
+        ensures unchanged { KeepsFiles self.old self.new result }
     {
         let name = call.name.as_str();
         match call.kind {
@@ -225,7 +224,6 @@ fn place_in(
     count: usize,
     bytes: &[u8],
 ) -> Result<(), AllocError>
-    requires { length bytes.now ≤ count }
     ensures placed { OnOk result (file.new.items ≡ with_bytes kind at count bytes.now file.old.items) }
     ensures unchanged { OnErr result (file.new.items ≡ file.old.items) }
 {

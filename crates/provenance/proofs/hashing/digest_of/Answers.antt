@@ -9,10 +9,10 @@ use Rattle.provenance.proofs.hashing.digest_of.Goals as goal
 
 pub returns-clause-digest : goal.returns-clause-digest
 returns-clause-digest g c = λ honest.
-    let sound = c.args.sound.now in
-    let info = medium_info sound c.args.base c.args.run.now in
-    let samples = frames_in sound (content (g.S.Shelf.stored c.args.shelf.now) sound.name) c.args.run.now.first
-    c.args.run.now.length in
+    let sound = c.args.kept.now.sound.now in
+    let info = medium_info sound c.args.kept.now.base c.args.kept.now.run in
+    let samples = frames_in sound (content (g.S.Shelf.stored c.args.shelf.now) sound.name) c.args.kept.now.run.first
+    c.args.kept.now.run.length in
     let headed : Holds256 c.update.new.self (header_of info) =
     subst (Holds256 c.update.new.self) (c.put_header.ensures ∙ ap header_of c.info_of-info.ensures)
     (c.update.ensures [] c.new-hasher.ensures) in

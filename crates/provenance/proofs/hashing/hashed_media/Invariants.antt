@@ -1,4 +1,4 @@
-use Rattle.std.proofs.Common.{◌≡◌, All, IsTrue, length, take}
+use Rattle.std.proofs.Common.{◌≡◌, All, IsTrue, take}
 use Rattle.list_terms.specs.Renewed.{numbered}
 use Rattle.devices.specs.Frame.{IsQuiet}
 use Rattle.provenance.specs.Media.{HasSource, IsTellable, medium_by}
@@ -7,7 +7,7 @@ use Rattle.provenance.proofs.hashing.hashed_media.Given as goal
 -- the media of the runs before the place are hashed, and nothing has failed
 abbrev pub invariant-loop-position : goal.invariant-loop-position
 invariant-loop-position g l =
-    (length l.room ≡ 66226) × IsQuiet g.S.Shelf l.initial.shelf l.shelf
+    IsQuiet g.S.Shelf l.initial.shelf l.shelf
     × All (IsTellable l.sounds l.homes) l.media.items
     × (IsTrue (g.S.Shelf.honest l.initial.shelf) → l.media.items
     ≡ numbered (medium_by l.digests (g.S.Shelf.stored l.initial.shelf) l.sounds l.homes) 1 (take l.position l.list))

@@ -1,4 +1,4 @@
-use Rattle.std.proofs.Common.{◌-◌, ◌≡◌, ◌≤◌, IsTrue, length, take}
+use Rattle.std.proofs.Common.{◌-◌, ◌≤◌, IsTrue, take}
 use Rattle.sha2.specs.Hashers.{Holds256}
 use Rattle.mediacopy.specs.Pieces.{content}
 use Rattle.devices.specs.Frame.{IsQuiet}
@@ -7,7 +7,7 @@ use Rattle.provenance.proofs.wholes.file_digest.Given as goal
 -- the bytes so far are hashed, and nothing has failed
 abbrev pub invariant-loop-done : goal.invariant-loop-done
 invariant-loop-done g l =
-    (l.done ≤ l.end) × (length l.room ≡ 66226) × IsQuiet g.S.Shelf l.initial.shelf l.shelf
+    (l.done ≤ l.end) × IsQuiet g.S.Shelf l.initial.shelf l.shelf
     × (IsTrue (g.S.Shelf.honest l.initial.shelf)
     → Holds256 l.hasher (take l.done (content (g.S.Shelf.stored l.initial.shelf) l.name)))
 

@@ -10,9 +10,9 @@ loop-i-preserved c = λ file n ahead before.
     let i : ℕ = c.loop-i.i in
     let place : 48 + 12 * n + 12 * i ≡ 48 + 12 * (n + i) = omega arith in
     let next : n + i + 1 ≡ n + (i + 1) = omega arith in
-    let rest = take_rest c.args.bytes.now (12 * i) in
+    let rest = take_rest c.args.entries.now.bytes.now (12 * i) in
     let has =
-    entry_ahead file (48 + 12 * n) (12 * i) c.args.bytes.now c.of-entry.result ahead (omega arith)
+    entry_ahead file (48 + 12 * n) (12 * i) c.args.entries.now.bytes.now c.of-entry.result ahead (omega arith)
     (c.of-entry.ensures.id ∙ ap (take 4) rest) (c.of-entry.ensures.size ∙ ap (number_at 8 4) rest) in
     subst (λ k. IsIndexed file k c.add_entry.new.index) next
     (c.in_ok-add_entry.ensures file (n + i) (subst (λ at. HasEntry file at c.of-entry.result) place has)
@@ -20,5 +20,5 @@ loop-i-preserved c = λ file n ahead before.
 
 pub returns : goal.returns
 returns c = λ file n ahead before.
-    let all : c.loop-i.i ≡ c.args.count = omega arith in
+    let all : c.loop-i.i ≡ c.args.entries.now.count = omega arith in
     subst (λ k. IsIndexed file (n + k) c.loop-i.index) all (c.loop-i.invariant file n ahead before)

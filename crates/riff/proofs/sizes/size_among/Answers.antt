@@ -9,37 +9,37 @@ use Rattle.riff.proofs.sizes.size_among.Goals as goal
 pub loop-i-init : goal.loop-i-init
 loop-i-init c = λ file at rest ahead.
     let place : at ≡ at + 12 * 0 = omega arith in
-    let many : c.args.count + rest ≡ c.args.count - 0 + rest = omega arith in
-    ap (λ k. entry_from file k (c.args.count + rest) c.args.id) place
+    let many : c.args.entries.now.count + rest ≡ c.args.entries.now.count - 0 + rest = omega arith in
+    ap (λ k. entry_from file k (c.args.entries.now.count + rest) c.args.id) place
     ∙ ap (λ n. entry_from file (at + 12 * 0) n c.args.id) many
 
 pub returns-then-eq : goal.returns-then-eq
 returns-then-eq c = λ file at rest ahead.
     let i : ℕ = c.loop-i.i in
-    let front = take_rest c.args.bytes.now (12 * i) in
+    let front = take_rest c.args.entries.now.bytes.now (12 * i) in
     let has =
-    entry_ahead file at (12 * i) c.args.bytes.now c.of-entry.result ahead (omega arith)
+    entry_ahead file at (12 * i) c.args.entries.now.bytes.now c.of-entry.result ahead (omega arith)
     (c.of-entry.ensures.id ∙ ap (take 4) front) (c.of-entry.ensures.size ∙ ap (number_at 8 4) front) in
     c.loop-i.invariant file at rest ahead
-    ∙ entry_met file (at + 12 * i) (c.args.count - i + rest) (c.args.count - (i + 1) + rest) c.args.id c.of-entry.result
+    ∙ entry_met file (at + 12 * i) (c.args.entries.now.count - i + rest) (c.args.entries.now.count - (i + 1) + rest) c.args.id c.of-entry.result
     has (sym c.if-eq.ensures) (omega arith)
 
 pub loop-i-preserved : goal.loop-i-preserved
 loop-i-preserved c = λ file at rest ahead.
     let i : ℕ = c.loop-i.i in
-    let front = take_rest c.args.bytes.now (12 * i) in
+    let front = take_rest c.args.entries.now.bytes.now (12 * i) in
     let has =
-    entry_ahead file at (12 * i) c.args.bytes.now c.of-entry.result ahead (omega arith)
+    entry_ahead file at (12 * i) c.args.entries.now.bytes.now c.of-entry.result ahead (omega arith)
     (c.of-entry.ensures.id ∙ ap (take 4) front) (c.of-entry.ensures.size ∙ ap (number_at 8 4) front) in
     c.loop-i.invariant file at rest ahead
-    ∙ entry_missed file (at + 12 * i) (at + 12 * (i + 1)) (c.args.count - i + rest) (c.args.count - (i + 1) + rest)
+    ∙ entry_missed file (at + 12 * i) (at + 12 * (i + 1)) (c.args.entries.now.count - i + rest) (c.args.entries.now.count - (i + 1) + rest)
     c.args.id c.of-entry.result has (sym c.if-eq.ensures) (omega arith) (omega arith)
 
 pub returns : goal.returns
 returns c = λ file at rest ahead.
     let i : ℕ = c.loop-i.i in
-    let all : i ≡ c.args.count = omega arith in
-    let none : c.args.count - i + rest ≡ rest = omega arith in
+    let all : i ≡ c.args.entries.now.count = omega arith in
+    let none : c.args.entries.now.count - i + rest ≡ rest = omega arith in
     c.loop-i.invariant file at rest ahead
     ∙ ap (λ n. entry_from file (at + 12 * i) n c.args.id) none
     ∙ ap (λ k. entry_from file (at + 12 * k) rest c.args.id) all

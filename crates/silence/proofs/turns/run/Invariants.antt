@@ -1,4 +1,6 @@
 use Rattle.std.proofs.Common.{◌≡◌, ℕ, IsTrue}
+use Rattle.std.specs.Prelude.{false}
+use Rattle.std.specs.List.{list_any}
 use Rattle.std.specs.Vec.Iter.{into_iter_items}
 use Rattle.sound_terms.specs.Groups.{are_whole, mix_of, reads}
 use Rattle.sound_terms.specs.Passes.{in_turn, silences}
@@ -10,6 +12,9 @@ use Rattle.silence.proofs.turns.run.Given as goal
 abbrev pub invariant-loop-pass : goal.invariant-loop-pass
 invariant-loop-pass g l = record {
   quiet : IsQuiet g.S.Shelf l.fn.shelf l.shelf;
+  unasked : list_any (λ pass. (goal.Pass-dyn g (pass.vtable, pass.value)).looking pass.value) l.fn.passes.items ≡ false
+      → (list_any (λ pass. (goal.Pass-dyn g (pass.vtable, pass.value)).looking pass.value)
+      (into_iter_items l.pass-iterator) ≡ false) × (l.shelf ≡ l.fn.shelf);
   given : IsTrue (g.S.Shelf.honest l.fn.shelf)
       → in_turn (λ pass. (goal.Pass-dyn g (pass.vtable, pass.value)).looking pass.value)
       (λ pass. (goal.Pass-dyn g (pass.vtable, pass.value)).gives pass.value)
