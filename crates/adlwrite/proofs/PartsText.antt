@@ -5,7 +5,7 @@ use Rattle.std.proofs.lemmas.List.{append-nil}
 use Rattle.sound_terms.specs.declared.Event.{Event}
 use Rattle.list_terms.specs.Project.{Header, ListProject, Source}
 use Rattle.list_terms.specs.WrittenText.{event_line, event_lines, fade_lines, line, section, source_line, text_of_project}
-use Rattle.adlwrite.specs.Parts.{channels_behind, curve_text, ending_text, entry_numbers, entry_text, entry_times, event_section, event_text, events_text, fade_line, fade_text, file_text, head_text, header_text, index_section, index_text, lines_text, list_text, opening_text, section_text, source_text, source_times, sources_text}
+use Rattle.adlwrite.specs.Parts.{channels_behind, curve_text, ending_text, entry_numbers, entry_text, entry_times, event_text, fade_line, fade_text, file_text, head_text, header_text, index_text, list_text, opening_text, section_text, source_text, source_times}
 
 source_is_its_line :
     (project : ListProject) (source : Source) → source_text project source ≡ line (source_line project source)
@@ -45,16 +45,14 @@ event_is_its_lines project event =
 
 sources_are_their_lines :
     (project : ListProject) (sources : List Source)
-    → sources_text project sources ≡ flat_map line (flat_map (λ s. source_line project s ∷ []) sources)
-unfolding sources_text
+    → flat_map (source_text project) sources ≡ flat_map line (flat_map (λ s. source_line project s ∷ []) sources)
 sources_are_their_lines project [] = refl
 sources_are_their_lines project (s ∷ sources) =
     rw (source_is_its_line project s, sources_are_their_lines project sources) refl
 
 events_are_their_lines :
     (project : ListProject) (events : List Event)
-    → events_text project events ≡ flat_map line (flat_map (event_lines project) events)
-unfolding events_text
+    → flat_map (event_text project) events ≡ flat_map line (flat_map (event_lines project) events)
 events_are_their_lines project [] = refl
 events_are_their_lines project (e ∷ events) =
     rw (
@@ -71,8 +69,9 @@ ending_is_a_line : (name : List ℕ) → ending_text name ≡ line (codes "</" +
 unfolding ending_text
 ending_is_a_line name = simp append_assoc
 
-is_a_section : (name : List ℕ) (lines : List (List ℕ)) → section_text name lines ≡ section name (Some lines)
-unfolding section_text lines_text
+is_a_section :
+    (name : List ℕ) (lines : List (List ℕ)) → section_text name (flat_map line lines) ≡ section name (Some lines)
+unfolding section_text
 is_a_section name lines = rw (opening_is_a_line name, ending_is_a_line name) refl
 
 header_is_a_section : (name : List ℕ) (lines : Option (List (List ℕ))) → header_text name lines ≡ section name lines
@@ -89,7 +88,7 @@ regrouped b p q r s t o m e o' m' e' f = simp append_assoc
 whole_list :
     (project : ListProject)
     → list_text project project.header project.sources project.events ≡ text_of_project project
-unfolding list_text head_text index_section event_section text_of_project
+unfolding list_text head_text section_text text_of_project
 whole_list project =
     rw (
       header_is_a_section (codes "VERSION") project.header.version,

@@ -69,23 +69,14 @@ opening_text name = codes "<" ++ (name ++ codes ">\r\n")
 unfoldable pub ending_text : List ℕ → List ℕ
 ending_text name = codes "</" ++ (name ++ codes ">\r\n")
 
-unfoldable pub lines_text : List (List ℕ) → List ℕ
-lines_text lines = flat_map line lines
-
 -- a section of these lines
-unfoldable pub section_text : List ℕ → List (List ℕ) → List ℕ
-section_text name lines = opening_text name ++ (lines_text lines ++ ending_text name)
+unfoldable pub section_text : (name lines : List ℕ) → List ℕ
+section_text name lines = opening_text name ++ (lines ++ ending_text name)
 
 -- a section of the header, where it is there
 unfoldable pub header_text : List ℕ → Option (List (List ℕ)) → List ℕ
 header_text name None = []
-header_text name (Some lines) = section_text name lines
-
-unfoldable pub sources_text : ListProject → List Source → List ℕ
-sources_text project sources = flat_map (source_text project) sources
-
-unfoldable pub events_text : ListProject → List Event → List ℕ
-events_text project events = flat_map (event_text project) events
+header_text name (Some lines) = section_text name (flat_map line lines)
 
 -- the sections of the header
 unfoldable pub head_text : Header → List ℕ
@@ -94,16 +85,9 @@ head_text header =
     ++ (header_text (codes "SYSTEM") header.system ++ (header_text (codes "SEQUENCE") header.sequence
     ++ header_text (codes "TRACKLIST") header.track_list)))
 
-unfoldable pub index_section : ListProject → List Source → List ℕ
-index_section project sources =
-    opening_text (codes "SOURCE_INDEX") ++ (sources_text project sources ++ ending_text (codes "SOURCE_INDEX"))
-
-unfoldable pub event_section : ListProject → List Event → List ℕ
-event_section project events =
-    opening_text (codes "EVENT_LIST") ++ (events_text project events ++ ending_text (codes "EVENT_LIST"))
-
 -- the whole list, with the rate and the separators of the project
 unfoldable pub list_text : ListProject → Header → List Source → List Event → List ℕ
 list_text project header sources events =
-    codes "<ADL>\r\n" ++ (head_text header ++ (index_section project sources
-    ++ (event_section project events ++ codes "</ADL>\r\n")))
+    codes "<ADL>\r\n" ++ (head_text header
+    ++ (section_text (codes "SOURCE_INDEX") (flat_map (source_text project) sources)
+    ++ (section_text (codes "EVENT_LIST") (flat_map (event_text project) events) ++ codes "</ADL>\r\n")))

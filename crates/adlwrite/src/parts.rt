@@ -1,10 +1,11 @@
 // The parts of a list, each added at the end of its file. No part takes memory.
-ghost use Rattle.std.specs.Prelude.{◌≡◌, ◌-◌, IsSome, IsTrue, OnOk, codes, length, replicate};
+ghost use Rattle.std.specs.Prelude.{◌≡◌, ◌-◌, ℕ, IsSome, IsTrue, List, OnOk, codes, flat_map, length, replicate};
+ghost use Rattle.list_terms.specs.Project.{ListProject};
 ghost use Rattle.list_terms.specs.WrittenText as written;
 ghost use Rattle.list_terms.specs.WrittenText.{text_of_project, time_text};
 ghost use Rattle.adlmodel.specs.Header.{header_view};
 ghost use Rattle.devices.specs.Frame.{Appends};
-ghost use Rattle.adlwrite.specs.Parts.{all_of, channels_behind, curve_text, ending_text, entry_numbers, entry_text, entry_times, event_section, event_text, events_text, fade_line, fade_text, file_text, head_text, header_text, index_section, index_text, lines_text, list_text, opening_text, section_text, source_text, source_times, sources_text};
+ghost use Rattle.adlwrite.specs.Parts.{all_of, channels_behind, curve_text, ending_text, entry_numbers, entry_text, entry_times, event_text, fade_line, fade_text, file_text, head_text, header_text, index_text, list_text, opening_text, section_text, source_text, source_times};
 
 use adlmodel::{Bytes, Channels, Event, Header, KeptLines, Project, Source};
 use devices::{Bench, DeviceFault};
@@ -108,20 +109,6 @@ fn put_source_times<B: Bench>(
     put(bench, name, &[b" ", start, b" ", length, b"\r\n"])
 }
 
-/// The line of a source.
-fn put_source<B: Bench>(
-    bench: &mut B,
-    name: &str,
-    project: &Project,
-    source: &Source,
-) -> Result<(), DeviceFault>
-    ensures { Appends B.Bench name.now (source_text project.now source.now) bench.old bench.new result }
-{
-    put_index(bench, name, source)?;
-    put_file(bench, name, source)?;
-    put_source_times(bench, name, project, source)
-}
-
 /// The numbers of an entry.
 #[tactic(auto, unfolding(crate::specs::Parts::entry_numbers, crate::specs::Parts::all_of))]
 fn put_numbers<B: Bench>(bench: &mut B, name: &str, event: &Event) -> Result<(), DeviceFault>
@@ -219,20 +206,6 @@ fn put_fade<B: Bench>(
     put_fade_line(bench, name, project, keyword, length)
 }
 
-/// The lines of an entry.
-fn put_event<B: Bench>(
-    bench: &mut B,
-    name: &str,
-    project: &Project,
-    event: &Event,
-) -> Result<(), DeviceFault>
-    ensures { Appends B.Bench name.now (event_text project.now event.now) bench.old bench.new result }
-{
-    put_entry(bench, name, project, event)?;
-    put_fade(bench, name, project, b"(Infade) ", event.rise.length)?;
-    put_fade(bench, name, project, b"(Outfade) ", event.fall.length)
-}
-
 /// The line that opens a section.
 #[tactic(auto, unfolding(crate::specs::Parts::opening_text, crate::specs::Parts::all_of))]
 fn put_opening<B: Bench>(bench: &mut B, name: &str, section: &[u8]) -> Result<(), DeviceFault>
@@ -249,35 +222,91 @@ fn put_ending<B: Bench>(bench: &mut B, name: &str, section: &[u8]) -> Result<(),
     put(bench, name, &[b"</", section, b">\r\n"])
 }
 
-/// A line as it stands.
-#[tactic(auto, unfolding(crate::specs::Parts::all_of))]
-fn put_line<B: Bench>(bench: &mut B, name: &str, line: &Bytes) -> Result<(), DeviceFault>
-    ensures { Appends B.Bench name.now (written.line line.now) bench.old bench.new result }
-{
-    put(bench, name, &[line.as_slice(), b"\r\n"])
+/// What is written as lines of their own.
+trait InLines {
+    /// These lines, in a list of this project.
+    ghost text: { ListProject → Self → List ℕ };
+
+    /// Adds them.
+    fn put<B: Bench>(&self, bench: &mut B, name: &str, project: &Project) -> Result<(), DeviceFault>
+        ensures { Appends B.Bench name.now (text project.now self.now) bench.old bench.new result };
 }
 
-/// Lines as they stand.
-fn put_lines<B: Bench>(bench: &mut B, name: &str, lines: &[Bytes]) -> Result<(), DeviceFault>
-    ensures { Appends B.Bench name.now (lines_text lines.now) bench.old bench.new result }
+/// A line as it stands.
+impl InLines for Bytes {
+    ghost text = { λ _ line. written.line line };
+
+    #[tactic(auto, unfolding(crate::specs::Parts::all_of))]
+    fn put<B: Bench>(
+        &self,
+        bench: &mut B,
+        name: &str,
+        _project: &Project,
+    ) -> Result<(), DeviceFault> {
+        put(bench, name, &[self.as_slice(), b"\r\n"])
+    }
+}
+
+/// The line of a source.
+impl InLines for Source {
+    ghost text = { source_text };
+
+    fn put<B: Bench>(
+        &self,
+        bench: &mut B,
+        name: &str,
+        project: &Project,
+    ) -> Result<(), DeviceFault> {
+        put_index(bench, name, self)?;
+        put_file(bench, name, self)?;
+        put_source_times(bench, name, project, self)
+    }
+}
+
+/// The lines of an entry.
+impl InLines for Event {
+    ghost text = { event_text };
+
+    fn put<B: Bench>(
+        &self,
+        bench: &mut B,
+        name: &str,
+        project: &Project,
+    ) -> Result<(), DeviceFault> {
+        put_entry(bench, name, project, self)?;
+        put_fade(bench, name, project, b"(Infade) ", self.rise.length)?;
+        put_fade(bench, name, project, b"(Outfade) ", self.fall.length)
+    }
+}
+
+/// The lines of all of these.
+fn put_lines<B: Bench, L: InLines>(
+    bench: &mut B,
+    name: &str,
+    project: &Project,
+    content: &[L],
+) -> Result<(), DeviceFault>
+    ensures { Appends B.Bench name.now (flat_map (L.text project.now) content.now) bench.old bench.new result }
 {
-    for line in lines {
-        put_line(bench, name, line)?;
+    for lines in content {
+        lines.put(bench, name, project)?;
     }
     Ok(())
 }
 
 /// A section of these lines.
-fn put_section<B: Bench>(
+fn put_section<B: Bench, L: InLines>(
     bench: &mut B,
     name: &str,
+    project: &Project,
     section: &[u8],
-    lines: &[Bytes],
+    content: &[L],
 ) -> Result<(), DeviceFault>
-    ensures { Appends B.Bench name.now (section_text section.now lines.now) bench.old bench.new result }
+    ensures { Appends B.Bench name.now
+        (section_text section.now (flat_map (L.text project.now) content.now)) bench.old bench.new result }
 {
     put_opening(bench, name, section)?;
-    put_lines(bench, name, lines)?;
+    put_lines(bench, name, project, content)?;
     put_ending(bench, name, section)
 }
 
@@ -286,84 +315,32 @@ fn put_section<B: Bench>(
 fn put_header<B: Bench>(
     bench: &mut B,
     name: &str,
+    project: &Project,
     section: &[u8],
     lines: &Option<KeptLines>,
 ) -> Result<(), DeviceFault>
     ensures { Appends B.Bench name.now (header_text section.now lines.now) bench.old bench.new result }
 {
     match lines {
-        Some(lines) => put_section(bench, name, section, lines.as_slice()),
+        Some(lines) => put_section(bench, name, project, section, lines.as_slice()),
         None => Ok(()),
     }
 }
 
 /// The sections of the header.
-fn put_head<B: Bench>(bench: &mut B, name: &str, header: &Header) -> Result<(), DeviceFault>
+fn put_head<B: Bench>(
+    bench: &mut B,
+    name: &str,
+    project: &Project,
+    header: &Header,
+) -> Result<(), DeviceFault>
     ensures { Appends B.Bench name.now (head_text (header_view header.now)) bench.old bench.new result }
 {
-    put_header(bench, name, b"VERSION", &header.version)?;
-    put_header(bench, name, b"PROJECT", &header.project)?;
-    put_header(bench, name, b"SYSTEM", &header.system)?;
-    put_header(bench, name, b"SEQUENCE", &header.sequence)?;
-    put_header(bench, name, b"TRACKLIST", &header.track_list)
-}
-
-/// The lines of these sources.
-fn put_sources<B: Bench>(
-    bench: &mut B,
-    name: &str,
-    project: &Project,
-    sources: &[Source],
-) -> Result<(), DeviceFault>
-    ensures { Appends B.Bench name.now (sources_text project.now sources.now) bench.old bench.new result }
-{
-    for source in sources {
-        put_source(bench, name, project, source)?;
-    }
-    Ok(())
-}
-
-/// The source index.
-fn put_index_section<B: Bench>(
-    bench: &mut B,
-    name: &str,
-    project: &Project,
-    sources: &[Source],
-) -> Result<(), DeviceFault>
-    ensures { Appends B.Bench name.now (index_section project.now sources.now) bench.old bench.new result }
-{
-    put_opening(bench, name, b"SOURCE_INDEX")?;
-    put_sources(bench, name, project, sources)?;
-    put_ending(bench, name, b"SOURCE_INDEX")
-}
-
-/// The lines of these events.
-fn put_events<B: Bench>(
-    bench: &mut B,
-    name: &str,
-    project: &Project,
-    events: &[Event],
-) -> Result<(), DeviceFault>
-    ensures { Appends B.Bench name.now (events_text project.now events.now) bench.old bench.new result }
-{
-    for event in events {
-        put_event(bench, name, project, event)?;
-    }
-    Ok(())
-}
-
-/// The event list.
-fn put_event_section<B: Bench>(
-    bench: &mut B,
-    name: &str,
-    project: &Project,
-    events: &[Event],
-) -> Result<(), DeviceFault>
-    ensures { Appends B.Bench name.now (event_section project.now events.now) bench.old bench.new result }
-{
-    put_opening(bench, name, b"EVENT_LIST")?;
-    put_events(bench, name, project, events)?;
-    put_ending(bench, name, b"EVENT_LIST")
+    put_header(bench, name, project, b"VERSION", &header.version)?;
+    put_header(bench, name, project, b"PROJECT", &header.project)?;
+    put_header(bench, name, project, b"SYSTEM", &header.system)?;
+    put_header(bench, name, project, b"SEQUENCE", &header.sequence)?;
+    put_header(bench, name, project, b"TRACKLIST", &header.track_list)
 }
 
 /// The first line of a list, at the end of the file, which has to be there.
@@ -388,9 +365,9 @@ fn put_parts<B: Bench>(
     ensures there { IsTrue (B.honest bench.old) → OnOk result (IsSome (B.stored bench.old name.now)) }
 {
     put_start(bench, name)?;
-    put_head(bench, name, header)?;
-    put_index_section(bench, name, project, sources)?;
-    put_event_section(bench, name, project, events)?;
+    put_head(bench, name, project, header)?;
+    put_section(bench, name, project, b"SOURCE_INDEX", sources)?;
+    put_section(bench, name, project, b"EVENT_LIST", events)?;
     put_text(bench, name, b"</ADL>\r\n")
 }
 

@@ -1,5 +1,5 @@
 -- The `fmt ` chunk of PCM is read as it was written.
-use Rattle.std.proofs.Common.{◌≡◌, ℕ, ◌*◌, ◌/◌, ◌<◌, ◌≤◌, Some, List, [], ◌++◌, length, refl, sym, ap, ◌∙◌, arith, length-append, Ok, le-leb, eq-eqb}
+use Rattle.std.proofs.Common.{◌≡◌, ℕ, ◌*◌, ◌/◌, ◌<◌, ◌≤◌, Some, List, [], ◌++◌, length, refl, ap, ◌∙◌, arith, length-append, Ok, le-leb, eq-eqb}
 use Rattle.std.proofs.lemmas.List.{append_assoc, append-nil, drop_at}
 use Rattle.byteorder.specs.Endian.{little_number}
 use Rattle.sound_terms.specs.Waves.{u16_bytes, u32_bytes}
@@ -31,48 +31,46 @@ tag_told tag channels rate speed frame depth below =
     u16-reads_back tag (u16_bytes channels ++ (u32_bytes rate
     ++ (u32_bytes speed ++ (u16_bytes frame ++ u16_bytes depth)))) below
 
+-- a field behind these bytes is read
+field_told : (width at value : ℕ) (bytes front field rest : List ℕ) → length front ≡ at
+    → bytes ≡ front ++ (field ++ rest) → little_number width (field ++ rest) ≡ value → number_at width at bytes ≡ value
+field_told width at value bytes front field rest long grouped read =
+    ap (number_at width at) grouped ∙ ap (little_number width) (drop_at front (field ++ rest) at long) ∙ read
+
 channels_told : (tag channels rate speed frame depth : ℕ) → channels < 65536
     → number_at 2 2 (format_bytes tag channels rate speed frame depth) ≡ channels
 unfolding format_bytes
 channels_told tag channels rate speed frame depth below =
     let rest = u32_bytes rate ++ (u32_bytes speed ++ (u16_bytes frame ++ u16_bytes depth)) in
-    ap (little_number 2) (drop_at (u16_bytes tag) (u16_bytes channels ++ rest) 2 (length-u16_bytes tag))
-    ∙ u16-reads_back channels rest below
+    field_told 2 2 channels (format_bytes tag channels rate speed frame depth) (u16_bytes tag) (u16_bytes channels) rest
+    (length-u16_bytes tag) refl (u16-reads_back channels rest below)
 
 rate_told : (tag channels rate speed frame depth : ℕ) → rate < 4294967296
     → number_at 4 4 (format_bytes tag channels rate speed frame depth) ≡ rate
 unfolding format_bytes
 rate_told tag channels rate speed frame depth below =
-    let front = u16_bytes tag ++ u16_bytes channels in
     let rest = u32_bytes speed ++ (u16_bytes frame ++ u16_bytes depth) in
-    let long : length front ≡ 4 = simp (length-append, length-u16_bytes) (omega arith) in
-    let grouped : format_bytes tag channels rate speed frame depth ≡ front ++ (u32_bytes rate ++ rest) =
-    simp append_assoc in
-    ap (number_at 4 4) grouped ∙ ap (little_number 4) (drop_at front (u32_bytes rate ++ rest) 4 long)
-    ∙ u32-reads_back rate rest below
+    field_told 4 4 rate (format_bytes tag channels rate speed frame depth) (u16_bytes tag ++ u16_bytes channels)
+    (u32_bytes rate) rest (simp (length-append, length-u16_bytes) (omega arith)) (simp append_assoc)
+    (u32-reads_back rate rest below)
 
 frame_told : (tag channels rate speed frame depth : ℕ) → frame < 65536
     → number_at 2 12 (format_bytes tag channels rate speed frame depth) ≡ frame
 unfolding format_bytes
 frame_told tag channels rate speed frame depth below =
-    let front = u16_bytes tag ++ (u16_bytes channels ++ (u32_bytes rate ++ u32_bytes speed)) in
-    let rest = u16_bytes depth in
-    let long : length front ≡ 12 = simp (length-append, length-u16_bytes, length-u32_bytes) (omega arith) in
-    let grouped : format_bytes tag channels rate speed frame depth ≡ front ++ (u16_bytes frame ++ rest) =
-    simp append_assoc in
-    ap (number_at 2 12) grouped ∙ ap (little_number 2) (drop_at front (u16_bytes frame ++ rest) 12 long)
-    ∙ u16-reads_back frame rest below
+    field_told 2 12 frame (format_bytes tag channels rate speed frame depth)
+    (u16_bytes tag ++ (u16_bytes channels ++ (u32_bytes rate ++ u32_bytes speed))) (u16_bytes frame) (u16_bytes depth)
+    (simp (length-append, length-u16_bytes, length-u32_bytes) (omega arith)) (simp append_assoc)
+    (u16-reads_back frame (u16_bytes depth) below)
 
 depth_told : (tag channels rate speed frame depth : ℕ) → depth < 65536
     → number_at 2 14 (format_bytes tag channels rate speed frame depth) ≡ depth
 unfolding format_bytes
 depth_told tag channels rate speed frame depth below =
-    let front = u16_bytes tag ++ (u16_bytes channels ++ (u32_bytes rate ++ (u32_bytes speed ++ u16_bytes frame))) in
-    let long : length front ≡ 14 = simp (length-append, length-u16_bytes, length-u32_bytes) (omega arith) in
-    let end : u16_bytes depth ≡ u16_bytes depth ++ [] = sym (append-nil (u16_bytes depth)) in
-    let grouped : format_bytes tag channels rate speed frame depth ≡ front ++ u16_bytes depth = simp append_assoc in
-    ap (number_at 2 14) grouped ∙ ap (little_number 2) (drop_at front (u16_bytes depth) 14 long ∙ end)
-    ∙ u16-reads_back depth [] below
+    field_told 2 14 depth (format_bytes tag channels rate speed frame depth)
+    (u16_bytes tag ++ (u16_bytes channels ++ (u32_bytes rate ++ (u32_bytes speed ++ u16_bytes frame))))
+    (u16_bytes depth) [] (simp (length-append, length-u16_bytes, length-u32_bytes) (omega arith))
+    (simp (append_assoc, append-nil)) (u16-reads_back depth [] below)
 
 -- a depth is known by its bits
 depth_named_again : (depth : Depth) → depth_of (bits_of depth) ≡ Some depth

@@ -31,30 +31,17 @@ pub rf64_front_is : (form sound frames : ℕ)
 unfolding rf64_front ds64_bytes u32_bytes zeros
 rf64_front_is form sound frames = refl
 
--- its first twelve bytes, and those of `ds64`
-not_riff : (form sound frames : ℕ) (rest : List ℕ)
-    → stands_at (codes "RIFF") 0 (rf64_front form sound frames ++ rest) ≡ false
-unfolding rf64_front chunk_head u32_bytes
-not_riff form sound frames rest = refl
+-- what its first twelve bytes tell, and the head of `ds64`
+record TellsRf64 (bytes : List ℕ) : Type 0 where
+  not_riff : stands_at (codes "RIFF") 0 bytes ≡ false
+  rf64 : stands_at (codes "RF64") 0 bytes ≡ true
+  wave : stands_at (codes "WAVE") 8 bytes ≡ true
+  ds64 : stands_at (codes "ds64") 12 bytes ≡ true
+  size : ds64_size bytes ≡ 28
 
-begins_rf64 : (form sound frames : ℕ) (rest : List ℕ)
-    → stands_at (codes "RF64") 0 (rf64_front form sound frames ++ rest) ≡ true
+front_told : (form sound frames : ℕ) (rest : List ℕ) → TellsRf64 (rf64_front form sound frames ++ rest)
 unfolding rf64_front chunk_head u32_bytes
-begins_rf64 form sound frames rest = refl
-
-tells_wave : (form sound frames : ℕ) (rest : List ℕ)
-    → stands_at (codes "WAVE") 8 (rf64_front form sound frames ++ rest) ≡ true
-unfolding rf64_front chunk_head u32_bytes
-tells_wave form sound frames rest = refl
-
-has_ds64 : (form sound frames : ℕ) (rest : List ℕ)
-    → stands_at (codes "ds64") 12 (rf64_front form sound frames ++ rest) ≡ true
-unfolding rf64_front chunk_head u32_bytes
-has_ds64 form sound frames rest = refl
-
-ds64_size-told : (form sound frames : ℕ) (rest : List ℕ) → ds64_size (rf64_front form sound frames ++ rest) ≡ 28
-unfolding rf64_front chunk_head u32_bytes
-ds64_size-told form sound frames rest = refl
+front_told form sound frames rest = record { not_riff = refl; rf64 = refl; wave = refl; ds64 = refl; size = refl }
 
 -- the fields of `ds64`
 ds64_stands : (form sound frames : ℕ) (rest : List ℕ)
@@ -86,7 +73,8 @@ ds64_found form sound frames rest sizes =
     let long : 48 ≤ length file =
     omega (arith, length-append (rf64_front form sound frames) rest, length-rf64_front form sound frames) in
     let inside = le-leb (20 + 28) (length file) long in
-    rw (has_ds64 form sound frames rest, ds64_size-told form sound frames rest, inside, ds64_stands form sound frames rest)
+    let told = front_told form sound frames rest in
+    rw (told.ds64, told.size, inside, ds64_stands form sound frames rest)
     (ds64_again form sound frames sizes.form_fits sizes.sound_fits sizes.frames_fit)
 
 -- the file whose `ds64` tells these sizes
@@ -113,7 +101,7 @@ chunks_in-rf64 form data_size frames bext_size bext format sound whole =
     let long = length-rf64_file form data_size frames bext_size bext format sound in
     let fuel : length file ≡ suc (suc (suc (length file - 3))) = omega (arith, long) in
     let behind : drop 48 file ≡ rest = drop_at front rest 48 (length-rf64_front form data_size frames) in
-    rw (ds64_size-told form data_size frames rest) (ap (λ n. chunks_from (size_in data_size []) n 48 (drop 48 file)) fuel
+    rw (front_told form data_size frames rest).size (ap (λ n. chunks_from (size_in data_size []) n 48 (drop 48 file)) fuel
     ∙ ap (chunks_from (size_in data_size []) (suc (suc (suc (length file - 3)))) 48) behind
     ∙ wave_read (size_in data_size []) (length file - 3) bext_size 4294967295 data_size bext format sound whole)
 
@@ -143,11 +131,12 @@ rf64_walked form data_size frames bext_size bext format sound sizes whole =
     let format_place : 56 + (bext_size + bext_size % 2) + 8 ≡ 64 + (bext_size + bext_size % 2) = omega arith in
     let sound_place : 80 + (bext_size + bext_size % 2) + 8 ≡ 88 + (bext_size + bext_size % 2) = omega arith in
     let none = faultless (length file) bext_size data_size (omega (arith, long)) in
+    let told = front_told form data_size frames rest in
     rw (
       enough,
-      not_riff form data_size frames rest,
-      begins_rf64 form data_size frames rest,
-      tells_wave form data_size frames rest,
+      told.not_riff,
+      told.rf64,
+      told.wave,
       ds64_found form data_size frames rest sizes,
       chunks_in-rf64 form data_size frames bext_size bext format sound whole,
       none,

@@ -14,28 +14,28 @@ returns-in_err-put_head-clause-appends g c =
     (stopped g.B.Bench c.args.name.now _ _ c.from_residual-in_err-put_head.result
     c.from_residual-in_err-put_head.ensures.1 c.in_err-put_head.ensures)
 
-pub returns-in_err-put_index_section-clause-appends : goal.returns-in_err-put_index_section-clause-appends
+pub returns-in_err-put_section-clause-appends : goal.returns-in_err-put_section-clause-appends
 unfolding list_text
-returns-in_err-put_index_section-clause-appends g c =
+returns-in_err-put_section-clause-appends g c =
     and_then g.B.Bench c.args.name.now c.in_ok-put_start.ensures.appends
     (and_then g.B.Bench c.args.name.now c.in_ok-put_head.ensures
-    (stopped g.B.Bench c.args.name.now _ _ c.from_residual-in_err-put_index_section.result
-    c.from_residual-in_err-put_index_section.ensures.1 c.in_err-put_index_section.ensures))
+    (stopped g.B.Bench c.args.name.now _ _ c.from_residual-in_err-put_section.result
+    c.from_residual-in_err-put_section.ensures.1 c.in_err-put_section.ensures))
 
-pub returns-in_err-put_event_section-clause-appends : goal.returns-in_err-put_event_section-clause-appends
+pub returns-in_err-put_section-2-clause-appends : goal.returns-in_err-put_section-2-clause-appends
 unfolding list_text
-returns-in_err-put_event_section-clause-appends g c =
+returns-in_err-put_section-2-clause-appends g c =
     and_then g.B.Bench c.args.name.now c.in_ok-put_start.ensures.appends
     (and_then g.B.Bench c.args.name.now c.in_ok-put_head.ensures
-    (and_then g.B.Bench c.args.name.now c.in_ok-put_index_section.ensures
-    (stopped g.B.Bench c.args.name.now _ _ c.from_residual-in_err-put_event_section.result
-    c.from_residual-in_err-put_event_section.ensures.1 c.in_err-put_event_section.ensures)))
+    (and_then g.B.Bench c.args.name.now c.in_ok-put_section.ensures
+    (stopped g.B.Bench c.args.name.now _ _ c.from_residual-in_err-put_section-2.result
+    c.from_residual-in_err-put_section-2.ensures.1 c.in_err-put_section-2.ensures)))
 
 pub returns-clause-appends : goal.returns-clause-appends
 unfolding list_text
 returns-clause-appends g c =
     and_then g.B.Bench c.args.name.now c.in_ok-put_start.ensures.appends
     (and_then g.B.Bench c.args.name.now c.in_ok-put_head.ensures
-    (and_then g.B.Bench c.args.name.now c.in_ok-put_index_section.ensures
-    (and_then g.B.Bench c.args.name.now c.in_ok-put_event_section.ensures
+    (and_then g.B.Bench c.args.name.now c.in_ok-put_section.ensures
+    (and_then g.B.Bench c.args.name.now c.in_ok-put_section-2.ensures
     c.put_text.ensures)))

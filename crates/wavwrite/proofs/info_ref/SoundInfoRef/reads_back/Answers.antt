@@ -1,16 +1,10 @@
-use Rattle.wavwrite.proofs.FileInfo.{IsInfo}
 use Rattle.wavwrite.proofs.FileReads.{length-header_of, reads_back, samples_stand}
 use Rattle.wavwrite.proofs.RenderReads.{render_reads_back}
 use Rattle.wavwrite.proofs.info_ref.SoundInfoRef.reads_back.Goals as goal
 
 pub returns-clause-reads_back : goal.returns-clause-reads_back
 returns-clause-reads_back c = λ name samples fits counted.
-    let info = c.args.self.now in
-    let is : IsInfo info = record {
-      within = c.channels.ensures.within;
-      fits = fits;
-    } in
-    reads_back name info samples is counted
+    reads_back name c.args.self.now samples (record { within = c.channels.ensures.within; fits = fits }) counted
 
 pub returns-clause-data_stands : goal.returns-clause-data_stands
 returns-clause-data_stands c =
@@ -18,12 +12,7 @@ returns-clause-data_stands c =
 
 pub returns-clause-rendered : goal.returns-clause-rendered
 returns-clause-rendered c = λ range mix fits same.
-    let info = c.args.self.now in
-    let is : IsInfo info = record {
-      within = c.channels.ensures.within;
-      fits = fits;
-    } in
-    render_reads_back info range mix is same
+    render_reads_back c.args.self.now range mix (record { within = c.channels.ensures.within; fits = fits }) same
 
 pub returns-clause-head : goal.returns-clause-head
 returns-clause-head c = length-header_of c.args.self.now c.channels.ensures.within.text_whole

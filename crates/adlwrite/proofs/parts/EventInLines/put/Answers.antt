@@ -1,6 +1,6 @@
 use Rattle.adlwrite.specs.Parts.{event_text}
 use Rattle.devices.specs.AppendLaws.{and_then, stopped}
-use Rattle.adlwrite.proofs.parts.put_event.Goals as goal
+use Rattle.adlwrite.proofs.parts.EventInLines.put.Goals as goal
 
 pub returns-in_err-put_entry : goal.returns-in_err-put_entry
 unfolding event_text

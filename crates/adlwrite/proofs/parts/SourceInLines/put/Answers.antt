@@ -1,6 +1,6 @@
 use Rattle.adlwrite.specs.Parts.{source_text}
 use Rattle.devices.specs.AppendLaws.{and_then, stopped}
-use Rattle.adlwrite.proofs.parts.put_source.Goals as goal
+use Rattle.adlwrite.proofs.parts.SourceInLines.put.Goals as goal
 
 pub returns-in_err-put_index : goal.returns-in_err-put_index
 unfolding source_text
