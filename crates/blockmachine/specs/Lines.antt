@@ -1,10 +1,11 @@
 -- The lines of a program that are added to sums.
-use Rattle.std.specs.Prelude.{◌≡◌, ℕ, ◌*◌, ◌≤◌, pos, List, All, IsSomeAnd}
+use Rattle.std.specs.Prelude.{◌≡◌, ℕ, ◌*◌, ◌≤◌, ℤ, pos, List, All, IsSomeAnd, length}
+use Rattle.sound_terms.specs.declared.Depth.{Depth}
 use Rattle.sound_terms.specs.declared.block.Stretch.{Stretch}
 use Rattle.sound_terms.specs.declared.block.Instruction.{Instruction}
 use Rattle.sound_terms.specs.declared.piece.Shape.{Shape}
 use Rattle.sound_terms.specs.Groups.{IsRamp}
-use Rattle.sound_terms.specs.Blocks.{BlockState, FitsBlock, addition_of}
+use Rattle.sound_terms.specs.Blocks.{BlockState, FitsBlock, IsBlockProgram, LiesInFiles, Programmed, addition_of}
 use Rattle.sound_terms.specs.Media.{LiesInFile}
 use Rattle.sound_terms.specs.Sounds.{SoundFacts}
 use Rattle.blockmachine.specs.Sums.{Extent}
@@ -28,3 +29,16 @@ pub record CanSum (sounds : List SoundFacts) (extent : Extent) (program : List I
 -- nothing was added to the block so far
 abbrev pub silent : BlockState → BlockState
 silent state = record state { sums = λ i channel. pos 0 }
+
+-- as many sums as some whole frames have that there is room for
+abbrev pub FillFrames : Extent → List ℤ → Type 0
+FillFrames extent sums = (frames : ℕ) × (frames ≤ extent.frames) × (length sums ≡ frames * extent.channels)
+
+-- a program of a block that there is room for, and as many samples as this block has
+abbrev pub CanRun : Extent → Programmed → List ℤ → Type 0
+CanRun extent program out = (frames : ℕ) × (depth : Depth) × (frames ≤ extent.frames)
+    × IsBlockProgram frames extent.channels depth program.lines × (length out ≡ frames * extent.channels)
+
+-- all that it plays lies in these files
+abbrev pub PlaysWithin : List SoundFacts → Programmed → Type 0
+PlaysWithin sounds program = All (LiesInFiles sounds) program.lines

@@ -1,9 +1,11 @@
 -- The sums of a block as a machine keeps them: frame after frame.
 use Rattle.std.specs.Prelude.{◌≡◌, ◌⊎◌, ℕ, ◌+◌, ◌-◌, ◌*◌, ◌^◌, ◌<◌, ◌≤◌, Bool, true, ℤ, pos, neg_ℤ, ◌+ℤ◌, ◌≤ℤ◌, List, All, IsTrue, length, map, slice_index_or, if◌then◌else◌}
+use Rattle.sound_terms.specs.declared.Depth.{Depth}
 use Rattle.sound_terms.specs.declared.block.Stretch.{Stretch}
 use Rattle.sound_terms.specs.declared.piece.Shape.{Shape}
 use Rattle.sound_terms.specs.declared.piece.Shape.TheVariants.{Flat}
-use Rattle.sound_terms.specs.Mix.{Reading, full_scale, share_of}
+use Rattle.sound_terms.specs.Depth.{bits_of}
+use Rattle.sound_terms.specs.Mix.{Reading, full_scale, quantized, share_of}
 use Rattle.sound_terms.specs.Blocks.{FitsBlock, held, sums_with}
 use Rattle.pcm.specs.Samples.{FitsDepth}
 use Rattle.blockmachine.specs.Playing.{Plays}
@@ -123,3 +125,17 @@ abbrev pub HasPlayed : Stretch → Shape → (source depth : ℕ) → (frames : 
 HasPlayed stretch shape source depth frames old new =
     (reading : Reading) → Plays reading stretch source depth frames → (before : ℕ → ℕ → ℤ) → AreSums old before
     → AreSums new (sums_with reading stretch shape before)
+
+-- all are zero
+abbrev pub AreZero : List ℤ → Type 0
+AreZero sums = (k : ℕ) → slice_index_or sums k (pos 0) ≡ pos 0
+
+-- the first sums are handed out, rounded and clipped to a depth
+abbrev pub Emits : Depth → (sums samples : List ℤ) → Type 0
+Emits depth sums samples = (k : ℕ) → k < length samples
+    → slice_index_or samples k (pos 0) ≡ quantized (bits_of depth) (slice_index_or sums k (pos 0))
+
+-- so are sums that are kept at a depth
+abbrev pub EmitsAt : (kept depth : Depth) → (sums samples : List ℤ) → Type 0
+EmitsAt kept depth sums samples = (k : ℕ) → k < length samples → slice_index_or samples k (pos 0)
+    ≡ quantized (bits_of depth) (full_scale (bits_of kept) (slice_index_or sums k (pos 0)))

@@ -1,10 +1,10 @@
 // Frames of a stretch, added to sums.
-ghost use Rattle.std.specs.Prelude.{if◌then◌else◌, IsTrue, true, ◌≡◌, ◌∷◌, [], ◌^◌, ◌<◌, ◌≤◌, pos, neg_ℤ, ◌+ℤ◌, ◌≤ℤ◌, length, slice_index_or};
+ghost use Rattle.std.specs.Prelude.{if◌then◌else◌, IsTrue, true, ◌≡◌, ◌∷◌, [], ◌<◌, ◌≤◌, pos, ◌+ℤ◌, length, slice_index_or};
 ghost use Rattle.sound_terms.specs.declared.piece.Shape.TheVariants as shape;
 ghost use Rattle.sound_terms.specs.Depth.{bits_of};
 ghost use Rattle.sound_terms.specs.Mix.{full_scale};
 ghost use Rattle.sound_terms.specs.Blocks.{held};
-ghost use Rattle.blockmachine.specs.Sums.{HasAdded, HasAddedTo, HasPlayed, TakeRows, TakeSamples, TakeShare, TakeStretch, block_of};
+ghost use Rattle.blockmachine.specs.Sums.{HasAdded, HasAddedTo, HasPlayed, IsWithin, TakeRows, TakeSamples, TakeShare, TakeStretch, block_of};
 
 use crate::frames::{Frames, Lanes, Played, Row};
 use crate::slope::Slope;
@@ -30,7 +30,7 @@ fn added(sum: i64, share: i64, is_small: bool) -> i64
 fn full_sample(row: &Row, k: usize) -> i64
     requires { k < length row.now.samples.now }
     ensures value { result ≡ full_scale (bits_of row.now.scale.depth) (slice_index_or row.now.samples.now k (pos 0)) }
-    ensures within { (neg_ℤ (pos (2 ^ 47)) ≤ℤ result) × (result ≤ℤ pos (2 ^ 47)) }
+    ensures within { IsWithin 1 result }
 {
     row.scale.widen(row.samples[k])
 }

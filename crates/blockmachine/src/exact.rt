@@ -1,12 +1,13 @@
 // The exact sums of a block, before any rounding.
-ghost use Rattle.std.specs.Prelude.{◌≡◌, ◌*◌, ◌≤◌, ℕ, ℤ, IsTrue, IfErr, OnOk, length};
+ghost use Rattle.std.specs.Prelude.{◌≡◌, ◌*◌, ℕ, ℤ, IsTrue, IfErr, OnOk, length};
 ghost use Rattle.std.specs.List.{All};
 ghost use Rattle.sound_terms.specs.declared.Depth as declared;
-ghost use Rattle.sound_terms.specs.Blocks.{BlockState, IsBlockProgram, LiesInFiles, PlaysFull, executed_all};
+ghost use Rattle.sound_terms.specs.Blocks.{BlockState, IsBlockProgram, PlaysFull, executed_all};
 ghost use Rattle.sound_terms.specs.Sounds.{reading_by};
 ghost use Rattle.devices.specs.Frame.{OnlyReads};
 ghost use Rattle.blockmachine.specs.Exact.{AreSumsOf};
 ghost use Rattle.blockmachine.specs.Fault.{FailsAt, IsSource};
+ghost use Rattle.blockmachine.specs.Lines.{CanRun, FillFrames, PlaysWithin};
 ghost use Rattle.blockmachine.specs.Sums.{AreSums};
 
 use crate::layers::widen_all;
@@ -20,8 +21,7 @@ use wavread::Sound;
 impl Sums {
     /// Hands out the first sums at full scale, as many as there is room for.
     fn put(&self, out: &mut [i64])
-        requires { (frames : ℕ) × (frames ≤ self.now.extent.frames)
-            × (length out.old ≡ frames * self.now.extent.channels) }
+        requires { FillFrames self.now.extent out.old }
         ensures { (all : ℕ → ℕ → ℤ) → AreSums self.now all → (frames : ℕ)
             → length out.old ≡ frames * self.now.extent.channels
             → AreSumsOf frames self.now.extent.channels out.new all }
@@ -47,10 +47,8 @@ impl Machine {
         shelf: &mut S,
         out: &mut [i64],
     ) -> Result<(), MachineFault>
-        requires fits { (frames : ℕ) × (depth : declared.Depth) × (frames ≤ self.old.frames)
-            × IsBlockProgram frames self.old.channels depth program.now.lines
-            × (length out.old ≡ frames * self.old.channels) }
-        requires inside { All (LiesInFiles sounds.now) program.now.lines }
+        requires fits { CanRun self.old program.now out.old }
+        requires inside { PlaysWithin sounds.now program.now }
         ensures summed { IsTrue (S.honest shelf.old)
             → OnOk result ((frames : ℕ) (depth : declared.Depth) (start : BlockState)
             → IsBlockProgram frames self.old.channels depth program.now.lines

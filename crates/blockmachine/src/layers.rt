@@ -1,11 +1,11 @@
 // Sums at the depth of their block, of samples that are no deeper and that nothing fades: 32 bits have room for them.
-ghost use Rattle.std.specs.Prelude.{IsTrue, true, ◌≡◌, ◌*◌, ◌<◌, ◌≤◌, ℕ, pos, ◌+ℤ◌, length, slice_index_or};
+ghost use Rattle.std.specs.Prelude.{IsTrue, true, ◌≡◌, ◌*◌, ◌≤◌, ◌+ℤ◌, length};
 ghost use Rattle.std.specs.List.{All};
 ghost use Rattle.sound_terms.specs.Depth.{bits_of};
 ghost use Rattle.sound_terms.specs.Mix.{full_scale, quantized};
 ghost use Rattle.sound_terms.specs.Blocks.{held};
 ghost use Rattle.pcm.specs.Samples.{FitsDepth, samples_in};
-ghost use Rattle.blockmachine.specs.Sums.{CanWiden, HasAdded, HasPlayed, IsLayer, TakeLayer, TakeSample, TakeSamples, block_of, kept_sums, widened};
+ghost use Rattle.blockmachine.specs.Sums.{AreZero, CanWiden, EmitsAt, HasAdded, HasPlayed, IsLayer, TakeLayer, TakeSample, TakeSamples, block_of, kept_sums, widened};
 
 use crate::addition::is_run;
 use crate::frames::{Frames, Lanes, Played, Stored};
@@ -163,7 +163,7 @@ fn widen_by(scale: Scale, layers: &[i32], values: &mut [i64])
 
 /// Every sum is zero.
 pub fn set_to_zero(sums: &mut [i32])
-    ensures { (k : ℕ) → slice_index_or sums.new k (pos 0) ≡ pos 0 }
+    ensures { AreZero sums.new }
 {
     for sum in sums.iter_mut() {
         *sum = 0;
@@ -172,7 +172,7 @@ pub fn set_to_zero(sums: &mut [i32])
 
 /// The same of sums at full scale.
 fn set_wide_to_zero(sums: &mut [i64])
-    ensures { (k : ℕ) → slice_index_or sums.new k (pos 0) ≡ pos 0 }
+    ensures { AreZero sums.new }
 {
     for sum in sums.iter_mut() {
         *sum = 0;
@@ -194,8 +194,7 @@ fn clipped(sum: i32, depth: Depth) -> i32
 /// Hands out the first sums as samples of the depth that they are kept at.
 fn clip(sums: &[i32], depth: Depth, out: &mut [i32])
     requires { length out.old ≤ length sums.now }
-    ensures { (k : ℕ) → k < length out.new → slice_index_or out.new k (pos 0)
-        ≡ quantized (bits_of depth) (full_scale (bits_of depth) (slice_index_or sums.now k (pos 0))) }
+    ensures { EmitsAt depth depth sums.now out.new }
 {
     for (k, sample) in out.iter_mut().enumerate() {
         *sample = clipped(sums[k], depth);
@@ -205,8 +204,7 @@ fn clip(sums: &[i32], depth: Depth, out: &mut [i32])
 /// Hands out the first sums, which are kept at this depth, as samples of another one.
 fn finish_layers(sums: &[i32], kept: Depth, depth: Depth, out: &mut [i32])
     requires { length out.old ≤ length sums.now }
-    ensures { (k : ℕ) → k < length out.new → slice_index_or out.new k (pos 0)
-        ≡ quantized (bits_of depth) (full_scale (bits_of kept) (slice_index_or sums.now k (pos 0))) }
+    ensures { EmitsAt kept depth sums.now out.new }
 {
     for (k, sample) in out.iter_mut().enumerate() {
         *sample = finish(widen(sums[k], kept), depth);
@@ -216,8 +214,7 @@ fn finish_layers(sums: &[i32], kept: Depth, depth: Depth, out: &mut [i32])
 /// Hands out the first sums, which are kept at one depth, as samples of any.
 pub fn emit_layers(sums: &[i32], kept: Depth, depth: Depth, out: &mut [i32])
     requires { length out.old ≤ length sums.now }
-    ensures { (k : ℕ) → k < length out.new → slice_index_or out.new k (pos 0)
-        ≡ quantized (bits_of depth) (full_scale (bits_of kept) (slice_index_or sums.now k (pos 0))) }
+    ensures { EmitsAt kept depth sums.now out.new }
 {
     match (kept, depth) {
         (Depth::Sixteen, Depth::Sixteen) => clip(sums, Depth::Sixteen, out),

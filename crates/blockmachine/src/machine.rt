@@ -7,13 +7,13 @@ ghost use Rattle.sound_terms.specs.declared.block.Instruction.TheVariants as ins
 ghost use Rattle.sound_terms.specs.Depth.{bits_of};
 ghost use Rattle.clipping.specs.Clips.{IsClippingOf, block_sums};
 ghost use Rattle.pcm.specs.Samples.{FitsDepth};
-ghost use Rattle.sound_terms.specs.Blocks.{BlockState, IsBlockProgram, LiesInFiles, PlaysFull, addition_of, executed_all};
+ghost use Rattle.sound_terms.specs.Blocks.{BlockState, IsBlockProgram, PlaysFull, addition_of, executed_all};
 ghost use Rattle.sound_terms.specs.Sounds.{reading_by};
 ghost use Rattle.sound_terms.specs.Waves.{sample_bytes};
 ghost use Rattle.devices.specs.Frame.{OnlyReads};
 ghost use Rattle.list_terms.specs.Heard.{sounds_of};
 ghost use Rattle.blockmachine.specs.Fault.{FailsAt, IsSource};
-ghost use Rattle.blockmachine.specs.Lines.{CanAdd, CanSum, silent};
+ghost use Rattle.blockmachine.specs.Lines.{CanAdd, CanRun, CanSum, PlaysWithin, silent};
 ghost use Rattle.blockmachine.specs.Sums.{AreSums};
 
 use crate::MachineFault;
@@ -182,10 +182,8 @@ impl Machine {
         shelf: &mut S,
         out: &mut [i32],
     ) -> Result<(), MachineFault>
-        requires fits { (frames : ℕ) × (depth : declared.Depth) × (frames ≤ self.old.frames)
-            × IsBlockProgram frames self.old.channels depth program.now.lines
-            × (length out.old ≡ frames * self.old.channels) }
-        requires inside { All (LiesInFiles (sounds_of bound.now)) program.now.lines }
+        requires fits { CanRun self.old program.now out.old }
+        requires inside { PlaysWithin (sounds_of bound.now) program.now }
         ensures ran { IsTrue (S.honest shelf.old) → OnOk result ((start : BlockState)
             → out.new ≡ (executed_all (reading_by (S.stored shelf.old) (sounds_of bound.now))
             self.old.channels program.now.lines start).out) }
@@ -210,10 +208,8 @@ impl Machine {
         shelf: &mut S,
         out: &mut [i32],
     ) -> Result<(), MachineFault>
-        requires fits { (frames : ℕ) × (depth : declared.Depth) × (frames ≤ self.old.frames)
-            × IsBlockProgram frames self.old.channels depth program.now.lines
-            × (length out.old ≡ frames * self.old.channels) }
-        requires inside { All (LiesInFiles sounds.now) program.now.lines }
+        requires fits { CanRun self.old program.now out.old }
+        requires inside { PlaysWithin sounds.now program.now }
         ensures ran { IsTrue (S.honest shelf.old) → OnOk result ((start : BlockState)
             → out.new ≡ (executed_all (reading_by (S.stored shelf.old) sounds.now)
             self.old.channels program.now.lines start).out) }
@@ -252,7 +248,7 @@ impl Machine {
             × IsBlockProgram frames self.old.channels depth program.now.lines
             × (length samples.old ≡ frames * self.old.channels) }
         requires room { length bytes.old ≡ length samples.old * (bits_of depth / 8) }
-        requires inside { All (LiesInFiles sounds.now) program.now.lines }
+        requires inside { PlaysWithin sounds.now program.now }
         ensures ran { IsTrue (S.honest shelf.old) → OnOk result ((start : BlockState)
             → bytes.new ≡ flat_map (sample_bytes (bits_of depth)) (executed_all (reading_by (S.stored shelf.old) sounds.now)
             self.old.channels program.now.lines start).out) }

@@ -1,7 +1,6 @@
 // The samples that sums are handed out as.
-ghost use Rattle.std.specs.Prelude.{◌≡◌, ◌<◌, ◌≤◌, ℕ, pos, length, slice_index_or};
-ghost use Rattle.sound_terms.specs.Depth.{bits_of};
-ghost use Rattle.sound_terms.specs.Mix.{quantized};
+ghost use Rattle.std.specs.Prelude.{◌≤◌, length};
+ghost use Rattle.blockmachine.specs.Sums.{Emits};
 
 use sound_terms::Depth;
 use soundlaw::finish;
@@ -10,8 +9,7 @@ use soundlaw::finish;
 #[inline(always)]
 fn emit_at(sums: &[i64], depth: Depth, out: &mut [i32])
     requires { length out.old ≤ length sums.now }
-    ensures { (k : ℕ) → k < length out.new
-        → slice_index_or out.new k (pos 0) ≡ quantized (bits_of depth) (slice_index_or sums.now k (pos 0)) }
+    ensures { Emits depth sums.now out.new }
 {
     for (k, sample) in out.iter_mut().enumerate() {
         *sample = finish(sums[k], depth);
@@ -21,8 +19,7 @@ fn emit_at(sums: &[i64], depth: Depth, out: &mut [i32])
 /// The same. Each depth has a loop of its own.
 pub fn emit(sums: &[i64], depth: Depth, out: &mut [i32])
     requires { length out.old ≤ length sums.now }
-    ensures { (k : ℕ) → k < length out.new
-        → slice_index_or out.new k (pos 0) ≡ quantized (bits_of depth) (slice_index_or sums.now k (pos 0)) }
+    ensures { Emits depth sums.now out.new }
 {
     match depth {
         Depth::Sixteen => emit_at(sums, Depth::Sixteen, out),

@@ -1,8 +1,9 @@
 // The sums of a block.
-ghost use Rattle.std.specs.Prelude.{◌≡◌, ◌*◌, ◌≤◌, ℕ, ℤ, pos, length, IfOk};
+ghost use Rattle.std.specs.Prelude.{◌≡◌, ◌*◌, ℕ, ℤ, pos, length, IfOk};
 ghost use Rattle.sound_terms.specs.Depth.{bits_of};
 ghost use Rattle.sound_terms.specs.Blocks.{FitsBlock, block_samples};
 ghost use Rattle.pcm.specs.Samples.{samples_in};
+ghost use Rattle.blockmachine.specs.Lines.{FillFrames};
 ghost use Rattle.blockmachine.specs.Sums.{AreSums, BlockSums, HasPlayed, TakeStored};
 
 use crate::addition;
@@ -153,8 +154,7 @@ impl Sums {
 
     /// Hands out the first frames, as many as there is room for, at this depth.
     pub fn emit(&self, depth: Depth, out: &mut [i32])
-        requires { (frames : ℕ) × (frames ≤ self.now.extent.frames)
-            × (length out.old ≡ frames * self.now.extent.channels) }
+        requires { FillFrames self.now.extent out.old }
         ensures { (all : ℕ → ℕ → ℤ) → AreSums self.now all → (frames : ℕ)
             → length out.old ≡ frames * self.now.extent.channels
             → out.new ≡ block_samples (bits_of depth) all self.now.extent.channels 0 frames }

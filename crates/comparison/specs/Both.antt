@@ -1,5 +1,5 @@
 -- Two sides of a comparison over two shelves: what is heard of both, and what a call leaves of them.
-use Rattle.std.specs.Prelude.{◌≡◌, ℕ, ◌+◌, ℤ, IsTrue, Result, IfErr, OnOk}
+use Rattle.std.specs.Prelude.{◌≡◌, ℕ, ◌+◌, ℤ, List, IsTrue, Result, IfErr, OnOk, length}
 use Rattle.sound_terms.specs.Blocks.{block_frames, block_start}
 use Rattle.devices.specs.declared.source.Shelf as source
 use Rattle.blockmachine.specs.Exact.{AreSumsOf}
@@ -30,6 +30,10 @@ pub record AreKept {S T X : Type 0} (shelf : source.Ghosts S) (stock : source.Gh
   pub matched : OnOk result (AreMatched shelf stock first' second' new)
   pub source : IfErr result (OfEither IsSource)
   pub files : ReadFiles shelf stock first first' second second' old.first.work.sounds old.second.work.sounds result
+
+-- there is a count for each of the channels
+abbrev pub HasCounts : Sides → List ℕ → Type 0
+HasCounts sides counts = length counts ≡ sides.first.work.planned.range.channels
 
 -- the sums of block k that were written last are those of two mixes
 pub record AreSummed (sides : Sides) (k : ℕ) (mix other : ℕ → ℕ → ℤ) : Type 0 where

@@ -1,5 +1,5 @@
 -- At how many samples two projects differ.
-use Rattle.std.specs.Prelude.{◌≡◌, ℕ, zero, suc, ◌+◌, ◌*◌, ◌<◌, min, max, ℤ, pos, List, length, slice_index_or, if◌then◌else◌}
+use Rattle.std.specs.Prelude.{◌≡◌, ℕ, zero, suc, ◌+◌, ◌*◌, ◌<◌, ◌≤◌, min, max, ℤ, pos, List, length, slice_index_or, if◌then◌else◌}
 use Rattle.std.specs.Ordering.{int_eq}
 use Rattle.comparison.specs.Range.{Extent}
 
@@ -17,6 +17,10 @@ AreCounts mix other from n counts = (k : ℕ) → k < length counts
 abbrev pub HasCounted : (mix other : ℕ → ℕ → ℤ) → (from n : ℕ) → (old new : List ℕ) → Type 0
 HasCounted mix other from n old new = (k : ℕ) → k < length new → slice_index_or new k 0
     ≡ slice_index_or old k 0 + differing (λ i. mix (k + 1) (from + i)) (λ i. other (k + 1) (from + i)) n
+
+-- none is more than the samples of a day
+abbrev pub AreInDay : List ℕ → Type 0
+AreInDay counts = (c : ℕ) → slice_index_or counts c 0 ≤ 4147200000
 
 -- of the sums of a block, which lie frame by frame, those of a channel that is counted from 0
 abbrev pub of_channel : (channels channel : ℕ) → List ℤ → ℕ → ℤ

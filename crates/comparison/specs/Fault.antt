@@ -17,6 +17,10 @@ IsMemory Intervals = ⊤
 IsMemory Memory = ⊤
 IsMemory (Source file) = ⊥
 
+-- 57: no memory was left
+abbrev pub WantsMemory : SideFault → Type 0
+WantsMemory fault = fault ≡ Memory
+
 -- a device failed
 abbrev pub IsSource : SideFault → Type 0
 IsSource Intervals = ⊥

@@ -2,7 +2,7 @@
 use Rattle.std.specs.Prelude.{◌≡◌, ℕ, ◌+◌, ◌*◌, ◌<◌, ◌≤◌, min, ℤ, List, length, take}
 use Rattle.std.specs.List.{All}
 use Rattle.sound_terms.specs.declared.block.Instruction.{Instruction}
-use Rattle.sound_terms.specs.Blocks.{BlockState, LiesInFiles, PlaysFull, Programmed, block_frames, block_start, executed_all}
+use Rattle.sound_terms.specs.Blocks.{BlockState, LiesInFiles, PlaysFull, Programmed, block_count, block_frames, block_start, executed_all}
 use Rattle.sound_terms.specs.Groups.{sum_of}
 use Rattle.sound_terms.specs.Media.{IsPieceOf}
 use Rattle.sound_terms.specs.Render.{Range}
@@ -16,6 +16,10 @@ use Rattle.blockmachine.specs.Sums.{Extent}
 pub record SideWork : Type 0 where
   pub planned : Planned
   pub sounds : List SoundFacts
+
+-- its plan has a block of this number
+abbrev pub HasBlock : SideWork → ℕ → Type 0
+HasBlock work k = k < block_count work.planned.range
 
 -- with the program and the sums that were written last
 pub record SideState : Type 0 where

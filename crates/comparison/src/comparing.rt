@@ -1,8 +1,9 @@
 // Where two sides differ first.
-ghost use Rattle.std.specs.Prelude.{◌+◌, ◌<◌, IfOk};
-ghost use Rattle.sound_terms.specs.Blocks.{block_count, block_frames, block_start};
+ghost use Rattle.std.specs.Prelude.{◌+◌, IfOk};
+ghost use Rattle.sound_terms.specs.Blocks.{block_frames, block_start};
 ghost use Rattle.comparison.specs.Alike.{IsCompared};
 ghost use Rattle.comparison.specs.Both.{AreKept, AreMatched, OfBoth};
+ghost use Rattle.comparison.specs.Side.{HasBlock};
 
 use crate::CompareFault;
 use crate::differing::{Difference, first_difference};
@@ -16,7 +17,7 @@ fn compare_block<S: Shelf, T: Shelf>(
     first_shelf: &mut S,
     second_shelf: &mut T,
 ) -> Result<Option<Difference>, CompareFault>
-    requires there { k < block_count sides.old.first.work.planned.range }
+    requires there { HasBlock sides.old.first.work k }
     requires matched { AreMatched S.Shelf T.Shelf first_shelf.old second_shelf.old sides.old }
     ensures compared { OfBoth S.Shelf T.Shelf first_shelf.old second_shelf.old sides.old
         (λ mix other. IfOk result (IsCompared

@@ -1,8 +1,9 @@
 // At how many samples of each channel the sums of two sides differ.
 ghost use Rattle.std.specs.Prelude.{◌≡◌, ◌+◌, ◌-◌, ◌<◌, ◌≤◌, ℕ, OnOk, length, slice_index_or};
-ghost use Rattle.sound_terms.specs.Blocks.{block_count, block_frames, block_start};
-ghost use Rattle.comparison.specs.Both.{AreKept, AreMatched, OfBoth};
-ghost use Rattle.comparison.specs.Counted.{AreCounts, HasCounted, differing, of_channel};
+ghost use Rattle.sound_terms.specs.Blocks.{block_frames, block_start};
+ghost use Rattle.comparison.specs.Both.{AreKept, AreMatched, HasCounts, OfBoth};
+ghost use Rattle.comparison.specs.Counted.{AreCounts, AreInDay, HasCounted, differing, of_channel};
+ghost use Rattle.comparison.specs.Side.{HasBlock};
 
 use crate::CompareFault;
 use crate::block::BlockSums;
@@ -32,7 +33,7 @@ fn count_channel(block: &BlockSums, channel: usize) -> u32
 /// Adds to the count of each channel at how many frames of a block its sums differ, and says whether any do.
 fn count_apart(block: &BlockSums, counts: &mut [u32]) -> bool
     requires wide { length counts.old ≡ block.now.channels }
-    requires in_day { (c : ℕ) → slice_index_or counts.old c 0 ≤ 4147200000 }
+    requires in_day { AreInDay counts.old }
     ensures { (k : ℕ) → k < length counts.new → slice_index_or counts.new k 0 ≡ slice_index_or counts.old k 0
         + differing (of_channel block.now.channels k block.now.sums.now)
         (of_channel block.now.channels k block.now.others.now) block.now.frames }
@@ -57,10 +58,10 @@ fn count_block<S: Shelf, T: Shelf>(
     second_shelf: &mut T,
     counts: &mut [u32],
 ) -> Result<bool, CompareFault>
-    requires there { k < block_count sides.old.first.work.planned.range }
+    requires there { HasBlock sides.old.first.work k }
     requires matched { AreMatched S.Shelf T.Shelf first_shelf.old second_shelf.old sides.old }
-    requires wide { length counts.old ≡ sides.old.first.work.planned.range.channels }
-    requires in_day { (c : ℕ) → slice_index_or counts.old c 0 ≤ 4147200000 }
+    requires wide { HasCounts sides.old counts.old }
+    requires in_day { AreInDay counts.old }
     ensures counted { OfBoth S.Shelf T.Shelf first_shelf.old second_shelf.old sides.old
         (λ mix other. OnOk result (HasCounted mix other (block_start sides.old.first.work.planned.range k)
         (block_frames sides.old.first.work.planned.range k) counts.old counts.new)) }
@@ -88,7 +89,7 @@ pub fn count_sides<S: Shelf, T: Shelf, W: Watch>(
     watch: &mut W,
 ) -> Result<(), CompareFault>
     requires matched { AreMatched S.Shelf T.Shelf first_shelf.old second_shelf.old sides.old }
-    requires wide { length counts.old ≡ sides.old.first.work.planned.range.channels }
+    requires wide { HasCounts sides.old counts.old }
     requires zero { (c : ℕ) → slice_index_or counts.old c 0 ≡ 0 }
     ensures counted { OfBoth S.Shelf T.Shelf first_shelf.old second_shelf.old sides.old
         (λ mix other. OnOk result (AreCounts mix other sides.old.first.work.planned.range.from

@@ -7,8 +7,8 @@ ghost use Rattle.sound_terms.specs.Blocks.{block_count, block_frames, block_star
 ghost use Rattle.sound_terms.specs.Media.{IsPieceOf};
 ghost use Rattle.devices.specs.Frame.{OnlyReads};
 ghost use Rattle.renderplan.specs.Sources.{source_of};
-ghost use Rattle.comparison.specs.Fault.{FailsAt, IsSource};
-ghost use Rattle.comparison.specs.Side.{AreBlockSums, IsBlockOf, first_sums, heard};
+ghost use Rattle.comparison.specs.Fault.{FailsAt, IsSource, WantsMemory};
+ghost use Rattle.comparison.specs.Side.{AreBlockSums, HasBlock, IsBlockOf, first_sums, heard};
 ghost use Rattle.comparison.specs.declared.fault.SideFault.TheVariants.{Memory};
 
 use crate::SideFault;
@@ -95,7 +95,7 @@ impl<'a> Side<'a> {
     pub fn new(alloc: Global, plan: Plan, sounds: &'a [Sound]) -> Result<Self, SideFault>
         requires { All (IsPieceOf sounds.now) plan.pieces }
         ensures made { IfOk result (λ side. side.work ≡ record { planned = plan; sounds = sounds.now }) }
-        ensures only_memory { IfErr result (λ fault. fault ≡ Memory) }
+        ensures only_memory { IfErr result WantsMemory }
     {
         let channels = plan.format().channels;
         let Ok(machine) = Machine::new(alloc, BLOCK_LENGTH, channels) else {
@@ -115,7 +115,7 @@ impl<'a> Side<'a> {
 
     /// Room for what is read of its files as it is stored.
     pub fn bytes(&self, alloc: Global) -> Result<Vec<u8>, SideFault>
-        ensures { IfErr result (λ fault. fault ≡ Memory) }
+        ensures { IfErr result WantsMemory }
     {
         let mut bytes = Vec::new(alloc);
         bytes.resize(STORED_LENGTH * usize::from(self.channels()), 0)?;
@@ -147,7 +147,7 @@ impl<'a> Side<'a> {
 
     /// How many sums block k has: one for each of its frames and channels.
     fn sums_of(&self, k: u64) -> usize
-        requires { k < block_count self.now.work.planned.range }
+        requires { HasBlock self.now.work k }
         ensures sums { result ≡ block_frames self.now.work.planned.range k * self.now.work.planned.range.channels }
         ensures few { result ≤ 4096 * self.now.work.planned.range.channels }
     {
@@ -176,7 +176,7 @@ impl<'a> Side<'a> {
 
     /// The time at which block k begins.
     pub fn start_of(&self, k: u64) -> u64
-        requires { k < block_count self.now.work.planned.range }
+        requires { HasBlock self.now.work k }
         ensures start { result ≡ block_start self.now.work.planned.range k }
         ensures in_day { result ≤ day }
     {
@@ -185,7 +185,7 @@ impl<'a> Side<'a> {
 
     /// Whether nothing sounds in block k.
     pub fn is_silent(&self, k: u64) -> bool
-        requires { k < block_count self.now.work.planned.range }
+        requires { HasBlock self.now.work k }
         ensures found { is_some (source_of self.now.work.planned.pieces self.now.work.planned.range k) ≡ not result }
         ensures zero { IsTrue result → (files : Files) (i channel : ℕ) → i < block_frames self.now.work.planned.range k
             → channel ≤ self.now.work.planned.range.channels
@@ -196,7 +196,7 @@ impl<'a> Side<'a> {
 
     /// Writes the program of block k.
     pub fn fill(&mut self, k: u64)
-        requires { k < block_count self.old.work.planned.range }
+        requires { HasBlock self.old.work k }
         ensures program { IsBlockOf self.old.work k self.new.lines }
         ensures work { self.new.work ≡ self.old.work }
     {
@@ -213,7 +213,7 @@ impl<'a> Side<'a> {
 
     /// Sums block k, as its program does its instructions. A file that can't be read fails it.
     pub fn sum<S: Shelf>(&mut self, k: u64, shelf: &mut S) -> Result<(), SideFault>
-        requires { k < block_count self.old.work.planned.range }
+        requires { HasBlock self.old.work k }
         ensures summed { IsTrue (S.honest shelf.old) → OnOk result
             (AreBlockSums self.old.work.planned.range (heard self.old.work (S.stored shelf.old)) k
             (first_sums self.old.work.planned.range k self.new.sums)) }
@@ -230,7 +230,7 @@ impl<'a> Side<'a> {
 
     /// The first sums that were written last, as many as block k has.
     pub fn sums(&self, k: u64) -> &[i64]
-        requires { k < block_count self.now.work.planned.range }
+        requires { HasBlock self.now.work k }
         ensures value { result.now ≡ first_sums self.now.work.planned.range k self.now.sums }
         ensures count { length result.now
             ≡ block_frames self.now.work.planned.range k * self.now.work.planned.range.channels }

@@ -17,10 +17,11 @@ pub struct Sides<'a, 'b> {
 }
 
 impl<'a, 'b> Sides<'a, 'b> {
-    ghost use Rattle.std.specs.Prelude.{◌+◌, ◌<◌, IfOk, IsTrue, OnOk};
-    ghost use Rattle.sound_terms.specs.Blocks.{block_count, block_frames, block_start};
+    ghost use Rattle.std.specs.Prelude.{◌+◌, IfOk, IsTrue, OnOk};
+    ghost use Rattle.sound_terms.specs.Blocks.{block_frames, block_start};
     ghost use Rattle.comparison.specs.Alike.{AreAlike};
     ghost use Rattle.comparison.specs.Both.{AreKept, AreMatched, AreSummed, IsBlock, OfBoth};
+    ghost use Rattle.comparison.specs.Side.{HasBlock};
 
     /// Sums block k of both sides.
     pub fn sum<S: Shelf, T: Shelf>(
@@ -29,7 +30,7 @@ impl<'a, 'b> Sides<'a, 'b> {
         first_shelf: &mut S,
         second_shelf: &mut T,
     ) -> Result<(), CompareFault>
-        requires there { k < block_count self.old.first.work.planned.range }
+        requires there { HasBlock self.old.first.work k }
         requires matched { AreMatched S.Shelf T.Shelf first_shelf.old second_shelf.old self.old }
         ensures summed { OfBoth S.Shelf T.Shelf first_shelf.old second_shelf.old self.old
             (λ mix other. OnOk result (AreSummed self.new k mix other)) }
@@ -55,7 +56,7 @@ impl<'a, 'b> Sides<'a, 'b> {
         first_shelf: &mut S,
         second_shelf: &mut T,
     ) -> Result<bool, CompareFault>
-        requires there { k < block_count self.old.first.work.planned.range }
+        requires there { HasBlock self.old.first.work k }
         requires matched { AreMatched S.Shelf T.Shelf first_shelf.old second_shelf.old self.old }
         ensures alike { OfBoth S.Shelf T.Shelf first_shelf.old second_shelf.old self.old
             (λ mix other. IfOk result (λ alike. IsTrue alike → AreAlike
@@ -90,7 +91,7 @@ impl<'a, 'b> Sides<'a, 'b> {
 
     /// The sums of block k of both sides, which were summed last.
     pub fn sums(&self, k: u64) -> BlockSums<'_>
-        requires { k < block_count self.now.first.work.planned.range }
+        requires { HasBlock self.now.first.work k }
         ensures { IsBlock self.now k result }
     {
         BlockSums {

@@ -2,6 +2,7 @@
 use Rattle.std.specs.Prelude.{◌≡◌, ◌≢◌, ℕ, ◌+◌, ◌≤◌, List, Some, slice_get}
 use Rattle.sound_terms.specs.declared.piece.Run.{Run}
 use Rattle.work_terms.specs.Disk.{Files}
+use Rattle.devices.specs.declared.bench.Bench.{Ghosts}
 use Rattle.list_terms.specs.Renewed.{media_name}
 use Rattle.mediacopy.specs.Copied.{laid_out}
 use Rattle.consolidation.specs.Planned.{MediaPlan}
@@ -15,3 +16,7 @@ IsNoMedium media name = (number : ℕ) → 1 ≤ number → number ≤ media →
 abbrev pub IsLaidOut : MediaPlan → Files → ℕ → Type 0
 IsLaidOut plan written k = (run : Run) → slice_get plan.runs k ≡ Some run
     → written (media_name (k + 1)) ≡ Some (laid_out (run_info plan.sounds plan.homes run))
+
+-- a crash leaves nothing that it couldn't leave before
+abbrev pub Narrows : {B : Type 0} → Ghosts B → B → B → Type 0
+Narrows bench old new = (c : Files) → bench.may_leave new c → bench.may_leave old c

@@ -23,6 +23,8 @@ use Rattle.list_terms.specs.WrittenText.{text_of_project}
 use Rattle.interval.specs.AtHome.{IsAtHome}
 use Rattle.wavwrite.specs.Info.{Fits}
 use Rattle.mediacopy.specs.Copied.{HasFrames, IsMedium}
+use Rattle.mediacopy.specs.Pieces.{IsPieceOf}
+use Rattle.mediacopy.specs.declared.piece.CopyJob.{CopyJob}
 use Rattle.mediaset.specs.Runs.{HomedRuns}
 use Rattle.provenance.specs.Asked.{AskedReport}
 use Rattle.provenance.specs.declared.report.Report.{Report}
@@ -57,6 +59,10 @@ pub record IsAddressed (sounds : List SoundFacts) (homes : List Home) (run : Run
   pub homed : slice_get homes run.file ≡ Some home
   pub in_day : run_base homes run + run.length ≤ day
 
+-- so is each of them
+abbrev pub AreAddressed : List SoundFacts → HomedRuns → Type 0
+AreAddressed sounds found = All (IsAddressed sounds found.homes) found.runs
+
 -- whose medium the size fields of RIFF can tell, and which reads back where its source has all of its frames
 pub record IsMediumRun (sounds : List SoundFacts) (homes : List Home) (run : Run) : Type 0 where
   pub addressed : IsAddressed sounds homes run
@@ -85,6 +91,10 @@ pub record MediaPlan : Type 0 where
   pub text : List ℕ
   pub entries : ℕ
   pub report : Option Report
+
+-- it is a piece of one of the runs
+abbrev pub HasPiece : MediaPlan → CopyJob → Type 0
+HasPiece plan piece = IsPieceOf plan.sounds plan.runs piece
 
 -- it can be written
 pub record IsMediaPlan (plan : MediaPlan) : Type 0 where

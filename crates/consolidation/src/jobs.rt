@@ -4,11 +4,12 @@ ghost use Rattle.work_terms.specs.Disk.{Changes, IsTorn, IsWritten};
 ghost use Rattle.sound_terms.specs.declared.piece.Run as run;
 ghost use Rattle.list_terms.specs.Renewed.{media_name};
 ghost use Rattle.devices.specs.Frame.{OnlyReads, OnlyWrites};
-ghost use Rattle.mediacopy.specs.Pieces.{IsPieceOf, piece_bytes, piece_length, piece_place};
+ghost use Rattle.mediacopy.specs.Pieces.{piece_bytes, piece_length, piece_place};
+ghost use Rattle.mediacopy.specs.Moment.{IsLater};
 ghost use Rattle.consolidation.specs.Ends.{AreEnds};
 ghost use Rattle.consolidation.specs.Pieces.{job_count, jobs_before};
 ghost use Rattle.consolidation.specs.Pieces as spec;
-ghost use Rattle.consolidation.specs.Planned.{IsMediaPlan};
+ghost use Rattle.consolidation.specs.Planned.{HasPiece, IsMediaPlan};
 
 use crate::Consolidation;
 use crate::media::PIECE;
@@ -65,7 +66,7 @@ impl<'a> Consolidation<'a> {
     pub(crate) fn piece(&self, job: u32) -> CopyJob
         requires { job < job_count self.now.runs }
         ensures piece { result ≡ spec.job_of self.now.runs job }
-        ensures within { IsPieceOf self.now.sounds self.now.runs result }
+        ensures within { HasPiece self.now result }
     {
         let runs = self.runs.as_slice();
         let ends = self.ends.as_slice();
@@ -76,7 +77,7 @@ impl<'a> Consolidation<'a> {
 
     /// How many bytes a piece has.
     pub(crate) fn length(&self, piece: CopyJob) -> usize
-        requires { IsPieceOf self.now.sounds self.now.runs piece }
+        requires { HasPiece self.now piece }
         ensures { result ≡ piece_length self.now.sounds self.now.runs piece }
     {
         length_of(self.bound, self.runs.as_slice(), piece)
@@ -89,7 +90,7 @@ impl<'a> Consolidation<'a> {
         shelf: &mut S,
         bytes: &mut [u8],
     ) -> Result<(), CopyFault>
-        requires within { IsPieceOf self.now.sounds self.now.runs piece }
+        requires within { HasPiece self.now piece }
         requires room { length bytes.old ≡ piece_length self.now.sounds self.now.runs piece }
         ensures fetched { IsTrue (S.honest shelf.old)
             → OnOk result (bytes.new ≡ piece_bytes (S.stored shelf.old) self.now.sounds self.now.runs piece) }
@@ -105,7 +106,7 @@ impl<'a> Consolidation<'a> {
         bytes: &[u8],
         bench: &mut B,
     ) -> Result<(), CopyFault>
-        requires within { IsPieceOf self.now.sounds self.now.runs piece }
+        requires within { HasPiece self.now piece }
         ensures placed { IsTrue (B.honest bench.old)
             → OnOk result (Changes (IsWritten (piece_place self.now.sounds self.now.runs piece) bytes.now)
             (media_name (piece.run + 1)) (B.stored bench.old) (B.stored bench.new)) }
@@ -114,7 +115,7 @@ impl<'a> Consolidation<'a> {
             (media_name (piece.run + 1)) (B.stored bench.old) (B.stored bench.new)) }
         ensures only_writes { OnlyWrites B.Bench (λ n. n ≢ media_name (piece.run + 1)) bench.old bench.new result (λ _. ⊤)
             (λ _ failed. failed (media_name (piece.run + 1))) }
-        ensures later { B.moment bench.old ≤ B.moment bench.new }
+        ensures later { IsLater B.moment bench.old bench.new }
     {
         place_piece(bench, self.bound, self.runs.as_slice(), piece, bytes)
     }

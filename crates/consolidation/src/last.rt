@@ -6,6 +6,7 @@ ghost use Rattle.execution.specs.Plan.{IsAt, IsLast};
 ghost use Rattle.consolidation.specs.Consolidated.{IsBehind};
 ghost use Rattle.consolidation.specs.Outputs.{FailsAtReport, job_plan};
 ghost use Rattle.consolidation.specs.Reported.{IsNoReport, IsReportDurable, IsReportThere};
+ghost use Rattle.mediacopy.specs.Moment.{IsLater};
 
 use crate::Consolidation;
 use crate::list::{LIST, REPORT, SUMS, write_file};
@@ -22,7 +23,7 @@ fn write_list_output<B: Bench>(bench: &mut B, text: &[u8], file: u32) -> Result<
     ensures number { IfErr result (λ fault. fault.file ≡ file) }
     ensures only_writes { OnlyWrites B.Bench (λ n. n ≢ codes "consolidated.adl") bench.old bench.new result (λ _. ⊤)
         (λ _ failed. failed (codes "consolidated.adl")) }
-    ensures later { B.moment bench.old ≤ B.moment bench.new }
+    ensures later { IsLater B.moment bench.old bench.new }
 {
     match write_file(bench, LIST, text) {
         Ok(()) => Ok(()),
@@ -46,7 +47,7 @@ fn write_report_outputs<B: Bench>(
     ensures number { IfErr result (λ fault. (first ≤ fault.file) × (fault.file ≤ first + 1)) }
     ensures only_writes { OnlyWrites B.Bench (IsNoReport true) bench.old bench.new result (λ _. ⊤)
         (FailsAtReport first) }
-    ensures later { B.moment bench.old ≤ B.moment bench.new }
+    ensures later { IsLater B.moment bench.old bench.new }
 {
     match write_file(bench, SUMS, &report.sums) {
         Ok(()) => {}
@@ -75,7 +76,7 @@ impl<'a> Consolidation<'a> {
             → B.stored bench.new ((job_plan self.now).output i) ≡ B.stored bench.old ((job_plan self.now).output i)) }
         ensures only_writes { OnlyWrites B.Bench (IsBehind (is_some self.now.report)) bench.old bench.new result
             (λ _. ⊤) (λ fault failed. IsAt (job_plan self.now) fault.file failed) }
-        ensures later { B.moment bench.old ≤ B.moment bench.new }
+        ensures later { IsLater B.moment bench.old bench.new }
     {
         let media = self.runs.len() as u32;
         match &self.report {

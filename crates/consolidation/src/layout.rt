@@ -1,8 +1,9 @@
 // The file of each medium before any piece is copied.
-ghost use Rattle.std.specs.Prelude.{◌≡◌, ◌≢◌, ◌<◌, ◌≤◌, ◌+◌, IsTrue, OnOk, length, ⊤};
+ghost use Rattle.std.specs.Prelude.{◌≡◌, ◌≢◌, ◌<◌, ◌+◌, IsTrue, OnOk, length, ⊤};
 ghost use Rattle.list_terms.specs.Renewed.{media_name};
 ghost use Rattle.devices.specs.Frame.{OnlyWrites};
 ghost use Rattle.consolidation.specs.Media.{IsLaidOut};
+ghost use Rattle.mediacopy.specs.Moment.{IsLater};
 
 use crate::Consolidation;
 use devices::{Bench, DeviceFault};
@@ -20,7 +21,7 @@ impl<'a> Consolidation<'a> {
         ensures laid { IsTrue (B.honest bench.old) → OnOk result (IsLaidOut self.now (B.stored bench.new) position) }
         ensures only_writes { OnlyWrites B.Bench (λ n. n ≢ media_name (position + 1)) bench.old bench.new result (λ _. ⊤)
             (λ _ failed. failed (media_name (position + 1))) }
-        ensures later { B.moment bench.old ≤ B.moment bench.new }
+        ensures later { IsLater B.moment bench.old bench.new }
     {
         let run = &self.runs.as_slice()[position];
         let sound = &self.bound.sounds()[run.file as usize];

@@ -1,7 +1,8 @@
 // The files that come last, and how each is written.
-ghost use Rattle.std.specs.Prelude.{◌≡◌, ◌≢◌, ◌≤◌, IsTrue, OnOk, Some, ⊤};
+ghost use Rattle.std.specs.Prelude.{◌≡◌, ◌≢◌, IsTrue, OnOk, Some, ⊤};
 ghost use Rattle.work_terms.specs.Disk.{IsDurable};
 ghost use Rattle.devices.specs.Frame.{OnlyWrites};
+ghost use Rattle.mediacopy.specs.Moment.{IsLater};
 
 use devices::{Bench, DeviceFault};
 
@@ -26,7 +27,7 @@ pub(crate) fn write_file<B: Bench>(
         → OnOk result (IsDurable name.now (B.stored bench.new) (B.may_leave bench.new)) }
     ensures only_writes { OnlyWrites B.Bench (λ n. n ≢ name.now) bench.old bench.new result (λ _. ⊤)
         (λ _ failed. failed name.now) }
-    ensures later { B.moment bench.old ≤ B.moment bench.new }
+    ensures later { IsLater B.moment bench.old bench.new }
 {
     bench.create(name)?;
     bench.append(name, bytes)?;

@@ -1,8 +1,8 @@
 // Where the jobs of each run end.
-ghost use Rattle.std.specs.Prelude.{◌≡◌, ◌<◌, ◌+◌, ◌^◌, IfOk, All};
+ghost use Rattle.std.specs.Prelude.{◌≡◌, ◌<◌, ◌+◌, ◌^◌, IfOk};
 ghost use Rattle.consolidation.specs.Ends.{AreEnds};
 ghost use Rattle.consolidation.specs.Pieces as spec;
-ghost use Rattle.consolidation.specs.Planned.{IsAddressed};
+ghost use Rattle.consolidation.specs.Planned.{AreAddressed};
 
 use mediaset::Runs;
 use sound_terms::Run;
@@ -22,7 +22,7 @@ fn pieces_in(run: &Run) -> u64
 
 /// How many jobs the runs up to and with each have.
 pub fn ends_of(alloc: Global, sounds: &[Sound], runs: &Runs) -> Result<Vec<u32>, AllocError>
-    requires { All (IsAddressed sounds.now runs.now.homes) runs.now.runs }
+    requires { AreAddressed sounds.now runs.now }
     ensures { IfOk result (λ ends. AreEnds runs.now.runs ends.items) }
 {
     let list = runs.as_slice();

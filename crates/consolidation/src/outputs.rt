@@ -1,11 +1,12 @@
 // The media of a consolidation as outputs by number: laid out, and synced.
-ghost use Rattle.std.specs.Prelude.{◌≡◌, ◌≢◌, ◌<◌, ◌≤◌, ◌+◌, ℕ, IsTrue, OnOk, length, ⊤};
-ghost use Rattle.work_terms.specs.Disk.{Files, IsDurable, ReadsTo};
+ghost use Rattle.std.specs.Prelude.{◌≡◌, ◌≢◌, ◌<◌, ◌+◌, ℕ, IsTrue, OnOk, length, ⊤};
+ghost use Rattle.work_terms.specs.Disk.{IsDurable, ReadsTo};
 ghost use Rattle.list_terms.specs.Renewed.{media_name};
 ghost use Rattle.devices.specs.Frame.{OnlyWrites};
-ghost use Rattle.consolidation.specs.Media.{IsLaidOut, IsNoMedium};
+ghost use Rattle.consolidation.specs.Media.{IsLaidOut, IsNoMedium, Narrows};
 ghost use Rattle.consolidation.specs.Outputs.{FailsAtMedium};
 ghost use Rattle.consolidation.specs.Planned.{IsMediaPlan};
+ghost use Rattle.mediacopy.specs.Moment.{IsLater};
 
 use crate::Consolidation;
 use devices::Bench;
@@ -24,7 +25,7 @@ impl<'a> Consolidation<'a> {
         ensures laid { IsTrue (B.honest bench.old) → OnOk result (IsLaidOut self.now (B.stored bench.new) position) }
         ensures only_writes { OnlyWrites B.Bench (λ n. n ≢ media_name (position + 1)) bench.old bench.new result (λ _. ⊤)
             (FailsAtMedium (length self.now.runs)) }
-        ensures later { B.moment bench.old ≤ B.moment bench.new }
+        ensures later { IsLater B.moment bench.old bench.new }
     {
         match self.blank_medium(position as usize, room, bench) {
             Ok(()) => Ok(()),
@@ -38,7 +39,7 @@ impl<'a> Consolidation<'a> {
             → IsLaidOut self.now (B.stored bench.new) k) }
         ensures only_writes { OnlyWrites B.Bench (IsNoMedium (length self.now.runs)) bench.old bench.new result (λ _. ⊤)
             (FailsAtMedium (length self.now.runs)) }
-        ensures later { B.moment bench.old ≤ B.moment bench.new }
+        ensures later { IsLater B.moment bench.old bench.new }
         ensures planned { IsMediaPlan self.now }
     {
         let mut room = [0; LONGEST_HEADER];
@@ -53,10 +54,10 @@ impl<'a> Consolidation<'a> {
         requires { position < length self.now.runs }
         ensures durable { IsTrue (B.honest bench.old)
             → OnOk result (IsDurable (media_name (position + 1)) (B.stored bench.new) (B.may_leave bench.new)) }
-        ensures crash { (c : Files) → B.may_leave bench.new c → B.may_leave bench.old c }
+        ensures crash { Narrows B.Bench bench.old bench.new }
         ensures only_reads { ReadsTo B.stored B.honest B.failures B.failed_at bench.old bench.new result (λ _. ⊤)
             (FailsAtMedium (length self.now.runs)) }
-        ensures later { B.moment bench.old ≤ B.moment bench.new }
+        ensures later { IsLater B.moment bench.old bench.new }
     {
         let name = medium_name(u64::from(position) + 1);
         match bench.sync(name.as_str()) {
@@ -69,10 +70,10 @@ impl<'a> Consolidation<'a> {
     pub(crate) fn sync_outputs<B: Bench>(&self, bench: &mut B) -> Result<(), OutputFault>
         ensures durable { IsTrue (B.honest bench.old) → OnOk result ((k : ℕ) → k < length self.now.runs
             → IsDurable (media_name (k + 1)) (B.stored bench.new) (B.may_leave bench.new)) }
-        ensures crash { (c : Files) → B.may_leave bench.new c → B.may_leave bench.old c }
+        ensures crash { Narrows B.Bench bench.old bench.new }
         ensures only_reads { ReadsTo B.stored B.honest B.failures B.failed_at bench.old bench.new result (λ _. ⊤)
             (FailsAtMedium (length self.now.runs)) }
-        ensures later { B.moment bench.old ≤ B.moment bench.new }
+        ensures later { IsLater B.moment bench.old bench.new }
         ensures planned { IsMediaPlan self.now }
     {
         for position in 0..self.runs.len() as u32 {

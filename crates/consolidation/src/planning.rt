@@ -14,7 +14,7 @@ ghost use Rattle.provenance.specs.Asked.{asked_of};
 ghost use Rattle.consolidation.specs.Consolidated.{Work, work_fault};
 ghost use Rattle.consolidation.specs.Fault.{FailsAt, IsSource, refusal_of};
 ghost use Rattle.consolidation.specs.Own.{IsOfLinking, IsOfReport};
-ghost use Rattle.consolidation.specs.Planned.{AreKeptRuns, AreLeft, IsAddressed, IsMediumRun, IsPlanned};
+ghost use Rattle.consolidation.specs.Planned.{AreAddressed, AreKeptRuns, AreLeft, IsAddressed, IsMediumRun, IsPlanned};
 ghost use Rattle.consolidation.specs.Reported.{HasReport, told_of};
 ghost use Rattle.consolidation.specs.Work.{IsLinked};
 
@@ -45,7 +45,7 @@ fn reads_back_at(sounds: &[Sound], homes: &Homes, run: &Run)
 
 /// All runs can become media. It changes nothing.
 fn all_read_back(sounds: &[Sound], runs: &Runs)
-    requires { All (IsAddressed sounds.now runs.now.homes) runs.now.runs }
+    requires { AreAddressed sounds.now runs.now }
     ensures { All (IsMediumRun sounds.now runs.now.homes) runs.now.runs }
 {
     let homes = runs.homes();

@@ -48,6 +48,14 @@ pub record OnlyInEvents {X : Type 0} (in_rounds : Bool) (result : Result X Execu
   pub memory : IsErrOf result fault.Memory → in_rounds ≡ false
   pub job_memory : IsErrOf result fault.JobMemory → in_rounds ≡ false
 
+-- no worker's place is wanted
+abbrev pub WantsNoPlace : {X : Type 0} → Result X ExecutionFault → Type 0
+WantsNoPlace result = IsErrOf result fault.Memory → ⊥
+
+-- no room for the bytes of a job is wanted
+abbrev pub WantsNoRoom : {X : Type 0} → Result X ExecutionFault → Type 0
+WantsNoRoom result = IsErrOf result fault.JobMemory → ⊥
+
 -- it isn't an output that failed
 abbrev pub FailsNoOutput : {X : Type 0} → Result X ExecutionFault → Type 0
 FailsNoOutput result = (file : ℕ) → IsErrOf result (fault.Output file) → ⊥

@@ -1,19 +1,16 @@
 // The calls of an execution.
-ghost use Rattle.std.specs.Prelude.{◌≡◌, ◌*◌, ℕ, IfErr, IfOk, IsErrOf, IsTrue, OnOk, false, true, length, ◌<◌, slice_index_or};
-ghost use Rattle.job_terms.specs.Board.{is_finished};
-ghost use Rattle.job_terms.specs.Workers.{Nothing, rounds};
-ghost use Rattle.execution.specs.Alone.{AtRest};
-ghost use Rattle.execution.specs.Ends.{IsMemory};
-ghost use Rattle.execution.specs.Boards.{board_with, fresh_board};
+ghost use Rattle.std.specs.Prelude.{◌≡◌, ◌*◌, ℕ, IfErr, IfOk, IsTrue, false, length, ◌<◌, slice_index_or};
+ghost use Rattle.job_terms.specs.Workers.{rounds};
+ghost use Rattle.execution.specs.Ends.{IsMemory, WantsNoPlace, WantsNoRoom};
+ghost use Rattle.execution.specs.Boards.{ReportsOf, board_with, fresh_board};
 ghost use Rattle.execution.specs.Marking.{done_of};
 ghost use Rattle.execution.specs.Noted.{KeepsNotes};
-ghost use Rattle.execution.specs.View.{hands_at};
+ghost use Rattle.execution.specs.View.{DoesAll, IsIdle, IsResting, hands_at};
 ghost use Rattle.execution.specs.Outcome.{Executed, Resumed};
 ghost use Rattle.execution.specs.EventRun.{snapshot_of};
 ghost use Rattle.execution.specs.Desks.{HasRoom};
-ghost use Rattle.execution.specs.Held.{hands_in};
+ghost use Rattle.execution.specs.Held.{AreIdle};
 ghost use Rattle.devices.specs.Views.{output_view, source_view};
-ghost use Rattle.execution.specs.declared.fault.ExecutionFault.TheVariants as execution_fault;
 ghost use Rattle.workboard.specs.Indexed.{IsOrder};
 
 use crate::course::{execute, resume};
@@ -61,7 +58,7 @@ fn most_bytes<W: JobMaker>(work: &W) -> usize
 
 /// Workers that hold nothing, the first with room for the bytes of any job.
 fn hands_for<W: JobMaker>(alloc: Global, work: &W) -> Result<Hands, ExecutionFault>
-    ensures hands { IfOk result (λ hands. (w : ℕ) → hands_in hands w ≡ Nothing) }
+    ensures hands { IfOk result AreIdle }
     ensures room { IfOk result (λ hands. HasRoom (W.plan work.now).jobs hands.first.room) }
     ensures only_memory { IfErr result IsMemory }
 {
@@ -78,8 +75,8 @@ impl<W: JobMaker + Drop> Execution<W> {
         ensures work { IfOk result (λ run. run.work ≡ work) }
         ensures board { IfOk result (λ run. run.board ≡ fresh_board (W.plan work).jobs.count order.items) }
         ensures open { IfOk result (λ run. (k : ℕ) → k < (W.plan work).jobs.count → done_of run.board k ≡ false) }
-        ensures idle { IfOk result (λ run. (w : ℕ) → hands_at run w ≡ Nothing) }
-        ensures rest { IfOk result (λ run. AtRest run.board) }
+        ensures idle { IfOk result IsIdle }
+        ensures rest { IfOk result IsResting }
         ensures only_memory { IfErr result IsMemory }
     {
         let board = match Board::new(alloc, work.count(), order) {
@@ -110,8 +107,8 @@ impl<W: JobMaker + Drop> Execution<W> {
         ensures board { IfOk result (λ run. run.board ≡ board_with done.now order.items) }
         ensures done { IfOk result (λ run. (k : ℕ) → k < length done.now
             → done_of run.board k ≡ slice_index_or done.now k false) }
-        ensures idle { IfOk result (λ run. (w : ℕ) → hands_at run w ≡ Nothing) }
-        ensures rest { IfOk result (λ run. AtRest run.board) }
+        ensures idle { IfOk result IsIdle }
+        ensures rest { IfOk result IsResting }
         ensures only_memory { IfErr result IsMemory }
     {
         let resting = match Board::with_done(alloc, work.count(), order, done) {
@@ -155,11 +152,10 @@ impl<W: JobMaker> Execution<W> {
             (output_view B.Bench bench.old)) (hands_at self.old)
             (snapshot_of (W.plan self.new.work) self.new.board 0 (source_view S.Shelf shelf.new)
             (output_view B.Bench bench.new)) (shelf.new ≡ shelf.old) result }
-        ensures finished { AtRest self.old.board → hands_at self.old 1 ≡ Nothing
-            → OnOk result (is_finished self.new.board ≡ true) }
-        ensures reported { IfOk result (λ progress. progress.finished ≡ is_finished self.new.board) }
-        ensures memory { IsErrOf result execution_fault.Memory → ⊥ }
-        ensures job_memory { IsErrOf result execution_fault.JobMemory → ⊥ }
+        ensures finished { DoesAll self.old self.new result }
+        ensures reported { IfOk result (ReportsOf self.new.board) }
+        ensures memory { WantsNoPlace result }
+        ensures job_memory { WantsNoRoom result }
     {
         execute(&mut self.shop, true, &[], shelf, bench, watch)
     }
@@ -202,11 +198,10 @@ impl<W: JobMaker> Execution<W> {
             (output_view B.Bench bench.old)) (hands_at self.old)
             (snapshot_of (W.plan self.new.work) self.new.board 0 (source_view S.Shelf shelf.new)
             (output_view B.Bench bench.new)) result }
-        ensures finished { AtRest self.old.board → hands_at self.old 1 ≡ Nothing
-            → OnOk result (is_finished self.new.board ≡ true) }
-        ensures reported { IfOk result (λ progress. progress.finished ≡ is_finished self.new.board) }
-        ensures memory { IsErrOf result execution_fault.Memory → ⊥ }
-        ensures job_memory { IsErrOf result execution_fault.JobMemory → ⊥ }
+        ensures finished { DoesAll self.old self.new result }
+        ensures reported { IfOk result (ReportsOf self.new.board) }
+        ensures memory { WantsNoPlace result }
+        ensures job_memory { WantsNoRoom result }
     {
         resume(&mut self.shop, true, &[], shelf, bench, watch)
     }

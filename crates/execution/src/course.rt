@@ -4,9 +4,10 @@ ghost use Rattle.devices.specs.Views.{output_view, source_view};
 ghost use Rattle.job_terms.specs.Board.{is_finished};
 ghost use Rattle.job_terms.specs.Workers.{Nothing};
 ghost use Rattle.execution.specs.Alone.{AtRest};
+ghost use Rattle.execution.specs.Boards.{ReportsOf};
 ghost use Rattle.execution.specs.Ends.{OnlyInEvents};
 ghost use Rattle.execution.specs.EventRun.{listed, snapshot_of};
-ghost use Rattle.execution.specs.Held.{IsReady, hands_in};
+ghost use Rattle.execution.specs.Held.{IsWorkshop, hands_in};
 ghost use Rattle.execution.specs.Marking.{done_of};
 ghost use Rattle.execution.specs.Noted.{KeepsNotes};
 ghost use Rattle.execution.specs.Outcome.{Executed, Resumed};
@@ -26,7 +27,7 @@ pub fn resume<W: JobMaker, S: Shelf, B: Bench, T: Watch>(
     bench: &mut B,
     watch: &mut T,
 ) -> Result<Progress, ExecutionFault>
-    requires { IsReady (W.plan shop.old.work).jobs shop.old.board shop.old.hands }
+    requires { IsWorkshop W.plan shop.old }
     ensures resumed { Resumed (listed in_rounds (W.plan shop.old.work).jobs.count events.now)
         (snapshot_of (W.plan shop.old.work) shop.old.board 0 (source_view S.Shelf shelf.old) (output_view B.Bench bench.old))
         (hands_in shop.old.hands)
@@ -34,12 +35,12 @@ pub fn resume<W: JobMaker, S: Shelf, B: Bench, T: Watch>(
         result }
     ensures finished { in_rounds ≡ true → AtRest shop.old.board → hands_in shop.old.hands 1 ≡ Nothing
         → OnOk result (is_finished shop.new.board ≡ true) }
-    ensures reported { IfOk result (λ progress. progress.finished ≡ is_finished shop.new.board) }
+    ensures reported { IfOk result (ReportsOf shop.new.board) }
     ensures notes { IsTrue (S.honest shelf.old)
         → KeepsNotes (λ first. W.remains first shop.old.work) (λ first. W.remains first shop.new.work)
         (W.noted shop.old.work (S.stored shelf.old)) (W.noted shop.new.work (S.stored shelf.old))
         (done_of shop.old.board) (done_of shop.new.board) (hands_in shop.old.hands) (hands_in shop.new.hands) }
-    ensures ready { IsReady (W.plan shop.new.work).jobs shop.new.board shop.new.hands }
+    ensures ready { IsWorkshop W.plan shop.new }
     ensures memory { OnlyInEvents in_rounds result }
 {
     let progress = match perform(shop, in_rounds, events, shelf, bench, watch) {
@@ -64,7 +65,7 @@ pub fn execute<W: JobMaker, S: Shelf, B: Bench, T: Watch>(
     bench: &mut B,
     watch: &mut T,
 ) -> Result<Progress, ExecutionFault>
-    requires { IsReady (W.plan shop.old.work).jobs shop.old.board shop.old.hands }
+    requires { IsWorkshop W.plan shop.old }
     ensures executed { Executed (listed in_rounds (W.plan shop.old.work).jobs.count events.now)
         (snapshot_of (W.plan shop.old.work) shop.old.board 0 (source_view S.Shelf shelf.old) (output_view B.Bench bench.old))
         (hands_in shop.old.hands)
@@ -72,12 +73,12 @@ pub fn execute<W: JobMaker, S: Shelf, B: Bench, T: Watch>(
         (shelf.new ≡ shelf.old) result }
     ensures finished { in_rounds ≡ true → AtRest shop.old.board → hands_in shop.old.hands 1 ≡ Nothing
         → OnOk result (is_finished shop.new.board ≡ true) }
-    ensures reported { IfOk result (λ progress. progress.finished ≡ is_finished shop.new.board) }
+    ensures reported { IfOk result (ReportsOf shop.new.board) }
     ensures notes { IsTrue (S.honest shelf.old)
         → KeepsNotes (λ first. W.remains first shop.old.work) (λ first. W.remains first shop.new.work)
         (W.noted shop.old.work (S.stored shelf.old)) (W.noted shop.new.work (S.stored shelf.old))
         (done_of shop.old.board) (done_of shop.new.board) (hands_in shop.old.hands) (hands_in shop.new.hands) }
-    ensures ready { IsReady (W.plan shop.new.work).jobs shop.new.board shop.new.hands }
+    ensures ready { IsWorkshop W.plan shop.new }
     ensures memory { OnlyInEvents in_rounds result }
 {
     match shop.work.lay_out(bench) {

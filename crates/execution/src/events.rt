@@ -113,7 +113,7 @@ fn act<W: JobMaker, S: Shelf, B: Bench>(
     shelf: &mut S,
     bench: &mut B,
 ) -> Result<(), ExecutionFault>
-    requires { MayStep (W.plan shop.old.work).jobs shop.old.board shop.old.hands stale.old }
+    requires { MayStep W.plan shop.old stale.old }
     ensures ran { EventRun
         (snapshot_of (W.plan shop.old.work) shop.old.board stale.old (source_view S.Shelf shelf.old) (output_view B.Bench bench.old))
         (hands_in shop.old.hands) (events_of result (event_of action number))
@@ -166,7 +166,7 @@ pub fn step<W: JobMaker, S: Shelf, B: Bench>(
     shelf: &mut S,
     bench: &mut B,
 ) -> Result<(), ExecutionFault>
-    requires { MayStep (W.plan shop.old.work).jobs shop.old.board shop.old.hands stale.old }
+    requires { MayStep W.plan shop.old stale.old }
     ensures ran { EventRun
         (snapshot_of (W.plan shop.old.work) shop.old.board stale.old (source_view S.Shelf shelf.old) (output_view B.Bench bench.old))
         (hands_in shop.old.hands) (events_of result event)

@@ -1,7 +1,7 @@
 // What all workers hold.
 ghost use Rattle.std.specs.Prelude.{◌≡◌, ◌≢◌, ℕ, IfOk, OnOk, IsErr, true};
-ghost use Rattle.job_terms.specs.Workers.{Nothing, with_hand};
-ghost use Rattle.execution.specs.Held.{hands_in, has_place};
+ghost use Rattle.job_terms.specs.Workers.{with_hand};
+ghost use Rattle.execution.specs.Held.{AreIdle, hands_in, has_place};
 
 use crate::worker::Worker;
 use std::alloc::{AllocError, Global};
@@ -19,7 +19,7 @@ pub struct Hands {
 impl Hands {
     /// Worker 1 alone, with room for the bytes of any job of at most so many. No worker holds anything.
     pub fn with_room(alloc: Global, most: usize) -> Result<Self, AllocError>
-        ensures hands { IfOk result (λ hands. (w : ℕ) → hands_in hands w ≡ Nothing) }
+        ensures hands { IfOk result AreIdle }
         ensures room { IfOk result (λ hands. hands.first.room ≡ most) }
     {
         let first = Worker::with_room(alloc, most)?;

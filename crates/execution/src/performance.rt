@@ -4,7 +4,7 @@ ghost use Rattle.job_terms.specs.declared.BoardEvent.TheVariants as event_kind;
 ghost use Rattle.job_terms.specs.Workers.{rounds};
 ghost use Rattle.execution.specs.Ends.{FailsNoOutput, NeedsPlace, NeedsRoom, OnlyInEvents};
 ghost use Rattle.execution.specs.Boards as spec;
-ghost use Rattle.execution.specs.Held.{IsReady, hands_in};
+ghost use Rattle.execution.specs.Held.{IsWorkshop, hands_in};
 ghost use Rattle.execution.specs.Marking.{done_of};
 ghost use Rattle.execution.specs.Noted.{KeepsNotes};
 ghost use Rattle.execution.specs.EventRun.{Performed, listed, snapshot_of};
@@ -134,7 +134,7 @@ pub fn perform<W: JobMaker, S: Shelf, B: Bench, T: Watch>(
     bench: &mut B,
     watch: &mut T,
 ) -> Result<Progress, ExecutionFault>
-    requires { IsReady (W.plan shop.old.work).jobs shop.old.board shop.old.hands }
+    requires { IsWorkshop W.plan shop.old }
     ensures performed { Performed in_rounds (listed in_rounds (W.plan shop.old.work).jobs.count events.now)
         (snapshot_of (W.plan shop.old.work) shop.old.board 0 (source_view S.Shelf shelf.old) (output_view B.Bench bench.old))
         (hands_in shop.old.hands)
@@ -144,7 +144,7 @@ pub fn perform<W: JobMaker, S: Shelf, B: Bench, T: Watch>(
         → KeepsNotes (λ first. W.remains first shop.old.work) (λ first. W.remains first shop.new.work)
         (W.noted shop.old.work (S.stored shelf.old)) (W.noted shop.new.work (S.stored shelf.old))
         (done_of shop.old.board) (done_of shop.new.board) (hands_in shop.old.hands) (hands_in shop.new.hands) }
-    ensures ready { IsReady (W.plan shop.new.work).jobs shop.new.board shop.new.hands }
+    ensures ready { IsWorkshop W.plan shop.new }
     ensures memory { OnlyInEvents in_rounds result }
     ensures no_output { FailsNoOutput result }
 {

@@ -37,3 +37,7 @@ ReadsMarks bench old new result = disk.ReadsTo bench.stored bench.honest bench.f
 abbrev pub WritesMarks : {B X : Type 0} → Ghosts B → B → B → Result X MarkFault → Type 0
 WritesMarks bench old new result = frame.OnlyWrites bench (λ n. n ≢ marks_name) old new result
     (λ fault. number_of fault ≡ 62) (λ fault failed. failed (name_of fault))
+
+-- the device failed at the marks
+abbrev pub FailsAtMarks : MarkFault → Type 0
+FailsAtMarks fault = fault ≡ Device Marks

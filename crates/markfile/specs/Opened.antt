@@ -2,7 +2,8 @@
 use Rattle.std.specs.Prelude.{◌≡◌, ℕ, ◌+◌, ◌<◌, slice_index_or, Bool, false, ◌&&◌, ◌==◌, Option, None, Some, Result, Ok, Err, IsOk, List, length, take, drop, map, codes, option_map, if◌then◌else◌}
 use Rattle.sound_terms.specs.Chunks.{stands_at}
 use Rattle.sound_terms.specs.Waves.{u32_bytes}
-use Rattle.work_terms.specs.Disk.{Files, IsEmptyOrAbsent}
+use Rattle.work_terms.specs.Disk.{Files, IsEmptyOrAbsent, IsUntouched}
+use Rattle.devices.specs.declared.bench.Bench.{Ghosts}
 use Rattle.markfile.specs.declared.run.RunId.{RunId}
 use Rattle.markfile.specs.declared.opening.Marks as opening
 use Rattle.markfile.specs.declared.fault.MarkFault.{MarkFault}
@@ -73,3 +74,7 @@ pub record AreFound (run : RunId) (files : Files) (marked : List Bool) : Type 0 
   pub sound : option_map length (files sound_name) ≡ Some run.length
   pub count : length marked ≡ run.blocks
   pub each : (block : ℕ) → block < run.blocks → slice_index_or marked block false ≡ is_marked marks block
+
+-- nothing is written: what is read stays, and no moment leaves what couldn't be left before
+abbrev pub Settles : {B : Type 0} → Ghosts B → B → B → Type 0
+Settles bench = IsUntouched bench.stored bench.may_leave bench.moment bench.left_since

@@ -1,9 +1,9 @@
 // Marks that a run left.
 ghost use Rattle.std.specs.Prelude.{◌≡◌, ◌+◌, ◌==◌, ◌≢◌, ◌≤◌, IsTrue, IfErr, IfOk, OnOk, IfSome, ℕ, List, Some, drop, length, map};
-ghost use Rattle.work_terms.specs.Disk.{Files, IsUntouched};
+ghost use Rattle.work_terms.specs.Disk.{Files};
 ghost use Rattle.markfile.specs.Fault.{ReadsMarks, number_of};
 ghost use Rattle.markfile.specs.Format.{marks_name};
-ghost use Rattle.markfile.specs.Opened.{Answers, AreFound, AreSettled, marks_in, opened_of};
+ghost use Rattle.markfile.specs.Opened.{Answers, AreFound, AreSettled, Settles, marks_in, opened_of};
 
 use crate::front::{FRONT, OPEN, front_fault, read_front};
 use crate::settled::{Sizes, settle_both};
@@ -31,7 +31,7 @@ fn read_marked<B: Bench>(alloc: Global, bench: &mut B, blocks: u32) -> Result<Ma
         → IfOk result (λ read. read.marked.items ≡ map (λ byte. byte == 1) (drop 44 marks)) }
     ensures count { IfOk result (λ read. length read.marked.items ≡ blocks) }
     ensures due { IfErr result (λ fault. (fault ≢ MarkFault.BadMarks) × (fault ≢ MarkFault.OtherRun)) }
-    ensures untouched { IsUntouched B.stored B.may_leave B.moment B.left_since bench.old bench.new }
+    ensures untouched { Settles B.Bench bench.old bench.new }
     ensures only_reads { ReadsMarks B.Bench bench.old bench.new result }
 {
     let Ok(mut bytes) = vec![in alloc; 0; blocks as usize] else {
@@ -60,7 +60,7 @@ fn read_marks<B: Bench>(
     ensures found { IsTrue (B.honest bench.old) → (marks : List ℕ) → B.stored bench.old marks_name ≡ Some marks
         → length marks ≡ size → 44 ≤ size → Answers result (marks_in run.now sound marks) }
     ensures each { IfOk result (λ found. IfSome found (λ marks. length marks.marked.items ≡ run.now.blocks)) }
-    ensures untouched { IsUntouched B.stored B.may_leave B.moment B.left_since bench.old bench.new }
+    ensures untouched { Settles B.Bench bench.old bench.new }
     ensures only_reads { ReadsMarks B.Bench bench.old bench.new result }
 {
     let front = match read_front(bench) {
@@ -95,7 +95,7 @@ pub fn open_marks<B: Bench>(
         AreFound run.now (B.stored bench.old) marks.marked.items)) }
     ensures settled { IsTrue (B.honest bench.old) → OnOk result ((c : Files) → B.may_leave bench.new c
         → AreSettled (B.stored bench.new) c) }
-    ensures untouched { IsUntouched B.stored B.may_leave B.moment B.left_since bench.old bench.new }
+    ensures untouched { Settles B.Bench bench.old bench.new }
     ensures only_reads { ReadsMarks B.Bench bench.old bench.new result }
 {
     let sizes = match settle_both(bench) {

@@ -1,8 +1,8 @@
 // Marks that are set.
-ghost use Rattle.std.specs.Prelude.{◌≡◌, ◌≢◌, ◌+◌, ◌-◌, ◌^◌, ◌<◌, ◌≤◌, ◌∷◌, [], ℕ, IfErr, IsTrue, List, OnOk, replicate, ⊤};
+ghost use Rattle.std.specs.Prelude.{◌≢◌, ◌+◌, ◌-◌, ◌^◌, ◌<◌, ◌≤◌, ◌∷◌, [], ℕ, IfErr, IsTrue, List, OnOk, replicate, ⊤};
 ghost use Rattle.work_terms.specs.Disk.{Changes, Files, IsDurable, IsTorn, IsWritten, LeavesOnly};
 ghost use Rattle.devices.specs.Frame.{OnlyWrites};
-ghost use Rattle.markfile.specs.Fault.{WritesMarks};
+ghost use Rattle.markfile.specs.Fault.{FailsAtMarks, WritesMarks};
 ghost use Rattle.markfile.specs.Format.{marks_name};
 ghost use Rattle.markfile.specs.Started.{AreSet, IsAfter, IsSet, Lasts, LeavesMark, LeavesMarks};
 ghost use Rattle.markfile.specs.declared.run.RunId.{RunId};
@@ -51,7 +51,7 @@ fn set_marks<B: Bench>(bench: &mut B, from: u64, end: u64) -> Result<(), MarkFau
     ensures crash { IsTrue (B.honest bench.old) → (run : RunId) (marks : List ℕ)
         → Lasts B.Bench run marks bench.old
         → (c : Files) → B.may_leave bench.new c → LeavesMarks run from end marks (B.may_leave bench.old) c }
-    ensures fault { IfErr result (λ fault. fault ≡ MarkFault.Device MarkedFile.Marks) }
+    ensures fault { IfErr result FailsAtMarks }
     ensures only_writes { WritesMarks B.Bench bench.old bench.new result }
 {
     match write_ones(bench, FRONT as u64 + from, (end - from) as usize) {
@@ -82,7 +82,7 @@ pub fn mark_all<B: Bench>(bench: &mut B, from: u32, end: u32) -> Result<(), Mark
     ensures crash { IsTrue (B.honest bench.old) → (run : RunId) (marks : List ℕ)
         → Lasts B.Bench run marks bench.old
         → (c : Files) → B.may_leave bench.new c → LeavesMarks run from end marks (B.may_leave bench.old) c }
-    ensures fault { IfErr result (λ fault. fault ≡ MarkFault.Device MarkedFile.Marks) }
+    ensures fault { IfErr result FailsAtMarks }
     ensures only_writes { WritesMarks B.Bench bench.old bench.new result }
 {
     set_marks(bench, from as u64, end as u64)
@@ -104,7 +104,7 @@ pub fn mark<B: Bench>(bench: &mut B, block: u32) -> Result<(), MarkFault>
     ensures crash { IsTrue (B.honest bench.old) → (run : RunId) (marks : List ℕ)
         → Lasts B.Bench run marks bench.old
         → (c : Files) → B.may_leave bench.new c → LeavesMark run block marks (B.may_leave bench.old) c }
-    ensures fault { IfErr result (λ fault. fault ≡ MarkFault.Device MarkedFile.Marks) }
+    ensures fault { IfErr result FailsAtMarks }
     ensures only_writes { WritesMarks B.Bench bench.old bench.new result }
 {
     set_marks(bench, block as u64, block as u64 + 1)

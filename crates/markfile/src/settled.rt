@@ -1,9 +1,9 @@
 // Files of which nothing is pending.
 ghost use Rattle.std.specs.Prelude.{◌≡◌, IsTrue, IfErr, IfOk, OnOk, option_map, length, ⊤};
-ghost use Rattle.work_terms.specs.Disk.{Files, IsUntouched, ReadsTo};
+ghost use Rattle.work_terms.specs.Disk.{Files, ReadsTo};
 ghost use Rattle.markfile.specs.Fault.{ReadsMarks, number_of};
 ghost use Rattle.markfile.specs.Format.{marks_name, sound_name};
-ghost use Rattle.markfile.specs.Opened.{AreSettled, IsSettledAs};
+ghost use Rattle.markfile.specs.Opened.{AreSettled, IsSettledAs, Settles};
 
 use crate::{MARKS, MarkFault, MarkedFile, SOUND};
 use devices::{Bench, DeviceFault, ShelfFault};
@@ -14,7 +14,7 @@ fn settle<B: Bench>(bench: &mut B, name: &str) -> Result<Option<u64>, DeviceFaul
         → IfOk result (λ size. size ≡ option_map length (B.stored bench.old name.now)) }
     ensures settled { IsTrue (B.honest bench.old) → OnOk result ((c : Files) → B.may_leave bench.new c
         → IsSettledAs (B.stored bench.new name.now) (c name.now)) }
-    ensures untouched { IsUntouched B.stored B.may_leave B.moment B.left_since bench.old bench.new }
+    ensures untouched { Settles B.Bench bench.old bench.new }
     ensures only_reads { ReadsTo B.stored B.honest B.failures B.failed_at bench.old bench.new result (λ _. ⊤)
         (λ _ failed. failed name.now) }
 {
@@ -45,7 +45,7 @@ pub fn settle_both<B: Bench>(bench: &mut B) -> Result<Sizes, MarkFault>
     ensures settled { IsTrue (B.honest bench.old) → OnOk result ((c : Files) → B.may_leave bench.new c
         → AreSettled (B.stored bench.new) c) }
     ensures device { IfErr result (λ fault. number_of fault ≡ 62) }
-    ensures untouched { IsUntouched B.stored B.may_leave B.moment B.left_since bench.old bench.new }
+    ensures untouched { Settles B.Bench bench.old bench.new }
     ensures only_reads { ReadsMarks B.Bench bench.old bench.new result }
 {
     let sound = match settle(bench, SOUND) {

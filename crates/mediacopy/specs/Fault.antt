@@ -1,8 +1,12 @@
 -- The number of each fault of a medium.
-use Rattle.std.specs.Prelude.{ℕ}
+use Rattle.std.specs.Prelude.{◌≡◌, ℕ}
 use Rattle.mediacopy.specs.declared.fault.CopyFault.{CopyFault}
 use Rattle.mediacopy.specs.declared.fault.CopyFault.TheVariants.{Source, Output}
 
 abbrev pub number_of : CopyFault → ℕ
 number_of Source = 22
 number_of Output = 62
+
+-- the medium can't be written
+abbrev pub IsOutput : CopyFault → Type 0
+IsOutput fault = fault ≡ Output

@@ -5,6 +5,8 @@ use Rattle.sound_terms.specs.Media.{IsRunOf, frame_length, frames_in, medium_inf
 use Rattle.sound_terms.specs.Sounds.{SoundFacts}
 use Rattle.sound_terms.specs.Waves.{data_place, file_length}
 use Rattle.work_terms.specs.Disk.{Files}
+use Rattle.list_terms.specs.Binding.{Binding}
+use Rattle.list_terms.specs.Heard.{sounds_of}
 use Rattle.mediacopy.specs.declared.piece.CopyJob.{CopyJob}
 
 -- what stands behind the last run
@@ -25,6 +27,10 @@ pub record IsPieceOf (sounds : List SoundFacts) (runs : List Run) (job : CopyJob
   pub of_file : IsRunOf sounds run
   pub inside : job.from + job.frames ≤ run.length
   pub told : file_length (medium_info (sound_at sounds run.file) 0 run) < 2 ^ 64
+
+-- the same of the files of a binding
+abbrev pub IsPieceIn : Binding → List Run → CopyJob → Type 0
+IsPieceIn bound runs job = IsPieceOf (sounds_of bound) runs job
 
 -- how many bytes it has
 abbrev pub piece_length : List SoundFacts → List Run → CopyJob → ℕ

@@ -5,7 +5,8 @@ ghost use Rattle.sound_terms.specs.Media.{frame_length};
 ghost use Rattle.list_terms.specs.Heard.{sounds_of};
 ghost use Rattle.list_terms.specs.Renewed.{media_name};
 ghost use Rattle.devices.specs.Frame.{OnlyReads, OnlyWrites};
-ghost use Rattle.mediacopy.specs.Pieces.{IsPieceOf, piece_bytes, piece_length, piece_place, run_at};
+ghost use Rattle.mediacopy.specs.Fault.{IsOutput};
+ghost use Rattle.mediacopy.specs.Pieces.{IsPieceIn, piece_bytes, piece_length, piece_place, run_at};
 ghost use Rattle.mediacopy.specs.Pieces as spec;
 ghost use Rattle.mediacopy.specs.Moment.{IsLater};
 
@@ -46,7 +47,7 @@ fn run_of(runs: &[Run], job: CopyJob) -> &Run
 
 /// The file that a piece is of.
 fn source_of<'a>(bound: &'a Bound, runs: &[Run], job: CopyJob) -> &'a Sound
-    requires { IsPieceOf (sounds_of bound.now) runs.now job }
+    requires { IsPieceIn bound.now runs.now job }
     ensures { result.now ≡ spec.source_of (sounds_of bound.now) runs.now job }
 {
     let run = run_of(runs, job);
@@ -63,7 +64,7 @@ fn lie_within(from: u64, count: u64, frames: u64) -> bool
 /// Whether a job is a piece of a run of a bound file: some of the run's frames, all of which the file has, where 64 bits
 /// can tell the length of the run's medium.
 pub fn is_piece(bound: &Bound, runs: &[Run], job: CopyJob) -> bool
-    ensures { IsTrue result ↔ IsPieceOf (sounds_of bound.now) runs.now job }
+    ensures { IsTrue result ↔ IsPieceIn bound.now runs.now job }
 {
     let Some(run) = runs.get(job.run as usize) else {
         return false;
@@ -79,7 +80,7 @@ pub fn is_piece(bound: &Bound, runs: &[Run], job: CopyJob) -> bool
 
 /// How many bytes a piece has.
 pub fn length_of(bound: &Bound, runs: &[Run], job: CopyJob) -> usize
-    requires piece { IsPieceOf (sounds_of bound.now) runs.now job }
+    requires piece { IsPieceIn bound.now runs.now job }
     ensures { result ≡ piece_length (sounds_of bound.now) runs.now job }
 {
     let frame = frame_of(source_of(bound, runs, job));
@@ -94,7 +95,7 @@ pub fn fetch_piece<S: Shelf>(
     job: CopyJob,
     bytes: &mut [u8],
 ) -> Result<(), CopyFault>
-    requires piece { IsPieceOf (sounds_of bound.now) runs.now job }
+    requires piece { IsPieceIn bound.now runs.now job }
     requires room { length bytes.old ≡ piece_length (sounds_of bound.now) runs.now job }
     ensures fetched { IsTrue (S.honest shelf.old)
         → OnOk result (bytes.new ≡ piece_bytes (S.stored shelf.old) (sounds_of bound.now) runs.now job) }
@@ -120,14 +121,14 @@ pub fn place_piece<B: Bench>(
     job: CopyJob,
     bytes: &[u8],
 ) -> Result<(), CopyFault>
-    requires piece { IsPieceOf (sounds_of bound.now) runs.now job }
+    requires piece { IsPieceIn bound.now runs.now job }
     ensures placed { IsTrue (B.honest bench.old)
         → OnOk result (Changes (IsWritten (piece_place (sounds_of bound.now) runs.now job) bytes.now)
         (media_name (job.run + 1)) (B.stored bench.old) (B.stored bench.new)) }
     ensures torn { IsTrue (B.honest bench.old)
         → OnErr result (Changes (IsTorn (piece_place (sounds_of bound.now) runs.now job) (length bytes.now))
         (media_name (job.run + 1)) (B.stored bench.old) (B.stored bench.new)) }
-    ensures output { IfErr result (λ fault. fault ≡ CopyFault.Output) }
+    ensures output { IfErr result IsOutput }
     ensures only_writes { OnlyWrites B.Bench (λ n. n ≢ media_name (job.run + 1)) bench.old bench.new result (λ _. ⊤)
         (λ _ failed. failed (media_name (job.run + 1))) }
     ensures later { IsLater B.moment bench.old bench.new }
@@ -151,7 +152,7 @@ pub fn copy_piece<S: Shelf, B: Bench>(
     job: CopyJob,
     bytes: &mut [u8],
 ) -> Result<(), CopyFault>
-    requires piece { IsPieceOf (sounds_of bound.now) runs.now job }
+    requires piece { IsPieceIn bound.now runs.now job }
     requires room { length bytes.old ≡ piece_length (sounds_of bound.now) runs.now job }
     ensures copied { IsTrue (S.honest shelf.old) → IsTrue (B.honest bench.old)
         → OnOk result (Changes (IsWritten (piece_place (sounds_of bound.now) runs.now job)

@@ -4,6 +4,7 @@ ghost use Rattle.sound_terms.specs.Waves.{data_place};
 ghost use Rattle.devices.specs.Frame.{OnlyWrites};
 ghost use Rattle.wavwrite.specs.Info.{Fits};
 ghost use Rattle.mediacopy.specs.Copied.{laid_out};
+ghost use Rattle.mediacopy.specs.Fault.{IsOutput};
 ghost use Rattle.mediacopy.specs.Moment.{IsLater};
 
 use crate::CopyFault;
@@ -17,7 +18,7 @@ pub const LONGEST_HEADER: usize = 66_226;
 pub fn lay_out<B: Bench>(bench: &mut B, name: &str, info: &SoundInfo) -> Result<(), CopyFault>
     requires { Fits info.now }
     ensures laid { IsTrue (B.honest bench.old) → OnOk result (B.stored bench.new name.now ≡ Some (laid_out info.now)) }
-    ensures output { IfErr result (λ fault. fault ≡ CopyFault.Output) }
+    ensures output { IfErr result IsOutput }
     ensures only_writes { OnlyWrites B.Bench (λ n. n ≢ name.now) bench.old bench.new result (λ _. ⊤)
         (λ _ failed. failed name.now) }
     ensures later { IsLater B.moment bench.old bench.new }

@@ -1,5 +1,5 @@
 -- The number and the place of each fault.
-use Rattle.std.specs.Prelude.{false}
+use Rattle.std.specs.Prelude.{◌≡◌, false}
 use Rattle.work_terms.specs.Refusals.{Refusal, Index}
 use Rattle.riff.specs.Fault as media
 use Rattle.adlread.specs.Fault as list
@@ -14,3 +14,7 @@ refusal_of (fault.SameName index) = record { number = 30; location = Index index
 refusal_of (fault.Media index name fault) =
     record { number = media.number_of fault; location = file_at index name; late = false }
 refusal_of (fault.Entry fault) = entry.refusal_of fault
+
+-- it comes before anything is written
+abbrev pub IsEarly : Fault → Type 0
+IsEarly fault = (refusal_of fault).late ≡ false

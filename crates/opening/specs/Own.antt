@@ -9,9 +9,13 @@ use Rattle.sourceindex.specs.declared.fault.BindFault.TheVariants as bound
 use Rattle.opening.specs.declared.fault.Fault.{Fault}
 use Rattle.opening.specs.declared.fault.Fault.TheVariants as fault
 
+-- the text is that of this project
+abbrev pub IsTextOf : List ℕ → ListProject → Type 0
+IsTextOf text project = text_value text ≡ Ok project
+
 -- this holds of the project whose text this is
 abbrev pub OfText : List ℕ → (ListProject → Type 0) → Type 0
-OfText text P = (project : ListProject) × (text_value text ≡ Ok project) × P project
+OfText text P = (project : ListProject) × IsTextOf text project × P project
 
 -- a fault of binding: at an index that an entry names, or at one for which no memory was left to tell that none does
 abbrev pub IsOfBinding : ListProject → Fault → Type 0

@@ -3,7 +3,7 @@ ghost use Rattle.std.specs.Prelude.{◌≡◌, ◌≤◌, ℕ, IfErr, IfOk, IsTr
 ghost use Rattle.list_terms.specs.Bound.{binding_of};
 ghost use Rattle.list_terms.specs.Text.{text_value};
 ghost use Rattle.opening.specs.Further.{AreAll, AreFurther, AreOfEntries, AreOfFiles, HasReason, IsCut, IsUnread, WasRead};
-ghost use Rattle.opening.specs.Own.{OfText};
+ghost use Rattle.opening.specs.Own.{IsTextOf, OfText};
 
 mod entries;
 mod files;
@@ -83,7 +83,7 @@ fn all_faults<S: Shelf>(
 
 /// Reads the list again.
 fn read_again(alloc: Global, list: &[u8]) -> Result<Project, Untold>
-    ensures read { IfOk result (λ project. text_value list.now ≡ Ok project) }
+    ensures read { IfOk result (IsTextOf list.now) }
     ensures untold { IfErr result (λ untold. IsUnread list.now untold) }
 {
     match read(alloc, list) {

@@ -1,5 +1,5 @@
 // Opens the project of a list.
-ghost use Rattle.std.specs.Prelude.{◌≡◌, ◌≤◌, Err, Ok, false, IsTrue, IfOk, IfErr, MatchBool, ⊤};
+ghost use Rattle.std.specs.Prelude.{◌≡◌, ◌≤◌, Err, Ok, IsTrue, IfOk, IfErr, MatchBool, ⊤};
 ghost use Rattle.work_terms.specs.Disk.{Files};
 ghost use Rattle.work_terms.specs.Refusals.{Answers, is_excused, turn_of};
 ghost use Rattle.list_terms.specs.Bound.{binding_of};
@@ -11,8 +11,8 @@ ghost use Rattle.sourceindex.specs.Fault as binding;
 ghost use Rattle.sourceindex.specs.Own as binding_own;
 ghost use Rattle.sourceindex.specs.Own.{IsOfProject};
 ghost use Rattle.opening.specs.Commands.{ReadsSources, RefusesBadText};
-ghost use Rattle.opening.specs.Faults.{refusal_of};
-ghost use Rattle.opening.specs.Own.{ComesFirst, IsFirst, IsOfBinding, IsOfOpening};
+ghost use Rattle.opening.specs.Faults.{IsEarly, refusal_of};
+ghost use Rattle.opening.specs.Own.{ComesFirst, IsFirst, IsOfBinding, IsOfOpening, IsTextOf};
 
 use crate::Fault;
 use adlmodel::Project;
@@ -24,12 +24,12 @@ use std::alloc::Global;
 
 /// Reads the list.
 fn read_list(alloc: Global, list: &[u8]) -> Result<Project, Fault>
-    ensures spelt { IfOk result (λ project. text_value list.now ≡ Ok project) }
+    ensures spelt { IfOk result (IsTextOf list.now) }
     ensures spelled { IfOk result (Spells list.now) }
     ensures refused { IfErr result (λ fault.
         MatchBool (is_excused (refusal_of fault).number) ⊤ (text_value list.now ≡ Err (refusal_of fault))) }
     ensures first { IfErr result (λ fault. (refusal_of fault).number ≤ 18) }
-    ensures early { IfErr result (λ fault. (refusal_of fault).late ≡ false) }
+    ensures early { IfErr result IsEarly }
     ensures own { IfErr result (IsOfOpening list.now) }
     ensures in_turn { (files : Files) → IfErr result (IsFirst list.now files) }
 {

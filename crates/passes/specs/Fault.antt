@@ -1,8 +1,12 @@
 -- The number of each fault of a pass.
-use Rattle.std.specs.Prelude.{ℕ}
+use Rattle.std.specs.Prelude.{◌≡◌, ℕ}
 use Rattle.passes.specs.declared.fault.PassFault.{PassFault}
 use Rattle.passes.specs.declared.fault.PassFault.TheVariants.{Memory, Device}
 
 abbrev pub number_of : PassFault → ℕ
 number_of Memory = 51
 number_of (Device file) = 52
+
+-- no memory was left
+abbrev pub WantsMemory : PassFault → Type 0
+WantsMemory fault = fault ≡ Memory

@@ -5,5 +5,6 @@ pub mod Keeping
 pub mod Laws
 pub mod Left
 pub mod Looks
+pub mod Output
 pub mod Silent
 pub mod Standard

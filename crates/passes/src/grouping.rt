@@ -1,8 +1,9 @@
 // Pieces that continue one another, as groups again.
-ghost use Rattle.std.specs.Prelude.{◌≡◌, false, map, IfOk, OnOk, Some};
+ghost use Rattle.std.specs.Prelude.{◌≡◌, false, IfOk, OnOk, Some};
 ghost use Rattle.sound_terms.specs.Passes as spec;
 ghost use Rattle.passes.specs.Ends as ends;
 ghost use Rattle.passes.specs.Ends.{IsFirst, follows, group_end, group_follows};
+ghost use Rattle.passes.specs.Output.{HasLastEnds};
 
 use crate::ends::{End, FLAT, RISE};
 use crate::marks::Marks;
@@ -64,9 +65,9 @@ fn append(
     end: Option<End>,
 ) -> Result<(), AllocError>
     requires end { end ≡ group_end group }
-    requires ends { output.old.ends ≡ map group_end output.old.groups.items }
+    requires ends { HasLastEnds output.old }
     requires first { IsFirst (group_follows group) output.old.ends (Some position) }
-    ensures ends { OnOk result (output.new.ends ≡ map group_end output.new.groups.items) }
+    ensures ends { OnOk result (HasLastEnds output.new) }
     ensures put { OnOk result (output.new.groups.items ≡ spec.put_grouped output.old.groups.items group) }
 {
     output.groups[position].append(group)?;
@@ -75,8 +76,8 @@ fn append(
 
 /// Adds a group to the end of the first one that it may follow, and else puts it behind the others.
 fn put_grouped(output: &mut Output, group: Group) -> Result<(), AllocError>
-    requires ends { output.old.ends ≡ map group_end output.old.groups.items }
-    ensures ends { OnOk result (output.new.ends ≡ map group_end output.new.groups.items) }
+    requires ends { HasLastEnds output.old }
+    ensures ends { OnOk result (HasLastEnds output.new) }
     ensures put { OnOk result (output.new.groups.items ≡ spec.put_grouped output.old.groups.items group) }
 {
     let end = end_of(&group);

@@ -3,10 +3,10 @@ ghost use Rattle.std.specs.Prelude.{◌≡◌, ℕ, [], false, IsTrue, IfErr, If
 ghost use Rattle.std.specs.List.{list_any};
 ghost use Rattle.sound_terms.specs.Groups.{SameMix, mix_of, reads};
 ghost use Rattle.sound_terms.specs.Passes.{in_turn, silences, standard_groups};
+ghost use Rattle.passes.specs.Fault.{WantsMemory};
 ghost use Rattle.passes.specs.Keeping.{ReadsNoMore, StayWhole};
 ghost use Rattle.passes.specs.Silent.{AsksFor};
 ghost use Rattle.passes.specs.Standard.{AreStandard, reads_sounding};
-ghost use Rattle.passes.specs.declared.fault.PassFault.TheVariants.{Memory};
 
 use crate::{Pass, PassFault, Samples, silent_of};
 use groups::Intervals;
@@ -23,7 +23,7 @@ pub fn turn(
     ensures keeps_mix { IfOk result (λ new. SameMix intervals silent.now new) }
     ensures keeps_whole { IfOk result (StayWhole intervals) }
     ensures reads_no_more { ReadsNoMore intervals result }
-    ensures memory { IfErr result (λ fault. fault ≡ Memory) }
+    ensures memory { IfErr result WantsMemory }
 {
     pass.apply(alloc, intervals, silent)
 }

@@ -1,11 +1,12 @@
 // Flat pieces that go on without a gap, as one.
-ghost use Rattle.std.specs.Prelude.{◌≡◌, ◌∷◌, [], false, map, IfOk, OnOk};
+ghost use Rattle.std.specs.Prelude.{◌≡◌, ◌∷◌, [], false, IfOk, OnOk};
 ghost use Rattle.sound_terms.specs.declared.piece.Shape.TheVariants.{Flat};
 ghost use Rattle.sound_terms.specs.Groups.{IsPiece};
 ghost use Rattle.sound_terms.specs.Passes as spec;
 ghost use Rattle.sound_terms.specs.Passes.{lengthened, put_to_first};
 ghost use Rattle.passes.specs.Ends as ends;
-ghost use Rattle.passes.specs.Ends.{IsFirst, end_before, flat_end, is_end};
+ghost use Rattle.passes.specs.Ends.{IsFirst, end_before, is_end};
+ghost use Rattle.passes.specs.Output.{HasFlatEnds};
 
 use crate::ends::{End, FLAT};
 use crate::output::Output;
@@ -28,9 +29,9 @@ fn flat_alone(group: &Group) -> Option<Piece>
 fn lengthen(output: &mut Output, position: usize, piece: Piece) -> Result<(), AllocError>
     requires flat { piece.shape ≡ Flat }
     requires sound { IsPiece piece }
-    requires ends { output.old.ends ≡ map flat_end output.old.groups.items }
+    requires ends { HasFlatEnds output.old }
     requires first { IsFirst (is_end (end_before 1 piece)) output.old.ends (Some position) }
-    ensures ends { OnOk result (output.new.ends ≡ map flat_end output.new.groups.items) }
+    ensures ends { OnOk result (HasFlatEnds output.new) }
     ensures put { OnOk result (output.new.groups.items
         ≡ put_to_first (lengthened piece) (piece ∷ []) output.old.groups.items) }
 {
@@ -42,8 +43,8 @@ fn lengthen(output: &mut Output, position: usize, piece: Piece) -> Result<(), Al
 fn put_flat(output: &mut Output, piece: Piece) -> Result<(), AllocError>
     requires flat { piece.shape ≡ Flat }
     requires sound { IsPiece piece }
-    requires ends { output.old.ends ≡ map flat_end output.old.groups.items }
-    ensures ends { OnOk result (output.new.ends ≡ map flat_end output.new.groups.items) }
+    requires ends { HasFlatEnds output.old }
+    ensures ends { OnOk result (HasFlatEnds output.new) }
     ensures put { OnOk result (output.new.groups.items
         ≡ put_to_first (lengthened piece) (piece ∷ []) output.old.groups.items) }
 {
@@ -58,8 +59,8 @@ fn put_flat(output: &mut Output, piece: Piece) -> Result<(), AllocError>
 
 /// Puts a group to those that are put out.
 fn put_joined(output: &mut Output, group: Group) -> Result<(), AllocError>
-    requires ends { output.old.ends ≡ map flat_end output.old.groups.items }
-    ensures ends { OnOk result (output.new.ends ≡ map flat_end output.new.groups.items) }
+    requires ends { HasFlatEnds output.old }
+    ensures ends { OnOk result (HasFlatEnds output.new) }
     ensures put { OnOk result (output.new.groups.items ≡ spec.put_joined output.old.groups.items group) }
 {
     let _ = group.pieces();

@@ -2,8 +2,8 @@
 ghost use Rattle.std.specs.Prelude.{◌≡◌, Bool, List, IfOk, IfErr, OnErr};
 ghost use Rattle.sound_terms.specs.declared.piece.Piece.{Piece};
 ghost use Rattle.sound_terms.specs.Groups.{SameMix};
+ghost use Rattle.passes.specs.Fault.{WantsMemory};
 ghost use Rattle.passes.specs.Keeping.{ReadsNoMore, StayWhole};
-ghost use Rattle.passes.specs.declared.fault.PassFault.TheVariants.{Memory};
 
 use crate::PassFault;
 use groups::Intervals;
@@ -33,6 +33,6 @@ pub trait Pass: Drop {
         ensures keeps_mix { IfOk result (λ new. SameMix intervals silent.now new) }
         ensures keeps_whole { IfOk result (StayWhole intervals) }
         ensures reads_no_more { ReadsNoMore intervals result }
-        ensures memory { IfErr result (λ fault. fault ≡ Memory) }
+        ensures memory { IfErr result WantsMemory }
         ensures unchanged { OnErr result (self.new ≡ self.old) };
 }

@@ -1,5 +1,7 @@
 -- Blocks cut into stretches.
-use Rattle.std.specs.Prelude.{◌≡◌, ℕ, ◌+◌, ◌-◌, ◌*◌, ◌/◌, ◌<◌, ◌≤◌, Bool, false, cond, nat_le, max, min, List, [], ◌∷◌, length, slice_index_or}
+use Rattle.std.specs.Prelude.{◌≡◌, ℕ, ◌+◌, ◌-◌, ◌*◌, ◌/◌, ◌<◌, ◌≤◌, Bool, false, cond, nat_le, max, min, List, [], ◌∷◌, Vec, length, slice_index_or}
+use Rattle.std.specs.List.{All}
+use Rattle.std.specs.declared.alloc.Global.{Global}
 use Rattle.rendering.specs.declared.cutting.JobLength.{JobLength}
 use Rattle.rendering.specs.declared.cutting.JobLength.TheVariants as length_of_jobs
 use Rattle.rendering.specs.declared.stretch.Stretch.{Stretch}
@@ -16,6 +18,10 @@ IsFresh s = s.done ≡ false
 -- it has at most so many blocks
 abbrev pub IsShort : ℕ → Stretch → Type 0
 IsShort most s = s.end - s.first ≤ most
+
+-- none of them has more
+abbrev pub AreShort : ℕ → Vec Stretch Global → Type 0
+AreShort most stretches = All (IsShort most) stretches.items
 
 -- the stretch of this number, counted from 0, where each but the last has so many blocks
 abbrev pub even_stretch : (most to : ℕ) → ℕ → Stretch

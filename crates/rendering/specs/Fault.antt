@@ -1,5 +1,5 @@
 -- The number of each fault of a rendering. None names a place, and each comes before anything is written.
-use Rattle.std.specs.Prelude.{ℕ, ◌<◌, ◌≤◌, ⊤, false}
+use Rattle.std.specs.Prelude.{◌≡◌, ℕ, ◌<◌, ◌≤◌, ⊤, false}
 use Rattle.sound_terms.specs.Render.{Range}
 use Rattle.work_terms.specs.Refusals.{Refusal, Nowhere}
 use Rattle.renderplan.specs.declared.fault.PlanFault as plan
@@ -27,3 +27,7 @@ ComesFirst range MarksMemory = range.from < range.to
 abbrev pub fault_of_plan : plan.PlanFault → RenderFault
 fault_of_plan of_plan.Memory = Memory
 fault_of_plan of_plan.EmptyRange = EmptyRange
+
+-- 57: no memory was left
+abbrev pub WantsMemory : RenderFault → Type 0
+WantsMemory fault = fault ≡ Memory

@@ -22,6 +22,10 @@ pub record MarkedWork : Type 0 where
   pub run : RunId
   pub clips : List Clips
 
+-- how many blocks are marked
+abbrev pub marked_count : List Bool → ℕ
+marked_count marked = count_by (λ mark. mark) marked
+
 -- where a block begins in the rendered file, and where it ends
 abbrev pub block_place : Range → ℕ → ℕ
 block_place range b = length (header_of (render_info range)) + b * bytes_for range block_length
@@ -63,7 +67,7 @@ pub record IsAllMarked (run : RunId) (file : Option (List ℕ)) : Type 0 where
 -- so many blocks are found to be marked, none where nothing is started, or why this run can't go on with the marks
 abbrev pub IsFoundAs : Result (Option ℕ) MarkFault → Result (Option (List Bool)) MarkFault → Type 0
 IsFoundAs (Ok None) due = due ≡ Ok None
-IsFoundAs (Ok (Some count)) due = (marked : List Bool) × (due ≡ Ok (Some marked)) × (count ≡ count_by (λ mark. mark) marked)
+IsFoundAs (Ok (Some count)) due = (marked : List Bool) × (due ≡ Ok (Some marked)) × (count ≡ marked_count marked)
 IsFoundAs (Err fault.OtherRun) due = due ≡ Err fault.OtherRun
 IsFoundAs (Err fault.BadMarks) due = due ≡ Err fault.BadMarks
 IsFoundAs (Err fault.Memory) due = IsOk due

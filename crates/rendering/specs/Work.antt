@@ -1,6 +1,7 @@
 -- A rendering as jobs: stretches of its blocks, each a place of the rendered file.
-use Rattle.std.specs.Prelude.{◌≡◌, ℕ, ◌+◌, ◌-◌, ◌*◌, ◌/◌, ◌<◌, ◌≤◌, ℤ, Bool, List, length, slice_index_or, codes, false}
+use Rattle.std.specs.Prelude.{◌≡◌, ℕ, ◌+◌, ◌-◌, ◌*◌, ◌/◌, ◌<◌, ◌≤◌, ℤ, Bool, List, Vec, length, slice_index_or, codes, false}
 use Rattle.std.specs.List.{All}
+use Rattle.std.specs.declared.alloc.Global.{Global}
 use Rattle.sound_terms.specs.Blocks.{block_count, block_frames, block_length}
 use Rattle.sound_terms.specs.Depth.{bits_of}
 use Rattle.sound_terms.specs.Groups.{sum_of}
@@ -13,6 +14,7 @@ use Rattle.blockmachine.specs.Sums.{Extent}
 use Rattle.renderplan.specs.Planned.{IsPlan, Planned}
 use Rattle.wavwrite.specs.Info.{Fits}
 use Rattle.job_terms.specs.Workers.{JobsBy}
+use Rattle.workboard.specs.Indexed.{IsOrder}
 use Rattle.rendering.specs.declared.cutting.JobLength.{JobLength}
 use Rattle.rendering.specs.declared.stretch.Stretch.{Stretch}
 use Rattle.rendering.specs.Cut.{AreLongest, IsCut, IsShort, IsUniform, blocks_in_job}
@@ -109,3 +111,7 @@ work_of work = record {
   bytes = λ sources k. bytes_of_blocks work.planned.range (heard work.planned work.sounds sources)
       (stretch_at work.stretches k).first (stretch_at work.stretches k).end;
 }
+
+-- its jobs in some order
+abbrev pub IsOrderOf : RenderWork → Vec ℕ Global → Type 0
+IsOrderOf work order = IsOrder (work_of work).count order.items

@@ -5,6 +5,7 @@ use Rattle.sound_terms.specs.Blocks.{block_length, block_start, mixed_block}
 use Rattle.sound_terms.specs.Depth.{bits_of}
 use Rattle.sound_terms.specs.Render.{Range, frames_of}
 use Rattle.sound_terms.specs.Waves.{sample_bytes}
+use Rattle.work_terms.specs.Disk.{LeavesOthers}
 use Rattle.devices.specs.declared.bench.Bench as output
 use Rattle.devices.specs.Frame.{OnlyWrites}
 
@@ -30,3 +31,7 @@ bytes_of_blocks range mix first last =
 abbrev pub WritesRendering : {B X E : Type 0} → output.Ghosts B → B → B → Result X E → (E → Type 0) → Type 0
 WritesRendering bench old new result is_device =
     OnlyWrites bench (λ n. n ≢ codes "render.wav") old new result is_device (λ _ failed. failed (codes "render.wav"))
+
+-- it spares the other files: no moment leaves any of them otherwise
+abbrev pub Spares : {B : Type 0} → output.Ghosts B → B → B → Type 0
+Spares bench = LeavesOthers bench.may_leave bench.moment bench.left_since (codes "render.wav")

@@ -1,11 +1,12 @@
 // Blocks that are summed, and their bytes.
 ghost use Rattle.std.specs.Prelude.{◌≡◌, ◌+◌, ◌*◌, ◌<◌, ◌≤◌, ◌++◌, ⊤, IfErr, IfOk, IfSome, IsTrue, OnOk, length, take};
 ghost use Rattle.std.specs.List.{All};
-ghost use Rattle.sampletime.specs.TimeCode.{day};
 ghost use Rattle.sound_terms.specs.Blocks.{block_count, block_frames};
 ghost use Rattle.sound_terms.specs.Media.{IsPieceOf};
 ghost use Rattle.devices.specs.Frame.{OnlyReads};
+ghost use Rattle.renderplan.specs.Sources.{IsInDay};
 ghost use Rattle.rendering.specs.Clipping.{Clip, sums_of_blocks};
+ghost use Rattle.rendering.specs.Fault.{WantsMemory};
 ghost use Rattle.rendering.specs.Work.{CanPlay, HasRoom, IsInRange, bytes_for, heard, stretch_frames};
 ghost use Rattle.rendering.specs.Written.{block_bytes, bytes_of_blocks};
 ghost use Rattle.rendering.specs.declared.fault.RenderFault.TheVariants.{Memory};
@@ -96,7 +97,7 @@ impl<'a> Blocks<'a> {
     pub fn new(alloc: Global, plan: Plan, sounds: &'a [Sound]) -> Result<Self, RenderFault>
         requires { All (IsPieceOf sounds.now) plan.pieces }
         ensures made { IfOk result (λ blocks. blocks ≡ record { planned = plan; sounds = sounds.now }) }
-        ensures only_memory { IfErr result (λ fault. fault ≡ Memory) }
+        ensures only_memory { IfErr result WantsMemory }
     {
         let channels = plan.format().channels;
         let Ok(machine) = Machine::new(alloc, BLOCK_LENGTH as u32, channels) else {
@@ -148,7 +149,7 @@ impl<'a> Blocks<'a> {
     /// Where the first block of a stretch in which something sounds begins in its file; `None` where all are silent.
     pub fn source_of(&self, stretch: &Stretch) -> Option<(u32, u64)>
         requires { stretch.now.end ≤ block_count self.now.planned.range }
-        ensures in_day { IfSome result (λ source. source.1 < day) }
+        ensures in_day { IfSome result IsInDay }
     {
         for k in stretch.first as u64..stretch.end as u64 {
             let source = self.plan.source_of(k);

@@ -1,7 +1,7 @@
 // Cuts blocks into stretches.
 ghost use Rattle.std.specs.Prelude.{◌≡◌, ◌≤◌, ◌<◌, ◌-◌, ◌^◌, true, false, length, IfOk};
 ghost use Rattle.std.specs.List.{All};
-ghost use Rattle.rendering.specs.Cut.{AreEven, AreLongest, IsCut, IsFresh, IsShort, IsUniform, blocks_in_job};
+ghost use Rattle.rendering.specs.Cut.{AreEven, AreLongest, AreShort, IsCut, IsFresh, IsUniform, blocks_in_job};
 
 use crate::stretch::Stretch;
 use std::alloc::{AllocError, Global};
@@ -41,7 +41,7 @@ pub fn fresh_stretches(alloc: Global, blocks: u32, most: u32) -> Result<Vec<Stre
     ensures cut { IfOk result (λ stretches. IsCut 0 stretches.items blocks) }
     ensures even { IfOk result (λ stretches. AreEven most blocks stretches.items) }
     ensures fresh { IfOk result (λ stretches. All IsFresh stretches.items) }
-    ensures short { IfOk result (λ stretches. All (IsShort most) stretches.items) }
+    ensures short { IfOk result (AreShort most) }
 {
     let mut stretches = Vec::new(alloc);
     let mut first = 0;
@@ -79,7 +79,7 @@ pub fn stretches_of(alloc: Global, marked: &[bool], most: u32) -> Result<Vec<Str
     requires few { length marked.now < 2 ^ 32 }
     ensures cut { IfOk result (λ stretches. IsCut 0 stretches.items (length marked.now)) }
     ensures uniform { IfOk result (λ stretches. All (IsUniform marked.now) stretches.items) }
-    ensures short { IfOk result (λ stretches. All (IsShort most) stretches.items) }
+    ensures short { IfOk result (AreShort most) }
     ensures longest { IfOk result (λ stretches. AreLongest most stretches.items) }
 {
     let mut stretches = Vec::new(alloc);

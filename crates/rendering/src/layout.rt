@@ -1,10 +1,10 @@
 // The rendered file at its full length, before its samples stand in it.
 ghost use Rattle.std.specs.Prelude.{◌≡◌, ◌≢◌, ◌++◌, ⊤, codes, IsTrue, OnOk, Some};
 ghost use Rattle.sound_terms.specs.Waves.{zeros};
-ghost use Rattle.work_terms.specs.Disk.{IsDurable, LeavesOthers};
+ghost use Rattle.work_terms.specs.Disk.{IsDurable};
 ghost use Rattle.devices.specs.Frame.{OnlyWrites};
 ghost use Rattle.rendering.specs.Marked.{laid_file};
-ghost use Rattle.rendering.specs.Written.{WritesRendering};
+ghost use Rattle.rendering.specs.Written.{Spares, WritesRendering};
 
 use crate::Rendering;
 use devices::{Bench, DeviceFault};
@@ -14,7 +14,7 @@ use markfile::SOUND;
 fn begin<B: Bench>(bench: &mut B, head: &[u8], count: u64) -> Result<(), DeviceFault>
     ensures begun { IsTrue (B.honest bench.old)
         → OnOk result (B.stored bench.new (codes "render.wav") ≡ Some (head.now ++ zeros count)) }
-    ensures beside { LeavesOthers B.may_leave B.moment B.left_since (codes "render.wav") bench.old bench.new }
+    ensures beside { Spares B.Bench bench.old bench.new }
     ensures only_writes { WritesRendering B.Bench bench.old bench.new result (λ _. ⊤) }
 {
     match bench.create(SOUND) {
@@ -34,7 +34,7 @@ impl<'a> Rendering<'a> {
     pub(crate) fn lay_out<B: Bench>(&self, bench: &mut B) -> Result<(), DeviceFault>
         ensures laid { IsTrue (B.honest bench.old)
             → OnOk result (B.stored bench.new (codes "render.wav") ≡ Some (laid_file self.now.planned.range)) }
-        ensures beside { LeavesOthers B.may_leave B.moment B.left_since (codes "render.wav") bench.old bench.new }
+        ensures beside { Spares B.Bench bench.old bench.new }
         ensures only_writes { WritesRendering B.Bench bench.old bench.new result (λ _. ⊤) }
     {
         let size = self.blocks.length_of(self.rendered.frames as usize) as u64;
@@ -46,7 +46,7 @@ impl<'a> Rendering<'a> {
         ensures durable { IsTrue (B.honest bench.old)
             → OnOk result (IsDurable (codes "render.wav") (B.stored bench.new) (B.may_leave bench.new)) }
         ensures same { B.stored bench.new ≡ B.stored bench.old }
-        ensures beside { LeavesOthers B.may_leave B.moment B.left_since (codes "render.wav") bench.old bench.new }
+        ensures beside { Spares B.Bench bench.old bench.new }
         ensures only_writes { WritesRendering B.Bench bench.old bench.new result (λ _. ⊤) }
     {
         bench.sync(SOUND)

@@ -1,7 +1,7 @@
 // A marked rendering as a work of an execution.
 ghost use Rattle.std.specs.Prelude.{◌≡◌, ◌<◌, ◌*◌, ℕ, Bool, IfOk, IfSome, IsTrue, List, [], None, Ok, Some, false, length, slice_index_or, ⊤};
 ghost use Rattle.std.specs.List.{All, range_with_len};
-ghost use Rattle.work_terms.specs.Disk.{Files, IsUntouched};
+ghost use Rattle.work_terms.specs.Disk.{Files};
 ghost use Rattle.work_terms.specs.Refusals.{Answers};
 ghost use Rattle.devices.specs.Frame.{OnlyWrites};
 ghost use Rattle.devices.specs.Views.{output_view};
@@ -9,7 +9,7 @@ ghost use Rattle.job_terms.specs.declared.Order.TheVariants.{ByTime};
 ghost use Rattle.job_terms.specs.Workers.{jobs_over};
 ghost use Rattle.workboard.specs.Indexed.{IsOrder};
 ghost use Rattle.markfile.specs.Fault.{ReadsMarks};
-ghost use Rattle.markfile.specs.Opened.{opened_of};
+ghost use Rattle.markfile.specs.Opened.{Settles, opened_of};
 ghost use Rattle.execution.specs.Filled.{AreFilled};
 ghost use Rattle.execution.specs.Maker.{LaysOut};
 ghost use Rattle.execution.specs.Marking.{AreLeftBy, IsRunningBy, NoneStartedBy};
@@ -272,7 +272,7 @@ impl<'a> RenderingWork<'a> {
             × (opened_of self.old.run (B.stored bench.old) ≡ Ok (Some marked)) × AreCutBy jobs marked self.new.work)) }
         ensures unchanged { IfOk result (λ found. found ≡ None → self.new ≡ self.old) }
         ensures reopened { IsReopened self.old self.new }
-        ensures untouched { IsUntouched B.stored B.may_leave B.moment B.left_since bench.old bench.new }
+        ensures untouched { Settles B.Bench bench.old bench.new }
         ensures only_reads { ReadsMarks B.Bench bench.old bench.new result }
     {
         let found = match open_marks(alloc, bench, &self.run) {

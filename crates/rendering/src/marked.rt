@@ -1,15 +1,14 @@
 // A rendering whose blocks are marked as they come to stand on the disk.
-ghost use Rattle.std.specs.Prelude.{◌≡◌, ◌<◌, ◌≤◌, ◌+◌, ◌^◌, ⊤, IfOk, IsTrue, OnOk, Some, codes, length, map};
-ghost use Rattle.std.specs.List.{count_by};
+ghost use Rattle.std.specs.Prelude.{◌≡◌, ◌<◌, ◌≤◌, ◌+◌, ◌^◌, ⊤, IfOk, IsTrue, OnOk, Some, length, map};
 ghost use Rattle.sha2.specs.Sha256.{sha256};
 ghost use Rattle.sound_terms.specs.Blocks.{block_count};
-ghost use Rattle.work_terms.specs.Disk.{IsDurable, LeavesOthers};
+ghost use Rattle.work_terms.specs.Disk.{IsDurable};
 ghost use Rattle.devices.specs.Frame.{OnlyReads};
 ghost use Rattle.markfile.specs.Format.{run_bytes, sound_name};
-ghost use Rattle.rendering.specs.Marked.{file_length, laid_file};
+ghost use Rattle.rendering.specs.Marked.{file_length, laid_file, marked_count};
 ghost use Rattle.rendering.specs.Clipping.{ClipsJob};
 ghost use Rattle.rendering.specs.Work.{AreCutBy, IsInRange, IsRenderWork, place_of, stretch_at, work_of};
-ghost use Rattle.rendering.specs.Written.{WritesRendering};
+ghost use Rattle.rendering.specs.Written.{Spares, WritesRendering};
 
 use crate::Rendering;
 use crate::blocks::BLOCK_LENGTH;
@@ -77,7 +76,7 @@ impl<'a> Rendering<'a> {
             → OnOk result (B.stored bench.new sound_name ≡ Some (laid_file self.now.planned.range)) }
         ensures durable { IsTrue (B.honest bench.old)
             → OnOk result (IsDurable sound_name (B.stored bench.new) (B.may_leave bench.new)) }
-        ensures beside { LeavesOthers B.may_leave B.moment B.left_since (codes "render.wav") bench.old bench.new }
+        ensures beside { Spares B.Bench bench.old bench.new }
         ensures only_writes { WritesRendering B.Bench bench.old bench.new result (λ _. ⊤) }
     {
         match self.lay_out(bench) {
@@ -127,7 +126,7 @@ impl<'a> Rendering<'a> {
 
 /// How many of these are true.
 fn trues(marked: &[bool]) -> usize
-    ensures { result ≡ count_by (λ mark. mark) marked.now }
+    ensures { result ≡ marked_count marked.now }
 {
     marked.iter().filter(|mark| **mark).count()
 }
@@ -135,7 +134,7 @@ fn trues(marked: &[bool]) -> usize
 /// How many of these marks are set.
 pub(crate) fn count_of(marked: &[bool]) -> u32
     requires { length marked.now < 2 ^ 32 }
-    ensures { result ≡ count_by (λ mark. mark) marked.now }
+    ensures { result ≡ marked_count marked.now }
 {
     let count = trues(marked);
     count as u32

@@ -2,10 +2,9 @@
 ghost use Rattle.std.specs.Prelude.{◌≡◌, ◌<◌, IfErr, IfOk, length};
 ghost use Rattle.std.specs.List.{range_with_len};
 ghost use Rattle.job_terms.specs.declared.Order.TheVariants.{ByTime};
-ghost use Rattle.workboard.specs.Indexed.{IsOrder};
 ghost use Rattle.sound_terms.specs.Blocks.{block_count};
 ghost use Rattle.rendering.specs.Cut.{IsCut};
-ghost use Rattle.rendering.specs.Work.{work_of};
+ghost use Rattle.rendering.specs.Work.{IsOrderOf, work_of};
 
 use crate::Rendering;
 use crate::blocks::Blocks;
@@ -53,7 +52,7 @@ impl<'a> Rendering<'a> {
         checked: &Checked,
         order: Order,
     ) -> Result<Vec<u32>, AllocError>
-        ensures order { IfOk result (λ jobs. IsOrder (work_of self.now).count jobs.items) }
+        ensures order { IfOk result (IsOrderOf self.now) }
         ensures by_time { order ≡ ByTime → IfOk result (λ jobs. jobs.items ≡ range_with_len 0 (work_of self.now).count) }
     {
         match order {
@@ -63,14 +62,14 @@ impl<'a> Rendering<'a> {
     }
 
     fn in_turn(&self, alloc: Global) -> Result<Vec<u32>, AllocError>
-        ensures order { IfOk result (λ jobs. IsOrder (work_of self.now).count jobs.items) }
+        ensures order { IfOk result (IsOrderOf self.now) }
         ensures by_time { IfOk result (λ jobs. jobs.items ≡ range_with_len 0 (work_of self.now).count) }
     {
         in_turn(alloc, self.job_count()).map_err(|_| AllocError)
     }
 
     fn by_source(&self, alloc: Global, checked: &Checked) -> Result<Vec<u32>, AllocError>
-        ensures order { IfOk result (λ jobs. IsOrder (work_of self.now).count jobs.items) }
+        ensures order { IfOk result (IsOrderOf self.now) }
     {
         let homes = checked.bound().homes(alloc)?;
         let keys = keys_of(

@@ -10,8 +10,8 @@ ghost use Rattle.list_terms.specs.Accepted as accepted;
 ghost use Rattle.list_terms.specs.Heard.{sounds_of};
 ghost use Rattle.markfile.specs.Range as marks;
 ghost use Rattle.wavwrite.specs.Info.{Fits};
-ghost use Rattle.rendering.specs.Cut.{AreEven, IsCut, IsShort};
-ghost use Rattle.rendering.specs.Fault.{ComesFirst, refusal_of};
+ghost use Rattle.rendering.specs.Cut.{AreEven, AreShort, IsCut};
+ghost use Rattle.rendering.specs.Fault.{ComesFirst, WantsMemory, refusal_of};
 ghost use Rattle.rendering.specs.Planned.{IsPlanFor, IsRenderingOf, MixAs};
 ghost use Rattle.rendering.specs.Rendering.{HasRange, HaveChannels, IsSpan, render_fault, values_of};
 ghost use Rattle.rendering.specs.Work.{IsRenderWork, job_blocks};
@@ -144,8 +144,8 @@ fn stretches_of(
     ensures cut { IfOk result (λ stretches. IsCut 0 stretches.items (block_count blocks.now.planned.range)) }
     ensures even { IfOk result (λ stretches. AreEven (job_blocks jobs blocks.now.planned.range)
         (block_count blocks.now.planned.range) stretches.items) }
-    ensures short { IfOk result (λ stretches. All (IsShort 2048) stretches.items) }
-    ensures only_memory { IfErr result (λ fault. fault ≡ Memory) }
+    ensures short { IfOk result (AreShort 2048) }
+    ensures only_memory { IfErr result WantsMemory }
 {
     let count = blocks.count();
     let most = blocks_in_job(jobs, count, blocks.length_of(BLOCK_LENGTH) as u32);

@@ -1,5 +1,6 @@
 -- Where the sound of a block begins in its files.
-use Rattle.std.specs.Prelude.{ℕ, ◌+◌, ◌-◌, ◌&&◌, nat_le, nat_lt, min, max, Bool, List, [], ◌∷◌, Option, None, Some, if◌then◌else◌}
+use Rattle.std.specs.Prelude.{ℕ, ◌+◌, ◌-◌, ◌<◌, ◌&&◌, nat_le, nat_lt, min, max, Bool, List, [], ◌∷◌, Option, None, Some, if◌then◌else◌}
+use Rattle.sampletime.specs.TimeCode.{day}
 use Rattle.sound_terms.specs.declared.piece.Piece.{Piece}
 use Rattle.sound_terms.specs.Blocks.{block_frames, block_start}
 use Rattle.sound_terms.specs.Render.{Range}
@@ -22,3 +23,7 @@ first_source from n channels (p ∷ ps) =
 -- in block k of a range
 abbrev pub source_of : List Piece → Range → ℕ → Option (ℕ × ℕ)
 source_of pieces range k = first_source (block_start range k) (block_frames range k) range.channels pieces
+
+-- its frame is one of a day's samples
+abbrev pub IsInDay : ℕ × ℕ → Type 0
+IsInDay source = source.1 < day

@@ -1,7 +1,6 @@
 // The plan of a rendering.
 ghost use Rattle.std.specs.Prelude.{◌≡◌, ◌+◌, ◌<◌, ◌≤◌, ◌↔◌, List, length, IfErr, IfOk, IfSome, IsErrOf, None};
 ghost use Rattle.std.specs.List.{All};
-ghost use Rattle.sampletime.specs.TimeCode.{day};
 ghost use Rattle.sound_terms.specs.Sounds.{SoundFacts};
 ghost use Rattle.sound_terms.specs.Media.{IsPieceOf};
 ghost use Rattle.sound_terms.specs.Mix.{Reading};
@@ -9,6 +8,7 @@ ghost use Rattle.sound_terms.specs.Groups as spec;
 ghost use Rattle.sound_terms.specs.Groups.{IsBounded, IsPiece, sum_of};
 ghost use Rattle.sound_terms.specs.Blocks.{BlockState, IsBlockProgram, LiesInFiles, PlaysFull, block_count, block_frames, block_start, executed_all, mixed_block, program_of};
 ghost use Rattle.renderplan.specs.Planned.{IsPlan};
+ghost use Rattle.renderplan.specs.Sources.{IsInDay};
 ghost use Rattle.renderplan.specs.Sources as sources;
 
 use crate::PlanFault;
@@ -149,7 +149,7 @@ impl Plan {
         ensures source { k < block_count self.now.range
             → result ≡ sources.source_of self.now.pieces self.now.range k }
         ensures past { block_count self.now.range ≤ k → result ≡ None }
-        ensures in_day { IfSome result (λ source. source.1 < day) }
+        ensures in_day { IfSome result IsInDay }
     {
         if k >= self.blocks() {
             return None;

@@ -1,9 +1,8 @@
 // Where the sound of a block begins in its files.
-ghost use Rattle.std.specs.Prelude.{◌≡◌, ◌+◌, ◌<◌, ◌≤◌, if◌then◌else◌, IfSome, None, Some};
-ghost use Rattle.sampletime.specs.TimeCode.{day};
+ghost use Rattle.std.specs.Prelude.{◌≡◌, ◌+◌, ◌≤◌, if◌then◌else◌, IfSome, None, Some};
 ghost use Rattle.sound_terms.specs.Groups.{IsPiece};
 ghost use Rattle.renderplan.specs.Sources as spec;
-ghost use Rattle.renderplan.specs.Sources.{sounds_in, source_at};
+ghost use Rattle.renderplan.specs.Sources.{IsInDay, sounds_in, source_at};
 
 use crate::lines::Window;
 use crate::reach::Reached;
@@ -14,7 +13,7 @@ fn heard_first(piece: &Piece, window: Window) -> Option<(u32, u64)>
     requires { IsPiece piece.now }
     ensures source { result ≡ (if sounds_in window.from window.frames window.channels piece.now
         then Some (source_at window.from piece.now) else None) }
-    ensures in_day { IfSome result (λ source. source.1 < day) }
+    ensures in_day { IfSome result IsInDay }
 {
     let first = window.from.max(piece.start);
     let last = (window.from + u64::from(window.frames)).min(piece.start + piece.length);
@@ -28,7 +27,7 @@ impl Reached {
     /// That of the first of the pieces, in their order, that is heard in a block; `None` where none is.
     pub fn first_source(&self, window: Window) -> Option<(u32, u64)>
         ensures source { result ≡ spec.first_source window.from window.frames window.channels self.now }
-        ensures in_day { IfSome result (λ source. source.1 < day) }
+        ensures in_day { IfSome result IsInDay }
     {
         let end = window.from + u64::from(window.frames);
         let pieces = self.pieces();

@@ -1,9 +1,9 @@
--- What reading the rendered file leaves.
+-- What reading the rendered file leaves, and writing the report beside it.
 use Rattle.std.specs.Prelude.{⊤, Result}
 use Rattle.devices.specs.declared.bench.Bench as output
 use Rattle.devices.specs.declared.fault.DeviceFault.{DeviceFault}
-use Rattle.work_terms.specs.Disk.{Files, LeavesOnly, ReadsTo}
-use Rattle.renderreport.specs.Report.{sound_name}
+use Rattle.work_terms.specs.Disk.{Files, LeavesOnly, LeavesOthers, ReadsTo}
+use Rattle.renderreport.specs.Report.{report_name, sound_name}
 
 -- nothing was written, a crash leaves what it might have left before, and a fault is counted at that file
 pub record ReadsSound {B X : Type 0} (bench : output.Ghosts B) (old new : B) (result : Result X DeviceFault) : Type 0
@@ -12,3 +12,7 @@ pub record ReadsSound {B X : Type 0} (bench : output.Ghosts B) (old new : B) (re
         (λ _ failed. failed sound_name)
     pub crash : (c : Files) → bench.may_leave new c → bench.may_leave old c
     pub moments : LeavesOnly bench.moment bench.left_since old new (bench.may_leave old)
+
+-- the files beside the report are spared: no moment leaves any of them otherwise
+abbrev pub Spares : {B : Type 0} → output.Ghosts B → B → B → Type 0
+Spares bench = LeavesOthers bench.may_leave bench.moment bench.left_since report_name

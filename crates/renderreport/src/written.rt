@@ -1,9 +1,10 @@
 // The report of a rendering, written beside the file.
 ghost use Rattle.std.specs.Prelude.{◌≡◌, ◌≢◌, IsTrue, OnOk, Some, ⊤};
-ghost use Rattle.work_terms.specs.Disk.{IsDurable, LeavesOthers};
+ghost use Rattle.work_terms.specs.Disk.{IsDurable};
 ghost use Rattle.devices.specs.Frame.{OnlyWrites};
 ghost use Rattle.renderreport.specs.Fault.{name_of};
 ghost use Rattle.renderreport.specs.Parts.{report_parts};
+ghost use Rattle.renderreport.specs.Reads.{Spares};
 ghost use Rattle.renderreport.specs.Report.{content, facts_of, report_name, report_text, sound_name};
 
 use crate::digest::sound_digest;
@@ -22,7 +23,7 @@ fn begin<B: Bench>(
 ) -> Result<(), DeviceFault>
     ensures written { IsTrue (B.honest bench.old)
         → OnOk result (B.stored bench.new report_name ≡ Some (report_parts (facts_of facts.now) digest.now)) }
-    ensures beside { LeavesOthers B.may_leave B.moment B.left_since report_name bench.old bench.new }
+    ensures beside { Spares B.Bench bench.old bench.new }
     ensures only_writes { OnlyWrites B.Bench (λ n. n ≢ report_name) bench.old bench.new result (λ _. ⊤)
         (λ _ failed. failed report_name) }
 {
@@ -43,7 +44,7 @@ fn write<B: Bench>(
         → OnOk result (B.stored bench.new report_name ≡ Some (report_parts (facts_of facts.now) digest.now)) }
     ensures durable { IsTrue (B.honest bench.old)
         → OnOk result (IsDurable report_name (B.stored bench.new) (B.may_leave bench.new)) }
-    ensures beside { LeavesOthers B.may_leave B.moment B.left_since report_name bench.old bench.new }
+    ensures beside { Spares B.Bench bench.old bench.new }
     ensures only_writes { OnlyWrites B.Bench (λ n. n ≢ report_name) bench.old bench.new result (λ _. ⊤)
         (λ _ failed. failed report_name) }
 {
@@ -63,7 +64,7 @@ pub fn write_report<B: Bench>(bench: &mut B, facts: &ReportFacts<'_>) -> Result<
         ≡ Some (report_text (facts_of facts.now) (content (B.stored bench.old) sound_name))) }
     ensures durable { IsTrue (B.honest bench.old)
         → OnOk result (IsDurable report_name (B.stored bench.new) (B.may_leave bench.new)) }
-    ensures beside { LeavesOthers B.may_leave B.moment B.left_since report_name bench.old bench.new }
+    ensures beside { Spares B.Bench bench.old bench.new }
     ensures only_writes { OnlyWrites B.Bench (λ n. n ≢ report_name) bench.old bench.new result (λ _. ⊤)
         (λ fault failed. failed (name_of fault)) }
 {
