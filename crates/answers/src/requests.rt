@@ -10,7 +10,6 @@ ghost use Rattle.passes.specs.Left.{left_by};
 ghost use Rattle.passes.specs.Standard.{AreStandard};
 ghost use Rattle.sound_terms.specs.Passes.{standard_groups};
 ghost use Rattle.rendering.specs.Rendering as rendering;
-ghost use Rattle.rendering.specs.Rendering.{HaveChannels};
 ghost use Rattle.commandline.specs.declared.choice.MediaReport as choice;
 ghost use Rattle.commandline.specs.CommandLine as asked;
 ghost use Rattle.commandline.specs.CommandLine.{is_shown};
@@ -39,9 +38,9 @@ use clap::error::ErrorKind;
 use commandline::{MediaReport, Request, VERSION};
 use console::{Console, Counts};
 use consolidate::{
-    AcceptedList, Fault, JobLength, RenderChoice, RenderReport, RenderedSound, ReportChoice,
-    ResumedSound, check_opened, consolidate_watched, render_reported, render_watched,
-    resume_reported, resume_watched,
+    AcceptedList, ConsolidateChoice, Fault, JobLength, Keeping, RenderChoice, RenderReport,
+    RenderedSound, ReportChoice, ReportedChoice, ResumedSound, check_opened, consolidate_watched,
+    render_reported, render_watched, resume_reported, resume_watched,
 };
 use devices::Watch;
 use explanations::{Explanation, PrintedLines, Rendering, Saved, meanings_of, notice_meanings_of};
@@ -249,7 +248,6 @@ fn render_as<S: Shelf, B: Bench, W: Watch>(
     bench: &mut B,
     watch: &mut W,
 ) -> Result<RenderedSound, Fault>
-    requires { HaveChannels choice.now.options }
     ensures { RendersAs S.Shelf B.Bench is_reported choice.now.jobs list.now
         (rendering.values_of choice.now.options) shelf.old shelf.new bench.old bench.new
         (ok_map (λ made. made.rendered) result) }
@@ -259,7 +257,11 @@ fn render_as<S: Shelf, B: Bench, W: Watch>(
             program: "adlcons",
             version: VERSION,
         };
-        render_reported(alloc, list, choice, report, shelf, bench, watch)
+        let asked = ReportedChoice {
+            choice: *choice,
+            report,
+        };
+        render_reported(alloc, list, &asked, shelf, bench, watch)
     } else {
         render_watched(alloc, list, choice, shelf, bench, watch)
     }
@@ -275,7 +277,6 @@ fn resume_as<S: Shelf, B: Bench, W: Watch>(
     bench: &mut B,
     watch: &mut W,
 ) -> Result<ResumedSound, Fault>
-    requires { HaveChannels choice.now.options }
     ensures { ResumesAs S.Shelf B.Bench is_reported choice.now.jobs list.now
         (rendering.values_of choice.now.options) shelf.old shelf.new bench.old bench.new
         (ok_map (λ made. made.resumed) result) }
@@ -285,7 +286,11 @@ fn resume_as<S: Shelf, B: Bench, W: Watch>(
             program: "adlcons",
             version: VERSION,
         };
-        resume_reported(alloc, list, choice, report, shelf, bench, watch)
+        let asked = ReportedChoice {
+            choice: *choice,
+            report,
+        };
+        resume_reported(alloc, list, &asked, shelf, bench, watch)
     } else {
         resume_watched(alloc, list, choice, shelf, bench, watch)
     }
@@ -311,7 +316,6 @@ fn answer_render<
     meter: &mut M,
     asides: &A,
 ) -> u8
-    requires { HaveChannels choice.now.options }
     ensures answered { IsAnswered
         (RendersAs S.Shelf B.Bench is_reported choice.now.jobs list.now
         (rendering.values_of choice.now.options) shelf.old shelf.new bench.old bench.new)
@@ -366,7 +370,6 @@ fn answer_resume<
     meter: &mut M,
     asides: &A,
 ) -> u8
-    requires { HaveChannels choice.now.options }
     ensures answered { IsAnswered
         (ResumesAs S.Shelf B.Bench is_reported choice.now.jobs list.now
         (rendering.values_of choice.now.options) shelf.old shelf.new bench.old bench.new)
@@ -444,7 +447,11 @@ fn answer_consolidate<
         written_lines O.Console out.old out.new result }
     ensures statuses { result ≤ 1 }
 {
-    let outcome = consolidate_watched(alloc, list, handle, passes, asked, shelf, bench, meter);
+    let choice = ConsolidateChoice {
+        keeping: Keeping { handle, passes },
+        report: asked,
+    };
+    let outcome = consolidate_watched(alloc, list, choice, shelf, bench, meter);
     meter.clear();
     tell_changed(alloc, shelf, err);
     match outcome {

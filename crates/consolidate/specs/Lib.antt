@@ -4,6 +4,7 @@ pub mod Commands
 pub mod CompareFault
 pub mod Comparing
 pub mod Fault
+pub mod Listed
 pub mod Marks
 pub mod MediaOutcome
 pub mod Outcomes

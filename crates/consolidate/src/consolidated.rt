@@ -12,9 +12,10 @@ ghost use Rattle.consolidate.specs.OfProject.{ConsolidatesProject};
 ghost use Rattle.consolidate.specs.Outcomes.{AnswersAs};
 
 use crate::Fault;
+use crate::choice::{ConsolidateChoice, Keeping};
 use crate::media::execution_of;
 use crate::opened::open;
-use crate::report::{ReportChoice, report_on};
+use crate::report::report_on;
 use consolidation::{Consolidation, MediaChoice, Sizes};
 use devices::{Bench, Shelf, Unwatched, Watch};
 use execution::ExecutionFault;
@@ -50,21 +51,29 @@ fn answer_of(
     }
 }
 
+/// What is kept of a list, and the report on it that is asked for, where one is.
+#[derive(Drop)]
+struct Reported<'a> {
+    keeping: Keeping,
+    report: Option<ReportOn<'a>>,
+}
+
 /// Consolidates an opened project.
 fn consolidate_checked<S: Shelf, B: Bench, W: Watch>(
     alloc: Global,
     checked: Checked,
-    handle: u64,
-    passes: Vec<Box<dyn Pass>>,
-    report: Option<ReportOn<'_>>,
+    reported: Reported<'_>,
     shelf: &mut S,
     bench: &mut B,
     watch: &mut W,
 ) -> Result<consolidation::Written, Fault>
-    ensures { ConsolidatesProject S.Shelf B.Bench (left_by (λ pass. looking pass) (λ pass. gives pass) passes.items)
-        checked.project checked.bound handle (option_map asked_of report.entry)
+    ensures { ConsolidatesProject S.Shelf B.Bench
+        (left_by (λ pass. looking pass) (λ pass. gives pass) reported.entry.keeping.passes.items)
+        checked.project checked.bound reported.entry.keeping.handle (option_map asked_of reported.entry.report)
         (λ count. rounds (3 * count)) shelf.old shelf.new bench.old bench.new result }
 {
+    let Reported { keeping, report } = reported;
+    let Keeping { handle, passes } = keeping;
     let choice = MediaChoice { handle, report };
     let consolidation = match Consolidation::plan(alloc, &checked, choice, passes, shelf, watch) {
         Ok(consolidation) => consolidation,
@@ -106,16 +115,11 @@ pub fn consolidate<S: Shelf, B: Bench>(
         → IsConsolidation S.Shelf B.Bench standard_groups list.now handle None shelf.old shelf.new bench.old bench.new
         result }
 {
-    consolidate_watched(
-        alloc,
-        list,
-        handle,
-        passes,
-        None,
-        shelf,
-        bench,
-        &mut Unwatched,
-    )
+    let choice = ConsolidateChoice {
+        keeping: Keeping { handle, passes },
+        report: None,
+    };
+    consolidate_watched(alloc, list, choice, shelf, bench, &mut Unwatched)
 }
 
 /// The same with a report, where one is asked for, and with a watch: `consolidated.json` says where each medium and each
@@ -127,45 +131,50 @@ pub fn consolidate<S: Shelf, B: Bench>(
 pub fn consolidate_watched<S: Shelf, B: Bench, W: Watch>(
     alloc: Global,
     list: &[u8],
-    handle: u64,
-    passes: Vec<Box<dyn Pass>>,
-    report: Option<ReportChoice<'_>>,
+    choice: ConsolidateChoice<'_>,
     shelf: &mut S,
     bench: &mut B,
     watch: &mut W,
 ) -> Result<Written, Fault>
     ensures consolidated { IsConsolidation S.Shelf B.Bench
-        (left_by (λ pass. looking pass) (λ pass. gives pass) passes.items)
-        list.now handle (option_map (asked_on list.now) report.entry) shelf.old shelf.new bench.old bench.new
-        result }
-    ensures standard { AreStandard (λ pass. looking pass) (λ pass. gives pass) passes.items
-        → IsConsolidation S.Shelf B.Bench standard_groups list.now handle
-        (option_map (asked_on list.now) report.entry) shelf.old shelf.new bench.old bench.new result }
+        (left_by (λ pass. looking pass) (λ pass. gives pass) choice.entry.keeping.passes.items)
+        list.now choice.entry.keeping.handle (option_map (asked_on list.now) choice.entry.report)
+        shelf.old shelf.new bench.old bench.new result }
+    ensures standard { AreStandard (λ pass. looking pass) (λ pass. gives pass) choice.entry.keeping.passes.items
+        → IsConsolidation S.Shelf B.Bench standard_groups list.now choice.entry.keeping.handle
+        (option_map (asked_on list.now) choice.entry.report) shelf.old shelf.new bench.old bench.new result }
 {
+    let ConsolidateChoice { keeping, report } = choice;
     let report = report_on(list, report);
-    consolidate_reported(alloc, list, handle, passes, report, shelf, bench, watch)
+    consolidate_reported(
+        alloc,
+        list,
+        Reported { keeping, report },
+        shelf,
+        bench,
+        watch,
+    )
 }
 
 /// The same with the report that is asked for with its list.
 fn consolidate_reported<S: Shelf, B: Bench, W: Watch>(
     alloc: Global,
     list: &[u8],
-    handle: u64,
-    passes: Vec<Box<dyn Pass>>,
-    report: Option<ReportOn<'_>>,
+    reported: Reported<'_>,
     shelf: &mut S,
     bench: &mut B,
     watch: &mut W,
 ) -> Result<Written, Fault>
     ensures consolidated { IsConsolidation S.Shelf B.Bench
-        (left_by (λ pass. looking pass) (λ pass. gives pass) passes.items)
-        list.now handle (option_map asked_of report.entry) shelf.old shelf.new bench.old bench.new result }
-    ensures standard { AreStandard (λ pass. looking pass) (λ pass. gives pass) passes.items
-        → IsConsolidation S.Shelf B.Bench standard_groups list.now handle (option_map asked_of report.entry)
+        (left_by (λ pass. looking pass) (λ pass. gives pass) reported.entry.keeping.passes.items)
+        list.now reported.entry.keeping.handle (option_map asked_of reported.entry.report)
         shelf.old shelf.new bench.old bench.new result }
+    ensures standard { AreStandard (λ pass. looking pass) (λ pass. gives pass) reported.entry.keeping.passes.items
+        → IsConsolidation S.Shelf B.Bench standard_groups list.now reported.entry.keeping.handle
+        (option_map asked_of reported.entry.report) shelf.old shelf.new bench.old bench.new result }
 {
     let Opened { checked, notices } = open(alloc, list, shelf)?;
-    let written = consolidate_checked(alloc, checked, handle, passes, report, shelf, bench, watch)?;
+    let written = consolidate_checked(alloc, checked, reported, shelf, bench, watch)?;
     Ok(Written {
         media: written.media,
         entries: written.entries,

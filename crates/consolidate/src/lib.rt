@@ -13,13 +13,16 @@ mod opened;
 mod remade;
 mod rendered;
 mod report;
+mod requested;
 mod resumed;
 mod scheduled;
 mod schedules;
 mod with_report;
 
 pub use checking::{check_opened, check_project};
-pub use choice::{Clipping, RenderChoice, RenderReport};
+pub use choice::{
+    Clipping, ConsolidateChoice, Keeping, RenderChoice, RenderReport, ReportedChoice,
+};
 pub use clipping::Clips;
 pub use compare_fault::{CompareFault, ListFault};
 pub use compared::{Compared, compare};

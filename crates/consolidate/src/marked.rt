@@ -15,12 +15,12 @@ ghost use Rattle.consolidate.specs.RenderOutcome.{in_rounds};
 ghost use Rattle.consolidate.specs.RenderWorks.{BeginsWork, GoesOnWithWork, IsAllDone, IsPrepared, IsSoundWork, IsTakenUp, IsUnbegun, StandsAsMarked};
 
 use crate::Fault;
+use crate::requested::Planned;
 use clipping::Clips;
 use devices::{Bench, Shelf, Unwatched, Watch};
 use execution::{Execution, ExecutionFault};
 use job_terms::{BoardEvent, Progress};
-use projectcheck::Checked;
-use rendering::{Order, RenderingWork};
+use rendering::RenderingWork;
 use std::alloc::Global;
 
 /// How far the jobs of a rendering are, and what was clipped of those that were done just now.
@@ -31,15 +31,15 @@ pub(crate) struct Worked {
 }
 
 /// An execution of this work, of which nothing is begun. Want of memory is the only error.
-fn prepared<'a>(
-    alloc: Global,
-    work: RenderingWork<'a>,
-    checked: &Checked,
-    order: Order,
-) -> Result<Execution<RenderingWork<'a>>, Fault>
-    ensures prepared { IfOk result (λ run. IsPrepared work.entry run) }
+fn prepared<'a>(alloc: Global, planned: Planned<'a>) -> Result<Execution<RenderingWork<'a>>, Fault>
+    ensures prepared { IfOk result (λ run. IsPrepared planned.entry.work run) }
     ensures only_memory { IfErr result IsUnbegun }
 {
+    let Planned {
+        work,
+        checked,
+        order,
+    } = planned;
     let jobs = match work.order(alloc, checked, order) {
         Ok(jobs) => jobs,
         Err(_) => return Err(Fault::BoardMemory),
@@ -52,15 +52,15 @@ fn prepared<'a>(
 }
 
 /// An execution of this work, whose marked blocks are done. Want of memory is the only error.
-fn taken_up<'a>(
-    alloc: Global,
-    work: RenderingWork<'a>,
-    checked: &Checked,
-    order: Order,
-) -> Result<Execution<RenderingWork<'a>>, Fault>
-    ensures taken_up { IfOk result (λ run. IsTakenUp work.entry run) }
+fn taken_up<'a>(alloc: Global, planned: Planned<'a>) -> Result<Execution<RenderingWork<'a>>, Fault>
+    ensures taken_up { IfOk result (λ run. IsTakenUp planned.entry.work run) }
     ensures only_memory { IfErr result IsUnbegun }
 {
+    let Planned {
+        work,
+        checked,
+        order,
+    } = planned;
     let jobs = match work.order(alloc, checked, order) {
         Ok(jobs) => jobs,
         Err(_) => return Err(Fault::BoardMemory),
@@ -79,25 +79,23 @@ fn taken_up<'a>(
 /// Renders a planned work from its beginning, by rounds of one worker. Want of memory comes before the first write.
 pub(crate) fn render_anew<S: Shelf, B: Bench, W: Watch>(
     alloc: Global,
-    work: RenderingWork,
-    checked: &Checked,
-    order: Order,
+    planned: Planned<'_>,
     shelf: &mut S,
     bench: &mut B,
     watch: &mut W,
 ) -> Result<Worked, Fault>
-    requires { IsSoundWork work }
-    ensures does { BeginsWork S.Shelf B.Bench in_rounds work.entry shelf.old shelf.new bench.old bench.new
+    requires { IsSoundWork planned.work }
+    ensures does { BeginsWork S.Shelf B.Bench in_rounds planned.entry.work shelf.old shelf.new bench.old bench.new
         (ok_map (λ worked. worked.progress) result) }
     ensures clips { IsTrue (S.honest shelf.old) → (marked : List Bool)
-        → All (IsUniform marked) work.entry.work.stretches → IfOk result (λ worked. ClipsUnmarked marked
-        work.entry.work.planned.range (heard work.entry.work.planned work.entry.work.sounds (S.stored shelf.old))
-        worked.clips) }
+        → All (IsUniform marked) planned.entry.work.work.stretches
+        → IfOk result (λ worked. ClipsUnmarked marked planned.entry.work.work.planned.range
+        (heard planned.entry.work.work.planned planned.entry.work.work.sounds (S.stored shelf.old)) worked.clips) }
     ensures finished { IfOk result (λ worked. IsAllDone worked.progress) }
     ensures own { FailsAtRendering result }
     ensures due { IfErr result IsAlwaysDue }
 {
-    let mut execution = match prepared(alloc, work, checked, order) {
+    let mut execution = match prepared(alloc, planned) {
         Ok(execution) => execution,
         Err(fault) => return Err(fault),
     };
@@ -113,20 +111,18 @@ pub(crate) fn render_anew<S: Shelf, B: Bench, W: Watch>(
 /// Renders a planned work by these events. A worker takes memory as it comes.
 pub(crate) fn render_by_events<S: Shelf, B: Bench>(
     alloc: Global,
-    work: RenderingWork,
-    checked: &Checked,
-    order: Order,
+    planned: Planned<'_>,
     events: &[BoardEvent],
     shelf: &mut S,
     bench: &mut B,
 ) -> Result<Progress, Fault>
-    requires { IsSoundWork work }
-    ensures does { BeginsWork S.Shelf B.Bench (λ _. events.now) work.entry shelf.old shelf.new bench.old bench.new
-        result }
+    requires { IsSoundWork planned.work }
+    ensures does { BeginsWork S.Shelf B.Bench (λ _. events.now) planned.entry.work shelf.old shelf.new bench.old
+        bench.new result }
     ensures own { FailsAtSchedule result }
     ensures due { IfErr result IsAlwaysDue }
 {
-    let mut execution = match prepared(alloc, work, checked, order) {
+    let mut execution = match prepared(alloc, planned) {
         Ok(execution) => execution,
         Err(fault) => return Err(fault),
     };
@@ -140,30 +136,28 @@ pub(crate) fn render_by_events<S: Shelf, B: Bench>(
 /// write.
 pub(crate) fn go_on_marked<S: Shelf, B: Bench, W: Watch>(
     alloc: Global,
-    work: RenderingWork,
-    checked: &Checked,
-    order: Order,
+    planned: Planned<'_>,
     shelf: &mut S,
     bench: &mut B,
     watch: &mut W,
 ) -> Result<Worked, Fault>
-    requires { IsSoundWork work }
-    ensures does { GoesOnWithWork S.Shelf B.Bench work.entry shelf.old shelf.new bench.old bench.new
+    requires { IsSoundWork planned.work }
+    ensures does { GoesOnWithWork S.Shelf B.Bench planned.entry.work shelf.old shelf.new bench.old bench.new
         (ok_map (λ worked. worked.progress) result) }
     ensures keeps { IsTrue (S.honest shelf.old) → IsTrue (B.honest bench.old)
-        → StandsAsMarked work.entry (S.stored shelf.old) (B.stored bench.old) (B.may_leave bench.old)
+        → StandsAsMarked planned.entry.work (S.stored shelf.old) (B.stored bench.old) (B.may_leave bench.old)
         → (marks : List ℕ) → B.stored bench.old marks_name ≡ Some marks
         → LeavesOnly B.moment B.left_since bench.old bench.new
-        (HoldsMarked (marks_of work.entry (S.stored shelf.old)) marks) }
+        (HoldsMarked (marks_of planned.entry.work (S.stored shelf.old)) marks) }
     ensures clips { IsTrue (S.honest shelf.old) → (marked : List Bool)
-        → All (IsUniform marked) work.entry.work.stretches → IfOk result (λ worked. ClipsUnmarked marked
-        work.entry.work.planned.range (heard work.entry.work.planned work.entry.work.sounds (S.stored shelf.old))
-        worked.clips) }
+        → All (IsUniform marked) planned.entry.work.work.stretches
+        → IfOk result (λ worked. ClipsUnmarked marked planned.entry.work.work.planned.range
+        (heard planned.entry.work.work.planned planned.entry.work.work.sounds (S.stored shelf.old)) worked.clips) }
     ensures finished { IfOk result (λ worked. IsAllDone worked.progress) }
     ensures own { FailsAtRendering result }
     ensures due { IfErr result IsAlwaysDue }
 {
-    let mut execution = match taken_up(alloc, work, checked, order) {
+    let mut execution = match taken_up(alloc, planned) {
         Ok(execution) => execution,
         Err(fault) => return Err(fault),
     };

@@ -9,6 +9,7 @@ ghost use Rattle.consolidate.specs.Outcomes.{AnswersAs};
 ghost use Rattle.consolidate.specs.Schedules.{IsConsolidationSchedule};
 
 use crate::Fault;
+use crate::choice::Keeping;
 use crate::media::execution_of;
 use crate::opened::open;
 use consolidation::{Consolidation, MediaChoice};
@@ -16,7 +17,6 @@ use devices::{Bench, Shelf, Unwatched};
 use execution::ExecutionFault;
 use job_terms::{BoardEvent, Progress};
 use opening::Opened;
-use passes::Pass;
 use projectcheck::Checked;
 use std::alloc::Global;
 
@@ -34,15 +34,15 @@ fn answer_of(media: u32, ended: Result<Progress, ExecutionFault>) -> Result<Prog
 fn schedule_consolidation<S: Shelf, B: Bench>(
     alloc: Global,
     checked: Checked,
-    handle: u64,
-    passes: Vec<Box<dyn Pass>>,
+    keeping: Keeping,
     events: &[BoardEvent],
     shelf: &mut S,
     bench: &mut B,
 ) -> Result<Progress, Fault>
-    ensures { ConsolidatesByEvents S.Shelf B.Bench (left_by (λ pass. looking pass) (λ pass. gives pass) passes.items)
-        checked.project checked.bound handle (λ _. events.now) shelf.old shelf.new bench.old bench.new result }
+    ensures { ConsolidatesByEvents S.Shelf B.Bench (left_by (λ pass. looking pass) (λ pass. gives pass) keeping.passes.items)
+        checked.project checked.bound keeping.handle (λ _. events.now) shelf.old shelf.new bench.old bench.new result }
 {
+    let Keeping { handle, passes } = keeping;
     let choice = MediaChoice {
         handle,
         report: None,
@@ -65,21 +65,20 @@ fn schedule_consolidation<S: Shelf, B: Bench>(
 pub fn schedule_media<S: Shelf, B: Bench>(
     alloc: Global,
     list: &[u8],
-    handle: u64,
-    passes: Vec<Box<dyn Pass>>,
+    keeping: Keeping,
     events: &[BoardEvent],
     shelf: &mut S,
     bench: &mut B,
 ) -> Result<Progress, Fault>
     ensures scheduled { IsConsolidationSchedule S.Shelf B.Bench
-        (left_by (λ pass. looking pass) (λ pass. gives pass) passes.items)
-        list.now handle events.now shelf.old shelf.new bench.old bench.new result }
-    ensures standard { AreStandard (λ pass. looking pass) (λ pass. gives pass) passes.items
-        → IsConsolidationSchedule S.Shelf B.Bench standard_groups list.now handle events.now shelf.old shelf.new
+        (left_by (λ pass. looking pass) (λ pass. gives pass) keeping.passes.items)
+        list.now keeping.handle events.now shelf.old shelf.new bench.old bench.new result }
+    ensures standard { AreStandard (λ pass. looking pass) (λ pass. gives pass) keeping.passes.items
+        → IsConsolidationSchedule S.Shelf B.Bench standard_groups list.now keeping.handle events.now shelf.old shelf.new
         bench.old bench.new result }
 {
     let Opened { checked, .. } = open(alloc, list, shelf)?;
-    match schedule_consolidation(alloc, checked, handle, passes, events, shelf, bench) {
+    match schedule_consolidation(alloc, checked, keeping, events, shelf, bench) {
         Ok(progress) => return Ok(progress),
         Err(fault) => return Err(fault),
     }

@@ -3,29 +3,26 @@ ghost use Rattle.std.specs.Prelude.{◌≡◌, IfOk, IsTrue, [], true, ℕ, ℤ,
 ghost use Rattle.devices.specs.Views.{output_view, source_view};
 ghost use Rattle.work_terms.specs.Refusals.{Answers};
 ghost use Rattle.sound_terms.specs.Render.{ReadsBack, rendering_of};
-ghost use Rattle.list_terms.specs.Accepted.{range_of};
-ghost use Rattle.list_terms.specs.Heard.{project_mix};
 ghost use Rattle.list_terms.specs.Steps.{ok_map};
 ghost use Rattle.markfile.specs.Started.{NoneStarted};
-ghost use Rattle.rendering.specs.Marked.{run_of};
-ghost use Rattle.rendering.specs.Rendering.{HasRange, HaveChannels, render_fault, values_of};
+ghost use Rattle.rendering.specs.Rendering.{HasRange, HaveChannels, values_of};
 ghost use Rattle.rendering.specs.declared.cutting.JobLength.TheVariants.{OneBlock};
 ghost use Rattle.consolidate.specs.Clipping.{ClipsList, IsClipping};
 ghost use Rattle.consolidate.specs.Commands.{IsRendering};
 ghost use Rattle.consolidate.specs.Fault.{refusal_of};
-ghost use Rattle.consolidate.specs.Marks.{list_marking};
 ghost use Rattle.consolidate.specs.Own.{FailsAtRendering};
-ghost use Rattle.consolidate.specs.RenderOutcome.{RendersBound, in_rounds};
+ghost use Rattle.consolidate.specs.RenderOutcome.{in_rounds};
 ghost use Rattle.consolidate.specs.RenderWorks.{DoesWork};
+ghost use Rattle.consolidate.specs.Listed.{RendersListed, fault_of_range, marking_in, mix_in, range_in, run_in};
 
 use crate::Fault;
 use crate::choice::{Clipping, RenderChoice};
 use crate::marked::render_anew;
 use crate::opened::open;
+use crate::requested::{Listed, Planned};
 use devices::{Bench, Shelf, Unwatched, Watch};
 use list_terms::Notice;
 use opening::Opened;
-use projectcheck::Checked;
 use rendering::{JobLength, Options, RenderingWork};
 use std::alloc::Global;
 
@@ -51,48 +48,43 @@ struct Made {
     clipping: Clipping,
 }
 
-/// Renders an opened project of this list.
+/// Renders an opened project.
 fn render_checked<S: Shelf, B: Bench, W: Watch>(
     alloc: Global,
-    list: &[u8],
-    checked: &Checked,
-    choice: &RenderChoice,
+    listed: Listed<'_>,
     shelf: &mut S,
     bench: &mut B,
     watch: &mut W,
 ) -> Result<Made, Fault>
     ensures does { DoesWork S.Shelf B.Bench (λ _. ⊤) (λ _ progress. progress.finished ≡ true)
-        (list_marking list.now (values_of choice.now.options) (S.stored shelf.old) checked.now.project checked.now.bound)
-        (run_of list.now (range_of checked.now.project (values_of choice.now.options))) ⊤ (NoneStarted (B.may_leave bench.old))
-        (RendersBound choice.now.jobs in_rounds list.now (values_of choice.now.options) checked.now.project checked.now.bound
-        (source_view S.Shelf shelf.old) (source_view S.Shelf shelf.new) (output_view B.Bench bench.old)
-        (output_view B.Bench bench.new)) shelf.old shelf.new bench.old bench.new result }
+        (marking_in listed.entry (S.stored shelf.old)) (run_in listed.entry) ⊤ (NoneStarted (B.may_leave bench.old))
+        (RendersListed in_rounds listed.entry (source_view S.Shelf shelf.old) (source_view S.Shelf shelf.new)
+        (output_view B.Bench bench.old) (output_view B.Bench bench.new)) shelf.old shelf.new bench.old bench.new result }
     ensures reads_back { IfOk result (λ _. (mix : ℕ → ℕ → ℤ)
-        → ReadsBack (range_of checked.now.project (values_of choice.now.options)) mix
-        (rendering_of (range_of checked.now.project (values_of choice.now.options)) mix)) }
-    ensures report { IfOk result
-        (λ made. HasRange made.rendered (range_of checked.now.project (values_of choice.now.options))) }
-    ensures clips { IsTrue (S.honest shelf.old) → IfOk result (λ made. IsClipping []
-        (range_of checked.now.project (values_of choice.now.options))
-        (project_mix (S.stored shelf.old) checked.now.project checked.now.bound) made.clipping) }
-    ensures refusals { Answers refusal_of result (render_fault checked.now.project (values_of choice.now.options)) }
+        → ReadsBack (range_in listed.entry) mix (rendering_of (range_in listed.entry) mix)) }
+    ensures report { IfOk result (λ made. HasRange made.rendered (range_in listed.entry)) }
+    ensures clips { IsTrue (S.honest shelf.old) → IfOk result (λ made. IsClipping [] (range_in listed.entry)
+        (mix_in listed.entry (S.stored shelf.old)) made.clipping) }
+    ensures refusals { Answers refusal_of result (fault_of_range listed.entry) }
     ensures own { FailsAtRendering result }
 {
+    let Listed {
+        list,
+        checked,
+        choice,
+    } = listed;
     let work = match RenderingWork::plan(alloc, checked, &choice.options, list, choice.jobs) {
         Ok(work) => work,
         Err(fault) => return Err(Fault::of_rendering(fault)),
     };
     let rendered = work.rendered();
     let start = work.start();
-    match render_anew(
-        alloc,
+    let planned = Planned {
         work,
         checked,
-        choice.options.order,
-        shelf,
-        bench,
-        watch,
-    ) {
+        order: choice.options.order,
+    };
+    match render_anew(alloc, planned, shelf, bench, watch) {
         Ok(worked) => {
             let clipping = Clipping {
                 clips: worked.clips,
@@ -154,7 +146,12 @@ pub fn render_watched<S: Shelf, B: Bench, W: Watch>(
         ClipsList list.now (values_of choice.now.options) (S.stored shelf.old) (λ _. []) made.clipping) }
 {
     let Opened { checked, notices } = open(alloc, list, shelf)?;
-    let made = render_checked(alloc, list, &checked, choice, shelf, bench, watch)?;
+    let listed = Listed {
+        list,
+        checked: &checked,
+        choice,
+    };
+    let made = render_checked(alloc, listed, shelf, bench, watch)?;
     let rendered = Rendered {
         frames: made.rendered.frames,
         channels: u32::from(made.rendered.channels),

@@ -4,32 +4,31 @@ ghost use Rattle.devices.specs.Views.{output_view, source_view};
 ghost use Rattle.work_terms.specs.Disk.{LeavesOnly};
 ghost use Rattle.work_terms.specs.Refusals.{Answers};
 ghost use Rattle.sound_terms.specs.Render.{ReadsBack, rendering_of};
-ghost use Rattle.list_terms.specs.Accepted.{first_fault, range_of};
-ghost use Rattle.list_terms.specs.Heard.{project_mix};
+ghost use Rattle.list_terms.specs.Accepted.{first_fault};
 ghost use Rattle.list_terms.specs.Steps.{ok_map};
 ghost use Rattle.markfile.specs.Format.{marks_name};
 ghost use Rattle.markfile.specs.Opened.{opened_of};
 ghost use Rattle.markfile.specs.Started.{is_started};
 ghost use Rattle.rendering.specs.Clipping.{marked_in};
 ghost use Rattle.rendering.specs.Marked.{HoldsMarked, IsLeftByRun, run_of};
-ghost use Rattle.rendering.specs.Rendering.{HaveChannels, render_fault, values_of};
+ghost use Rattle.rendering.specs.Rendering.{HaveChannels, values_of};
 ghost use Rattle.rendering.specs.declared.cutting.JobLength.TheVariants.{OneBlock};
 ghost use Rattle.consolidate.specs.Clipping.{ClipsList, IsClipping};
 ghost use Rattle.consolidate.specs.Fault.{refusal_of};
-ghost use Rattle.consolidate.specs.Marks.{count_in, fault_in, list_marking};
+ghost use Rattle.consolidate.specs.Marks.{count_in, fault_in};
 ghost use Rattle.consolidate.specs.Own.{IsOfResuming};
-ghost use Rattle.consolidate.specs.RenderOutcome.{ResumesBound};
 ghost use Rattle.consolidate.specs.RenderWorks.{DoesWork};
 ghost use Rattle.consolidate.specs.Resuming.{IsResuming};
+ghost use Rattle.consolidate.specs.Listed.{ResumesListed, fault_of_range, marking_in, marks_in, mix_in, range_in, run_in};
 
 use crate::Fault;
 use crate::choice::{Clipping, RenderChoice};
 use crate::marked::{go_on_marked, render_anew};
 use crate::opened::open;
+use crate::requested::{Listed, Planned};
 use devices::{Bench, Shelf, Unwatched, Watch};
 use list_terms::Notice;
 use opening::Opened;
-use projectcheck::Checked;
 use rendering::{JobLength, Options, RenderingWork};
 use std::alloc::Global;
 
@@ -57,51 +56,42 @@ struct Found {
     clipping: Clipping,
 }
 
-/// Goes on with the rendering of an opened project of this list.
+/// Goes on with the rendering of an opened project.
 fn resume_checked<S: Shelf, B: Bench, W: Watch>(
     alloc: Global,
-    list: &[u8],
-    checked: &Checked,
-    choice: &RenderChoice,
+    listed: Listed<'_>,
     shelf: &mut S,
     bench: &mut B,
     watch: &mut W,
 ) -> Result<Found, Fault>
     ensures does { DoesWork S.Shelf B.Bench (λ _. ⊤) (λ _ progress. progress.finished ≡ true)
-        (list_marking list.now (values_of choice.now.options) (S.stored shelf.old) checked.now.project checked.now.bound)
-        (run_of list.now (range_of checked.now.project (values_of choice.now.options)))
-        (IsLeftByRun (list_marking list.now (values_of choice.now.options) (S.stored shelf.old) checked.now.project
-        checked.now.bound) (B.may_leave bench.old))
-        (IsLeftByRun (list_marking list.now (values_of choice.now.options) (S.stored shelf.old) checked.now.project
-        checked.now.bound) (B.may_leave bench.old))
-        (ResumesBound choice.now.jobs list.now (values_of choice.now.options) checked.now.project checked.now.bound
-        (opened_of (run_of list.now (range_of checked.now.project (values_of choice.now.options))) (B.stored bench.old))
-        (source_view S.Shelf shelf.old) (source_view S.Shelf shelf.new) (output_view B.Bench bench.old)
-        (output_view B.Bench bench.new)) shelf.old shelf.new bench.old bench.new result }
+        (marking_in listed.entry (S.stored shelf.old)) (run_in listed.entry)
+        (IsLeftByRun (marking_in listed.entry (S.stored shelf.old)) (B.may_leave bench.old))
+        (IsLeftByRun (marking_in listed.entry (S.stored shelf.old)) (B.may_leave bench.old))
+        (ResumesListed listed.entry (B.stored bench.old) (source_view S.Shelf shelf.old) (source_view S.Shelf shelf.new)
+        (output_view B.Bench bench.old) (output_view B.Bench bench.new)) shelf.old shelf.new bench.old bench.new result }
     ensures reads_back { IfOk result (λ _. (mix : ℕ → ℕ → ℤ)
-        → ReadsBack (range_of checked.now.project (values_of choice.now.options)) mix
-        (rendering_of (range_of checked.now.project (values_of choice.now.options)) mix)) }
-    ensures marked { IsTrue (B.honest bench.old) → IfOk result (λ found. found.marked ≡ count_in (opened_of
-        (run_of list.now (range_of checked.now.project (values_of choice.now.options))) (B.stored bench.old))) }
-    ensures clips { IsTrue (S.honest shelf.old) → IsTrue (B.honest bench.old) → IfOk result (λ found. IsClipping
-        (marked_in (opened_of (run_of list.now (range_of checked.now.project (values_of choice.now.options)))
-        (B.stored bench.old))) (range_of checked.now.project (values_of choice.now.options))
-        (project_mix (S.stored shelf.old) checked.now.project checked.now.bound) found.clipping) }
+        → ReadsBack (range_in listed.entry) mix (rendering_of (range_in listed.entry) mix)) }
+    ensures marked { IsTrue (B.honest bench.old)
+        → IfOk result (λ found. found.marked ≡ count_in (marks_in listed.entry (B.stored bench.old))) }
+    ensures clips { IsTrue (S.honest shelf.old) → IsTrue (B.honest bench.old) → IfOk result (λ found.
+        IsClipping (marked_in (marks_in listed.entry (B.stored bench.old))) (range_in listed.entry)
+        (mix_in listed.entry (S.stored shelf.old)) found.clipping) }
     ensures keeps { IsTrue (S.honest shelf.old) → IsTrue (B.honest bench.old)
-        → IsLeftByRun (list_marking list.now (values_of choice.now.options) (S.stored shelf.old) checked.now.project
-        checked.now.bound) (B.may_leave bench.old)
+        → IsLeftByRun (marking_in listed.entry (S.stored shelf.old)) (B.may_leave bench.old)
         → (marks : List ℕ) → B.stored bench.old marks_name ≡ Some marks → is_started (Some marks) ≡ true
         → LeavesOnly B.moment B.left_since bench.old bench.new
-        (HoldsMarked (list_marking list.now (values_of choice.now.options) (S.stored shelf.old) checked.now.project
-        checked.now.bound) marks) }
-    ensures report { IfOk result (λ found. found.frames
-        ≡ (range_of checked.now.project (values_of choice.now.options)).to
-        - (range_of checked.now.project (values_of choice.now.options)).from) }
-    ensures refusals { IsTrue (B.honest bench.old) → Answers refusal_of result (first_fault
-        (render_fault checked.now.project (values_of choice.now.options)) (fault_in (opened_of
-        (run_of list.now (range_of checked.now.project (values_of choice.now.options))) (B.stored bench.old)))) }
+        (HoldsMarked (marking_in listed.entry (S.stored shelf.old)) marks) }
+    ensures report { IfOk result (λ found. found.frames ≡ (range_in listed.entry).to - (range_in listed.entry).from) }
+    ensures refusals { IsTrue (B.honest bench.old) → Answers refusal_of result
+        (first_fault (fault_of_range listed.entry) (fault_in (marks_in listed.entry (B.stored bench.old)))) }
     ensures own { (text : List ℕ) → IfErr result (IsOfResuming text) }
 {
+    let Listed {
+        list,
+        checked,
+        choice,
+    } = listed;
     let mut work = match RenderingWork::plan(alloc, checked, &choice.options, list, choice.jobs) {
         Ok(work) => work,
         Err(fault) => return Err(Fault::of_rendering(fault)),
@@ -113,9 +103,13 @@ fn resume_checked<S: Shelf, B: Bench, W: Watch>(
         Ok(found) => found,
         Err(fault) => return Err(Fault::Marks(fault)),
     };
-    let order = choice.options.order;
+    let planned = Planned {
+        work,
+        checked,
+        order: choice.options.order,
+    };
     match found {
-        None => match render_anew(alloc, work, checked, order, shelf, bench, watch) {
+        None => match render_anew(alloc, planned, shelf, bench, watch) {
             Ok(worked) => {
                 let clips = worked.clips;
                 let clipping = Clipping {
@@ -131,7 +125,7 @@ fn resume_checked<S: Shelf, B: Bench, W: Watch>(
             }
             Err(fault) => return Err(fault),
         },
-        Some(marked) => match go_on_marked(alloc, work, checked, order, shelf, bench, watch) {
+        Some(marked) => match go_on_marked(alloc, planned, shelf, bench, watch) {
             Ok(worked) => {
                 let clips = worked.clips;
                 let clipping = Clipping {
@@ -197,7 +191,12 @@ pub fn resume_watched<S: Shelf, B: Bench, W: Watch>(
         (λ range. marked_in (opened_of (run_of list.now range) (B.stored bench.old))) made.clipping) }
 {
     let Opened { checked, notices } = open(alloc, list, shelf)?;
-    let found = resume_checked(alloc, list, &checked, choice, shelf, bench, watch)?;
+    let listed = Listed {
+        list,
+        checked: &checked,
+        choice,
+    };
+    let found = resume_checked(alloc, listed, shelf, bench, watch)?;
     let resumed = Resumed {
         frames: found.frames,
         marked: found.marked,

@@ -3,63 +3,57 @@ ghost use Rattle.std.specs.Prelude.{◌≡◌, IfOk, ℕ, ℤ, ⊤};
 ghost use Rattle.devices.specs.Views.{output_view, source_view};
 ghost use Rattle.work_terms.specs.Refusals.{Answers};
 ghost use Rattle.sound_terms.specs.Render.{ReadsBack, rendering_of};
-ghost use Rattle.list_terms.specs.Accepted.{range_of};
 ghost use Rattle.markfile.specs.Started.{NoneStarted};
-ghost use Rattle.rendering.specs.Marked.{run_of};
-ghost use Rattle.rendering.specs.Rendering.{render_fault, values_of};
+ghost use Rattle.rendering.specs.Rendering.{values_of};
 ghost use Rattle.consolidate.specs.Fault.{refusal_of};
-ghost use Rattle.consolidate.specs.Marks.{list_marking};
 ghost use Rattle.consolidate.specs.Own.{FailsAtSchedule};
-ghost use Rattle.consolidate.specs.RenderOutcome.{RendersBound};
 ghost use Rattle.consolidate.specs.RenderWorks.{DoesWork, IsAllDone};
 ghost use Rattle.consolidate.specs.Schedules.{IsRenderSchedule};
+ghost use Rattle.consolidate.specs.Listed.{RendersListed, fault_of_range, marking_in, range_in, run_in};
 
 use crate::Fault;
 use crate::choice::RenderChoice;
 use crate::marked::render_by_events;
 use crate::opened::open;
+use crate::requested::{Listed, Planned};
 use devices::{Bench, Shelf};
 use job_terms::{BoardEvent, Progress};
 use opening::Opened;
-use projectcheck::Checked;
 use rendering::RenderingWork;
 use std::alloc::Global;
 
-/// Renders an opened project of this list by these events.
+/// Renders an opened project by these events.
 fn schedule_checked<S: Shelf, B: Bench>(
     alloc: Global,
-    list: &[u8],
-    checked: &Checked,
-    choice: &RenderChoice,
+    listed: Listed<'_>,
     events: &[BoardEvent],
     shelf: &mut S,
     bench: &mut B,
 ) -> Result<Progress, Fault>
     ensures does { DoesWork S.Shelf B.Bench IsAllDone (λ reported progress. reported ≡ progress)
-        (list_marking list.now (values_of choice.now.options) (S.stored shelf.old) checked.now.project checked.now.bound)
-        (run_of list.now (range_of checked.now.project (values_of choice.now.options))) ⊤ (NoneStarted (B.may_leave bench.old))
-        (RendersBound choice.now.jobs (λ _. events.now) list.now (values_of choice.now.options) checked.now.project checked.now.bound
-        (source_view S.Shelf shelf.old) (source_view S.Shelf shelf.new) (output_view B.Bench bench.old)
-        (output_view B.Bench bench.new)) shelf.old shelf.new bench.old bench.new result }
+        (marking_in listed.entry (S.stored shelf.old)) (run_in listed.entry) ⊤ (NoneStarted (B.may_leave bench.old))
+        (RendersListed (λ _. events.now) listed.entry (source_view S.Shelf shelf.old) (source_view S.Shelf shelf.new)
+        (output_view B.Bench bench.old) (output_view B.Bench bench.new)) shelf.old shelf.new bench.old bench.new result }
     ensures reads_back { IfOk result (λ _. (mix : ℕ → ℕ → ℤ)
-        → ReadsBack (range_of checked.now.project (values_of choice.now.options)) mix
-        (rendering_of (range_of checked.now.project (values_of choice.now.options)) mix)) }
-    ensures refusals { Answers refusal_of result (render_fault checked.now.project (values_of choice.now.options)) }
+        → ReadsBack (range_in listed.entry) mix (rendering_of (range_in listed.entry) mix)) }
+    ensures refusals { Answers refusal_of result (fault_of_range listed.entry) }
     ensures own { FailsAtSchedule result }
 {
+    let Listed {
+        list,
+        checked,
+        choice,
+    } = listed;
     let work = match RenderingWork::plan(alloc, checked, &choice.options, list, choice.jobs) {
         Ok(work) => work,
         Err(fault) => return Err(Fault::of_rendering(fault)),
     };
-    match render_by_events(
-        alloc,
+    let planned = Planned {
         work,
         checked,
-        choice.options.order,
-        events,
-        shelf,
-        bench,
-    ) {
+        order: choice.options.order,
+    };
+    match render_by_events(alloc, planned, events, shelf, bench) {
         Ok(progress) => return Ok(progress),
         Err(fault) => return Err(fault),
     }
@@ -78,7 +72,12 @@ pub fn schedule_render<S: Shelf, B: Bench>(
         (values_of choice.now.options) events.now shelf.old shelf.new bench.old bench.new result }
 {
     let Opened { checked, .. } = open(alloc, list, shelf)?;
-    match schedule_checked(alloc, list, &checked, choice, events, shelf, bench) {
+    let listed = Listed {
+        list,
+        checked: &checked,
+        choice,
+    };
+    match schedule_checked(alloc, listed, events, shelf, bench) {
         Ok(progress) => return Ok(progress),
         Err(fault) => return Err(fault),
     }

@@ -8,7 +8,7 @@ ghost use Rattle.rendering.specs.declared.cutting.JobLength.TheVariants.{OneBloc
 ghost use Rattle.consolidate.specs.Schedules.{IsConsolidationSchedule, IsRenderSchedule};
 
 use crate::Fault;
-use crate::choice::RenderChoice;
+use crate::choice::{Keeping, RenderChoice};
 use crate::remade::schedule_media;
 use crate::scheduled::schedule_render;
 use devices::{Bench, Shelf};
@@ -96,7 +96,10 @@ pub fn run_schedule_by<S: Shelf, B: Bench>(
             handle,
             passes,
             ..
-        } => schedule_media(alloc, list, handle, passes, events, shelf, bench),
+        } => {
+            let keeping = Keeping { handle, passes };
+            schedule_media(alloc, list, keeping, events, shelf, bench)
+        }
         Work::Render { list, options } => {
             let choice = RenderChoice { options, jobs };
             schedule_render(alloc, list, &choice, events, shelf, bench)

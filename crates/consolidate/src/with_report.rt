@@ -5,7 +5,7 @@ ghost use Rattle.renderreport.specs.Report.{facts_of};
 ghost use Rattle.rendering.specs.Rendering.{values_of};
 ghost use Rattle.consolidate.specs.SoundReports.{IsReportedRendering, IsReportedResuming, WritesReport, asked_of, rendered_facts, resumed_facts};
 
-use crate::choice::{RenderChoice, RenderReport};
+use crate::choice::{RenderReport, ReportedChoice};
 use crate::rendered::{RenderedSound, render_watched};
 use crate::resumed::{ResumedSound, resume_watched};
 use crate::{Fault, OutputFile};
@@ -82,16 +82,17 @@ fn report_resumed<'a, B: Bench>(
 pub fn render_reported<'a, S: Shelf, B: Bench, W: Watch>(
     alloc: Global,
     list: &'a [u8],
-    choice: &RenderChoice,
-    report: RenderReport<'a>,
+    asked: &ReportedChoice<'a>,
     shelf: &mut S,
     bench: &mut B,
     watch: &mut W,
 ) -> Result<RenderedSound, Fault>
-    ensures { IsReportedRendering S.Shelf B.Bench (asked_of report.entry) choice.now.jobs list.now
-        (values_of choice.now.options) shelf.old shelf.new bench.old bench.new (ok_map (λ made. made.rendered) result) }
+    ensures { IsReportedRendering S.Shelf B.Bench (asked_of asked.now.report) asked.now.choice.jobs list.now
+        (values_of asked.now.choice.options) shelf.old shelf.new bench.old bench.new
+        (ok_map (λ made. made.rendered) result) }
 {
-    match render_watched(alloc, list, choice, shelf, bench, watch) {
+    let ReportedChoice { choice, report } = *asked;
+    match render_watched(alloc, list, &choice, shelf, bench, watch) {
         Ok(made) => match report_rendered(list, choice.options.depth, report, &made, bench) {
             Ok(()) => Ok(made),
             Err(fault) => Err(fault),
@@ -105,16 +106,17 @@ pub fn render_reported<'a, S: Shelf, B: Bench, W: Watch>(
 pub fn resume_reported<'a, S: Shelf, B: Bench, W: Watch>(
     alloc: Global,
     list: &'a [u8],
-    choice: &RenderChoice,
-    report: RenderReport<'a>,
+    asked: &ReportedChoice<'a>,
     shelf: &mut S,
     bench: &mut B,
     watch: &mut W,
 ) -> Result<ResumedSound, Fault>
-    ensures { IsReportedResuming S.Shelf B.Bench (asked_of report.entry) choice.now.jobs list.now
-        (values_of choice.now.options) shelf.old shelf.new bench.old bench.new (ok_map (λ made. made.resumed) result) }
+    ensures { IsReportedResuming S.Shelf B.Bench (asked_of asked.now.report) asked.now.choice.jobs list.now
+        (values_of asked.now.choice.options) shelf.old shelf.new bench.old bench.new
+        (ok_map (λ made. made.resumed) result) }
 {
-    match resume_watched(alloc, list, choice, shelf, bench, watch) {
+    let ReportedChoice { choice, report } = *asked;
+    match resume_watched(alloc, list, &choice, shelf, bench, watch) {
         Ok(made) => match report_resumed(list, choice.options.depth, report, &made, bench) {
             Ok(()) => Ok(made),
             Err(fault) => Err(fault),

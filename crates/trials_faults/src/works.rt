@@ -3,8 +3,9 @@ ghost use Rattle.rendering.specs.Rendering.{HaveChannels};
 
 use crate::recorded::Recorded;
 use consolidate::{
-    BoardEvent, Depth, Fault, JobLength, Options, Order, Progress, RenderChoice, ReportChoice,
-    Resumed, Work, consolidate_watched, render_watched, resume_watched, run_schedule,
+    BoardEvent, ConsolidateChoice, Depth, Fault, JobLength, Keeping, Options, Order, Progress,
+    RenderChoice, ReportChoice, Resumed, Work, consolidate_watched, render_watched, resume_watched,
+    run_schedule,
 };
 use passes::{DropSilent, JoinCuts, Pass, Regroup, SplitFades};
 use shelf::{Bench, MemoryBench, MemoryShelf, Shelf, Unwatched};
@@ -401,9 +402,7 @@ impl Job {
     }
 
     /// The same, in its jobs.
-    fn choice(&self) -> RenderChoice
-        ensures { HaveChannels result.options }
-    {
+    fn choice(&self) -> RenderChoice {
         RenderChoice {
             options: self.options(),
             jobs: self.jobs,
@@ -450,16 +449,11 @@ impl Job {
         shelf: &mut S,
         bench: &mut MemoryBench,
     ) -> Result<(), Fault> {
-        match consolidate_watched(
-            self.alloc,
-            self.list,
-            0,
-            passes,
+        let choice = ConsolidateChoice {
+            keeping: Keeping { handle: 0, passes },
             report,
-            shelf,
-            bench,
-            &mut Unwatched,
-        ) {
+        };
+        match consolidate_watched(self.alloc, self.list, choice, shelf, bench, &mut Unwatched) {
             Ok(_) => Ok(()),
             Err(fault) => Err(fault),
         }

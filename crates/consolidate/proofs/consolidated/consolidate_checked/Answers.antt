@@ -40,8 +40,8 @@ returns-in-Err-execution_of g c = rw c.in-Err-execution_of.ensures.memory
 pub returns : goal.returns
 returns g c =
     let leave : Leaving = left_by (λ pass. (goal.Pass-dyn g (pass.vtable, pass.value)).looking pass.value)
-    (λ pass. (goal.Pass-dyn g (pass.vtable, pass.value)).gives pass.value) c.args.passes.items in
-    let asked : Option AskedReport = option_map asked_of c.args.report in
+    (λ pass. (goal.Pass-dyn g (pass.vtable, pass.value)).gives pass.value) c.args.reported.keeping.passes.items in
+    let asked : Option AskedReport = option_map asked_of c.args.reported.report in
     let mid = c.plan.new.shelf in
     let new = c.execute-ended.new.shelf in
     let before = c.args.bench.now in
@@ -55,7 +55,7 @@ returns g c =
     let executed = c.execute-ended.ensures in
     let board = c.execute-ended.new.self.board in
     let events : ℕ → List _ = λ n. rounds (3 * n) in
-    consolidates g.S.Shelf g.B.Bench leave c.args.checked.project c.args.checked.bound c.args.handle asked plan
+    consolidates g.S.Shelf g.B.Bench leave c.args.checked.project c.args.checked.bound c.args.reported.keeping.handle asked plan
     c.outcome-written.result c.args.shelf.now mid new before after board events _ ended planned.planned planned.there
     planned.fits planned.refusals planned.only_reads whole.value whole.names whole.same_sound whole.consolidated
     (called events plan started.work _ started.board board (hands_at started) (source_view g.S.Shelf mid)
@@ -66,4 +66,4 @@ returns g c =
     (λ is. executed.job_memory is)
     (answers_for Written _ c.answer_of.result ended c.outcome-written.result.media (length plan.runs) c.is_some.result
     (is_some asked) (ap (λ (w : Written). w.media) whole.value)
-    (c.is_some.ensures ∙ sym (asked_some asked_of c.args.report)) c.answer_of.ensures)
+    (c.is_some.ensures ∙ sym (asked_some asked_of c.args.reported.report)) c.answer_of.ensures)

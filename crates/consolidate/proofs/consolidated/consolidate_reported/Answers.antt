@@ -51,13 +51,13 @@ returns-in_err-written-clause-consolidated g c =
     let fault = c.in_err-written.field-0.0 in
     let opened = c.in_ok-checked.ensures in
     let told = c.in_err-written.ensures in
-    let asked : Option AskedReport = option_map asked_of c.args.report in
+    let asked : Option AskedReport = option_map asked_of c.args.reported.report in
     let events : ℕ → List BoardEvent = λ n. rounds (3 * n) in
     let finished : consolidation.Written → Progress → Type 0 = λ _ progress. progress.finished ≡ true in
     let finished_too : Written → Progress → Type 0 = λ _ progress. progress.finished ≡ true in
     let list = c.args.list.now in
     let leave : Leaving = left_by (λ pass. (goal.Pass-dyn g (pass.vtable, pass.value)).looking pass.value)
-    (λ pass. (goal.Pass-dyn g (pass.vtable, pass.value)).gives pass.value) c.args.passes.items in
+    (λ pass. (goal.Pass-dyn g (pass.vtable, pass.value)).gives pass.value) c.args.reported.keeping.passes.items in
     let sources = g.S.Shelf.stored c.args.shelf.now in
     let checked = c.in_ok-checked.field-0.checked in
     rw (p.1, p.2) (record {
@@ -67,9 +67,9 @@ returns-in_err-written-clause-consolidated g c =
       refusals = λ honest project binding work accepted is_work.
           let honest_now : IsTrue (g.S.Shelf.honest c.open.new.shelf) =
           rw c.open.ensures.only_reads.honest_same honest in
-          one_work leave list sources _ project _ binding c.args.handle work (refusal_of fault)
+          one_work leave list sources _ project _ binding c.args.reported.keeping.handle work (refusal_of fault)
           (opened.accepted honest) accepted
-          (λ is. let now : IsWorkOf leave checked.project checked.bound c.args.handle
+          (λ is. let now : IsWorkOf leave checked.project checked.bound c.args.reported.keeping.handle
           (g.S.Shelf.stored c.open.new.shelf) work =
           rw c.open.ensures.only_reads.same is in told.refusals honest_now work now) is_work;
       bad_list = λ honest refusal due.
@@ -82,7 +82,7 @@ returns-in_err-written-clause-consolidated g c =
       report_last = told.report_last;
       outcome = λ honest right late. listed_media g.S.Shelf c.args.shelf.now c.open.new.shelf opened.only_reads.same
           (opened.only_reads.cause.left tt) consolidation.Written Written leave list checked.project checked.bound
-          c.args.handle asked events finished finished_too (source_view g.S.Shelf c.consolidate_checked.new.shelf)
+          c.args.reported.keeping.handle asked events finished finished_too (source_view g.S.Shelf c.consolidate_checked.new.shelf)
           (output_view g.B.Bench c.args.bench.now) (output_view g.B.Bench c.consolidate_checked.new.bench) (Err fault)
           (Err fault) (opened.accepted honest)
           (λ fault_for ended. answers_err consolidation.Written Written fault_for finished finished_too fault ended)
@@ -104,14 +104,14 @@ returns-clause-consolidated g c =
       sizes = c.in_ok-written.written.sizes;
       notices = c.in_ok-checked.field-0.notices;
     } in
-    let asked : Option AskedReport = option_map asked_of c.args.report in
+    let asked : Option AskedReport = option_map asked_of c.args.reported.report in
     let events : ℕ → List BoardEvent = λ n. rounds (3 * n) in
     let finished : consolidation.Written → Progress → Type 0 = λ _ progress. progress.finished ≡ true in
     let finished_too : Written → Progress → Type 0 = λ _ progress. progress.finished ≡ true in
     let list = c.args.list.now in
-    let handle = c.args.handle in
+    let handle = c.args.reported.keeping.handle in
     let leave : Leaving = left_by (λ pass. (goal.Pass-dyn g (pass.vtable, pass.value)).looking pass.value)
-    (λ pass. (goal.Pass-dyn g (pass.vtable, pass.value)).gives pass.value) c.args.passes.items in
+    (λ pass. (goal.Pass-dyn g (pass.vtable, pass.value)).gives pass.value) c.args.reported.keeping.passes.items in
     let sources = g.S.Shelf.stored c.args.shelf.now in
     let project = c.in_ok-checked.field-0.checked.project in
     let binding = c.in_ok-checked.field-0.checked.bound in
@@ -161,27 +161,27 @@ returns-clause-consolidated g c =
 
 pub returns-in_err-checked-clause-standard : goal.returns-in_err-checked-clause-standard
 returns-in_err-checked-clause-standard g c are =
-    subst (λ (leave : Leaving). IsConsolidation g.S.Shelf g.B.Bench leave c.args.list.now c.args.handle
-    (option_map asked_of c.args.report)
+    subst (λ (leave : Leaving). IsConsolidation g.S.Shelf g.B.Bench leave c.args.list.now c.args.reported.keeping.handle
+    (option_map asked_of c.args.reported.report)
     c.args.shelf.now c.open.new.shelf c.args.bench.now c.args.bench.now c.from_residual.result)
-    (standard_left _ _ c.args.passes.items are) (returns-in_err-checked-clause-consolidated g c)
+    (standard_left _ _ c.args.reported.keeping.passes.items are) (returns-in_err-checked-clause-consolidated g c)
 
 pub returns-in_err-written-clause-standard : goal.returns-in_err-written-clause-standard
 returns-in_err-written-clause-standard g c are =
-    subst (λ (leave : Leaving). IsConsolidation g.S.Shelf g.B.Bench leave c.args.list.now c.args.handle
-    (option_map asked_of c.args.report)
+    subst (λ (leave : Leaving). IsConsolidation g.S.Shelf g.B.Bench leave c.args.list.now c.args.reported.keeping.handle
+    (option_map asked_of c.args.reported.report)
     c.args.shelf.now c.consolidate_checked.new.shelf c.args.bench.now c.consolidate_checked.new.bench
     c.from_residual-in_err-written.result)
-    (standard_left _ _ c.args.passes.items are) (returns-in_err-written-clause-consolidated g c)
+    (standard_left _ _ c.args.reported.keeping.passes.items are) (returns-in_err-written-clause-consolidated g c)
 
 pub returns-clause-standard : goal.returns-clause-standard
 returns-clause-standard g c are =
-    subst (λ (leave : Leaving). IsConsolidation g.S.Shelf g.B.Bench leave c.args.list.now c.args.handle
-    (option_map asked_of c.args.report)
+    subst (λ (leave : Leaving). IsConsolidation g.S.Shelf g.B.Bench leave c.args.list.now c.args.reported.keeping.handle
+    (option_map asked_of c.args.reported.report)
     c.args.shelf.now c.consolidate_checked.new.shelf c.args.bench.now c.consolidate_checked.new.bench (Ok (record {
       media = c.in_ok-written.written.media;
       entries = c.in_ok-written.written.entries;
       sizes = c.in_ok-written.written.sizes;
       notices = c.in_ok-checked.field-0.notices;
     })))
-    (standard_left _ _ c.args.passes.items are) (returns-clause-consolidated g c)
+    (standard_left _ _ c.args.reported.keeping.passes.items are) (returns-clause-consolidated g c)

@@ -8,14 +8,14 @@ use Rattle.consolidate.proofs.consolidated.consolidate_watched.Goals as goal
 pub returns-clause-consolidated : goal.returns-clause-consolidated
 returns-clause-consolidated g c =
     let leave : Leaving = left_by (λ pass. (goal.Pass-dyn g (pass.vtable, pass.value)).looking pass.value)
-    (λ pass. (goal.Pass-dyn g (pass.vtable, pass.value)).gives pass.value) c.args.passes.items in
-    subst (λ (asked : Option AskedReport). IsConsolidation g.S.Shelf g.B.Bench leave c.args.list.now c.args.handle asked
+    (λ pass. (goal.Pass-dyn g (pass.vtable, pass.value)).gives pass.value) c.args.choice.keeping.passes.items in
+    subst (λ (asked : Option AskedReport). IsConsolidation g.S.Shelf g.B.Bench leave c.args.list.now c.args.choice.keeping.handle asked
     c.args.shelf.now c.consolidate_reported.new.shelf c.args.bench.now c.consolidate_reported.new.bench
     c.consolidate_reported.result) c.report_on-report.ensures c.consolidate_reported.ensures.consolidated
 
 pub returns-clause-standard : goal.returns-clause-standard
 returns-clause-standard g c are =
     subst (λ (asked : Option AskedReport). IsConsolidation g.S.Shelf g.B.Bench standard_groups c.args.list.now
-    c.args.handle asked c.args.shelf.now c.consolidate_reported.new.shelf c.args.bench.now
+    c.args.choice.keeping.handle asked c.args.shelf.now c.consolidate_reported.new.shelf c.args.bench.now
     c.consolidate_reported.new.bench c.consolidate_reported.result) c.report_on-report.ensures
     (c.consolidate_reported.ensures.standard are)

@@ -40,7 +40,7 @@ returns-in-Err-execution_of g c = rw c.in-Err-execution_of.ensures.memory
 pub returns : goal.returns
 returns g c =
     let leave : Leaving = left_by (λ pass. (goal.Pass-dyn g (pass.vtable, pass.value)).looking pass.value)
-    (λ pass. (goal.Pass-dyn g (pass.vtable, pass.value)).gives pass.value) c.args.passes.items in
+    (λ pass. (goal.Pass-dyn g (pass.vtable, pass.value)).gives pass.value) c.args.keeping.passes.items in
     let mid = c.plan.new.shelf in
     let new = c.execute_events-ended.new.shelf in
     let before = c.args.bench.now in
@@ -53,7 +53,7 @@ returns g c =
     let ended = c.execute_events-ended.result in
     let board = c.execute_events-ended.new.self.board in
     let events : ℕ → List BoardEvent = λ n. c.args.events.now in
-    consolidates_events g.S.Shelf g.B.Bench leave c.args.checked.project c.args.checked.bound c.args.handle plan
+    consolidates_events g.S.Shelf g.B.Bench leave c.args.checked.project c.args.checked.bound c.args.keeping.handle plan
     c.outcome-media.result c.args.shelf.now mid new before after board events _ ended planned.planned planned.there
     planned.fits planned.refusals planned.only_reads whole.value whole.names whole.same_sound whole.consolidated
     (called events plan started.work _ started.board board (hands_at started) (source_view g.S.Shelf mid)

@@ -47,11 +47,11 @@ returns-in-Err-clause-scheduled g c =
     let list = c.args.list.now in
     let checked = c.in_ok-checked.field-0.checked in
     let leave : Leaving = left_by (λ pass. (goal.Pass-dyn g (pass.vtable, pass.value)).looking pass.value)
-    (λ pass. (goal.Pass-dyn g (pass.vtable, pass.value)).gives pass.value) c.args.passes.items in
+    (λ pass. (goal.Pass-dyn g (pass.vtable, pass.value)).gives pass.value) c.args.keeping.passes.items in
     let sources = g.S.Shelf.stored c.args.shelf.now in
     record {
       outcome = λ honest right begun. listed_media g.S.Shelf c.args.shelf.now c.open.new.shelf opened.only_reads.same
-          (opened.only_reads.cause.left tt) Progress Progress leave list checked.project checked.bound c.args.handle None
+          (opened.only_reads.cause.left tt) Progress Progress leave list checked.project checked.bound c.args.keeping.handle None
           (λ _. c.args.events.now) reports reports (source_view g.S.Shelf c.schedule_consolidation.new.shelf)
           (output_view g.B.Bench c.args.bench.now) (output_view g.B.Bench c.schedule_consolidation.new.bench) (Err fault) (Err fault)
           (opened.accepted honest) (λ fault_for ended answers. answers)
@@ -62,9 +62,9 @@ returns-in-Err-clause-scheduled g c =
       refusals = λ honest project binding work accepted is_work.
           let honest_now : IsTrue (g.S.Shelf.honest c.open.new.shelf) =
           rw c.open.ensures.only_reads.honest_same honest in
-          one_work leave list sources _ project _ binding c.args.handle work (refusal_of fault)
+          one_work leave list sources _ project _ binding c.args.keeping.handle work (refusal_of fault)
           (opened.accepted honest) accepted
-          (λ is. let now : IsWorkOf leave checked.project checked.bound c.args.handle
+          (λ is. let now : IsWorkOf leave checked.project checked.bound c.args.keeping.handle
           (g.S.Shelf.stored c.open.new.shelf) work =
           rw c.open.ensures.only_reads.same is in told.refusals honest_now work now) is_work;
       bad_list = λ honest refusal due.
@@ -84,10 +84,10 @@ returns-in-Ok-clause-scheduled g c =
     let told = c.in-Ok.ensures in
     let reports : Progress → Progress → Type 0 = λ answer progress. answer ≡ progress in
     let list = c.args.list.now in
-    let handle = c.args.handle in
+    let handle = c.args.keeping.handle in
     let checked = c.in_ok-checked.field-0.checked in
     let leave : Leaving = left_by (λ pass. (goal.Pass-dyn g (pass.vtable, pass.value)).looking pass.value)
-    (λ pass. (goal.Pass-dyn g (pass.vtable, pass.value)).gives pass.value) c.args.passes.items in
+    (λ pass. (goal.Pass-dyn g (pass.vtable, pass.value)).gives pass.value) c.args.keeping.passes.items in
     let sources = g.S.Shelf.stored c.args.shelf.now in
     let project = checked.project in
     let binding = checked.bound in
@@ -95,7 +95,7 @@ returns-in-Ok-clause-scheduled g c =
     λ honest. rw c.open.ensures.only_reads.honest_same honest in
     record {
       outcome = λ honest right begun. listed_media g.S.Shelf c.args.shelf.now c.open.new.shelf opened.only_reads.same
-          (opened.only_reads.cause.left tt) Progress Progress leave list checked.project checked.bound c.args.handle None
+          (opened.only_reads.cause.left tt) Progress Progress leave list checked.project checked.bound c.args.keeping.handle None
           (λ _. c.args.events.now) reports reports (source_view g.S.Shelf c.schedule_consolidation.new.shelf)
           (output_view g.B.Bench c.args.bench.now) (output_view g.B.Bench c.schedule_consolidation.new.bench)
           (Ok c.in-Ok.progress) (Ok c.in-Ok.progress)
@@ -132,20 +132,20 @@ returns-in-Ok-clause-scheduled g c =
 
 pub returns-in_err-checked-clause-standard : goal.returns-in_err-checked-clause-standard
 returns-in_err-checked-clause-standard g c are =
-    subst (λ (leave : Leaving). IsConsolidationSchedule g.S.Shelf g.B.Bench leave c.args.list.now c.args.handle
+    subst (λ (leave : Leaving). IsConsolidationSchedule g.S.Shelf g.B.Bench leave c.args.list.now c.args.keeping.handle
     c.args.events.now c.args.shelf.now c.open.new.shelf c.args.bench.now c.args.bench.now c.from_residual.result)
-    (standard_left _ _ c.args.passes.items are) (returns-in_err-checked-clause-scheduled g c)
+    (standard_left _ _ c.args.keeping.passes.items are) (returns-in_err-checked-clause-scheduled g c)
 
 pub returns-in-Err-clause-standard : goal.returns-in-Err-clause-standard
 returns-in-Err-clause-standard g c are =
-    subst (λ (leave : Leaving). IsConsolidationSchedule g.S.Shelf g.B.Bench leave c.args.list.now c.args.handle
+    subst (λ (leave : Leaving). IsConsolidationSchedule g.S.Shelf g.B.Bench leave c.args.list.now c.args.keeping.handle
     c.args.events.now c.args.shelf.now c.schedule_consolidation.new.shelf c.args.bench.now
     c.schedule_consolidation.new.bench (Err c.in-Err.fault))
-    (standard_left _ _ c.args.passes.items are) (returns-in-Err-clause-scheduled g c)
+    (standard_left _ _ c.args.keeping.passes.items are) (returns-in-Err-clause-scheduled g c)
 
 pub returns-in-Ok-clause-standard : goal.returns-in-Ok-clause-standard
 returns-in-Ok-clause-standard g c are =
-    subst (λ (leave : Leaving). IsConsolidationSchedule g.S.Shelf g.B.Bench leave c.args.list.now c.args.handle
+    subst (λ (leave : Leaving). IsConsolidationSchedule g.S.Shelf g.B.Bench leave c.args.list.now c.args.keeping.handle
     c.args.events.now c.args.shelf.now c.schedule_consolidation.new.shelf c.args.bench.now
     c.schedule_consolidation.new.bench (Ok c.in-Ok.progress))
-    (standard_left _ _ c.args.passes.items are) (returns-in-Ok-clause-scheduled g c)
+    (standard_left _ _ c.args.keeping.passes.items are) (returns-in-Ok-clause-scheduled g c)

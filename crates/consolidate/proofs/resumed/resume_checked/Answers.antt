@@ -34,17 +34,17 @@ use Rattle.consolidate.proofs.resumed.resume_checked.Goals as goal
 
 pub returns-in-Err-clause-does : goal.returns-in-Err-clause-does
 returns-in-Err-clause-does g c =
-    let list = c.args.list.now in
-    let project = c.args.checked.now.project in
-    let binding = c.args.checked.now.bound in
-    let values = values_of c.args.choice.now.options in
+    let list = c.args.listed.list.now in
+    let project = c.args.listed.checked.now.project in
+    let binding = c.args.listed.checked.now.bound in
+    let values = values_of c.args.listed.choice.now.options in
     let sources = g.S.Shelf.stored c.args.shelf.now in
     let m = list_marking list values sources project binding in
     let due = opened_of (run_of list (range_of project values)) (g.B.Bench.stored c.args.bench.now) in
     let begun = IsLeftByRun m (g.B.Bench.may_leave c.args.bench.now) in
     unplanned g.S.Shelf g.B.Bench (λ _. ⊤) (λ _ progress. progress.finished ≡ true) m
     (run_of list (range_of project values)) begun begun
-    (ResumesBound c.args.choice.now.jobs list values project binding due (source_view g.S.Shelf c.args.shelf.now)
+    (ResumesBound c.args.listed.choice.now.jobs list values project binding due (source_view g.S.Shelf c.args.shelf.now)
     (source_view g.S.Shelf c.args.shelf.now) (output_view g.B.Bench c.args.bench.now)
     (output_view g.B.Bench c.args.bench.now))
     g.met.B.Bench.only_now c.args.shelf.now c.args.bench.now c.in-Err.fault c.of_rendering.result
@@ -52,17 +52,17 @@ returns-in-Err-clause-does g c =
 
 pub returns-in-Err-open-clause-does : goal.returns-in-Err-open-clause-does
 returns-in-Err-open-clause-does g c =
-    let list = c.args.list.now in
-    let project = c.args.checked.now.project in
-    let binding = c.args.checked.now.bound in
-    let values = values_of c.args.choice.now.options in
+    let list = c.args.listed.list.now in
+    let project = c.args.listed.checked.now.project in
+    let binding = c.args.listed.checked.now.bound in
+    let values = values_of c.args.listed.choice.now.options in
     let sources = g.S.Shelf.stored c.args.shelf.now in
     let m = list_marking list values sources project binding in
     let due = opened_of (run_of list (range_of project values)) (g.B.Bench.stored c.args.bench.now) in
     let begun = IsLeftByRun m (g.B.Bench.may_leave c.args.bench.now) in
     unopened g.S.Shelf g.B.Bench (λ _. ⊤) (λ _ progress. progress.finished ≡ true) m
     (run_of list (range_of project values)) begun begun
-    (ResumesBound c.args.choice.now.jobs list values project binding due (source_view g.S.Shelf c.args.shelf.now)
+    (ResumesBound c.args.listed.choice.now.jobs list values project binding due (source_view g.S.Shelf c.args.shelf.now)
     (source_view g.S.Shelf c.args.shelf.now) (output_view g.B.Bench c.args.bench.now)
     (output_view g.B.Bench c.open.new.bench))
     c.args.shelf.now c.args.bench.now c.open.new.bench c.in-Err-open.fault c.in-Err-open.ensures.untouched
@@ -70,68 +70,68 @@ returns-in-Err-open-clause-does g c =
 
 pub returns-in-Ok-render_anew-clause-does : goal.returns-in-Ok-render_anew-clause-does
 returns-in-Ok-render_anew-clause-does g c =
-    let list = c.args.list.now in
-    let project = c.args.checked.now.project in
-    let binding = c.args.checked.now.bound in
-    let values = values_of c.args.choice.now.options in
+    let list = c.args.listed.list.now in
+    let project = c.args.listed.checked.now.project in
+    let binding = c.args.listed.checked.now.bound in
+    let values = values_of c.args.listed.choice.now.options in
     let sources = g.S.Shelf.stored c.args.shelf.now in
     let m = list_marking list values sources project binding in
     let due = opened_of (run_of list (range_of project values)) (g.B.Bench.stored c.args.bench.now) in
     let begun = IsLeftByRun m (g.B.Bench.may_leave c.args.bench.now) in
-    let was = marked_for c.args.choice.now.jobs list project binding values c.in-Ok.work c.in-Ok.ensures.planned c.in-Ok.ensures.run in
+    let was = marked_for c.args.listed.choice.now.jobs list project binding values c.in-Ok.work c.in-Ok.ensures.planned c.in-Ok.ensures.run in
     let of = reopened list project binding values c.in-Ok.work c.open.new.self was c.in-Ok-open.ensures.reopened.planned
     c.in-Ok-open.ensures.reopened.sounds c.in-Ok-open.ensures.reopened.run in
     project_ok g.S.Shelf g.B.Bench list project binding values c.open.new.self of c.args.shelf.now c.render_anew.new.shelf
     c.args.bench.now c.render_anew.new.bench (λ _. ⊤) (λ _ progress. progress.finished ≡ true) begun begun begun begun
-    (ResumesBound c.args.choice.now.jobs list values project binding due (source_view g.S.Shelf c.args.shelf.now)
+    (ResumesBound c.args.listed.choice.now.jobs list values project binding due (source_view g.S.Shelf c.args.shelf.now)
     (source_view g.S.Shelf c.render_anew.new.shelf) (output_view g.B.Bench c.args.bench.now)
     (output_view g.B.Bench c.render_anew.new.bench))
-    (ResumesBound c.args.choice.now.jobs list values project binding due (source_view g.S.Shelf c.args.shelf.now)
+    (ResumesBound c.args.listed.choice.now.jobs list values project binding due (source_view g.S.Shelf c.args.shelf.now)
     (source_view g.S.Shelf c.render_anew.new.shelf) (output_view g.B.Bench c.args.bench.now)
     (output_view g.B.Bench c.render_anew.new.bench))
     _ _
-    (anew_after_open g.S.Shelf g.B.Bench c.args.choice.now.jobs list values project binding c.in-Ok.work c.open.new.self was
+    (anew_after_open g.S.Shelf g.B.Bench c.args.listed.choice.now.jobs list values project binding c.in-Ok.work c.open.new.self was
     c.in-Ok-open.ensures.reopened.planned c.in-Ok-open.ensures.reopened.sounds c.in-Ok-open.ensures.reopened.run c.args.shelf.now
     c.render_anew.new.shelf c.args.bench.now c.open.new.bench c.render_anew.new.bench c.in-Ok-open.found c.in-Ok-open.ensures.untouched
     c.in-Ok-open.ensures.only_reads _ (λ right. c.in-Ok-open.ensures.unstarted right sources c.in-None.is)
     (λ right. subst (λ (r : RunId). opened_of r (g.B.Bench.stored c.args.bench.now) ≡ Ok None) was.run
     (subst (λ (f : Option ℕ). IsFoundAs (Ok f) (opened_of c.in-Ok.work.run (g.B.Bench.stored c.args.bench.now)))
     c.in-None.is (c.in-Ok-open.ensures.found right)))
-    (subst (λ (w : MarkedWork). IsRenderingOf c.args.choice.now.jobs project binding values w.work)
+    (subst (λ (w : MarkedWork). IsRenderingOf c.args.listed.choice.now.jobs project binding values w.work)
     (sym (c.in-Ok-open.ensures.unchanged c.in-None.is)) c.in-Ok.ensures.planned)
     c.in-Ok-open.ensures.reopened.jobs c.in-Ok-render_anew.ensures.does)
     (λ _. c.in-Ok-render_anew.ensures.finished) c.in-Ok-render_anew.ensures.finished (λ left. left) (λ left. left) (λ ended came. came)
 
 pub returns-in-Err-render_anew-clause-does : goal.returns-in-Err-render_anew-clause-does
 returns-in-Err-render_anew-clause-does g c =
-    let list = c.args.list.now in
-    let project = c.args.checked.now.project in
-    let binding = c.args.checked.now.bound in
-    let values = values_of c.args.choice.now.options in
+    let list = c.args.listed.list.now in
+    let project = c.args.listed.checked.now.project in
+    let binding = c.args.listed.checked.now.bound in
+    let values = values_of c.args.listed.choice.now.options in
     let sources = g.S.Shelf.stored c.args.shelf.now in
     let m = list_marking list values sources project binding in
     let due = opened_of (run_of list (range_of project values)) (g.B.Bench.stored c.args.bench.now) in
     let begun = IsLeftByRun m (g.B.Bench.may_leave c.args.bench.now) in
-    let was = marked_for c.args.choice.now.jobs list project binding values c.in-Ok.work c.in-Ok.ensures.planned c.in-Ok.ensures.run in
+    let was = marked_for c.args.listed.choice.now.jobs list project binding values c.in-Ok.work c.in-Ok.ensures.planned c.in-Ok.ensures.run in
     let of = reopened list project binding values c.in-Ok.work c.open.new.self was c.in-Ok-open.ensures.reopened.planned
     c.in-Ok-open.ensures.reopened.sounds c.in-Ok-open.ensures.reopened.run in
     project_err g.S.Shelf g.B.Bench list project binding values c.open.new.self of c.args.shelf.now c.render_anew.new.shelf
     c.args.bench.now c.render_anew.new.bench (λ _. ⊤) (λ _ progress. progress.finished ≡ true) begun begun begun begun
-    (ResumesBound c.args.choice.now.jobs list values project binding due (source_view g.S.Shelf c.args.shelf.now)
+    (ResumesBound c.args.listed.choice.now.jobs list values project binding due (source_view g.S.Shelf c.args.shelf.now)
     (source_view g.S.Shelf c.render_anew.new.shelf) (output_view g.B.Bench c.args.bench.now)
     (output_view g.B.Bench c.render_anew.new.bench))
-    (ResumesBound c.args.choice.now.jobs list values project binding due (source_view g.S.Shelf c.args.shelf.now)
+    (ResumesBound c.args.listed.choice.now.jobs list values project binding due (source_view g.S.Shelf c.args.shelf.now)
     (source_view g.S.Shelf c.render_anew.new.shelf) (output_view g.B.Bench c.args.bench.now)
     (output_view g.B.Bench c.render_anew.new.bench))
     _
-    (anew_after_open g.S.Shelf g.B.Bench c.args.choice.now.jobs list values project binding c.in-Ok.work c.open.new.self was
+    (anew_after_open g.S.Shelf g.B.Bench c.args.listed.choice.now.jobs list values project binding c.in-Ok.work c.open.new.self was
     c.in-Ok-open.ensures.reopened.planned c.in-Ok-open.ensures.reopened.sounds c.in-Ok-open.ensures.reopened.run c.args.shelf.now
     c.render_anew.new.shelf c.args.bench.now c.open.new.bench c.render_anew.new.bench c.in-Ok-open.found c.in-Ok-open.ensures.untouched
     c.in-Ok-open.ensures.only_reads _ (λ right. c.in-Ok-open.ensures.unstarted right sources c.in-None.is)
     (λ right. subst (λ (r : RunId). opened_of r (g.B.Bench.stored c.args.bench.now) ≡ Ok None) was.run
     (subst (λ (f : Option ℕ). IsFoundAs (Ok f) (opened_of c.in-Ok.work.run (g.B.Bench.stored c.args.bench.now)))
     c.in-None.is (c.in-Ok-open.ensures.found right)))
-    (subst (λ (w : MarkedWork). IsRenderingOf c.args.choice.now.jobs project binding values w.work)
+    (subst (λ (w : MarkedWork). IsRenderingOf c.args.listed.choice.now.jobs project binding values w.work)
     (sym (c.in-Ok-open.ensures.unchanged c.in-None.is)) c.in-Ok.ensures.planned)
     c.in-Ok-open.ensures.reopened.jobs c.in-Err-render_anew.ensures.does)
     (λ left. left) (λ left. left) (λ ended came. came)
@@ -141,27 +141,27 @@ returns-in-Ok-render_anew-clause-reads_back g c mix = c.in-Ok.ensures.planned.re
 
 pub returns-in-Ok-go_on_marked-clause-does : goal.returns-in-Ok-go_on_marked-clause-does
 returns-in-Ok-go_on_marked-clause-does g c =
-    let list = c.args.list.now in
-    let project = c.args.checked.now.project in
-    let binding = c.args.checked.now.bound in
-    let values = values_of c.args.choice.now.options in
+    let list = c.args.listed.list.now in
+    let project = c.args.listed.checked.now.project in
+    let binding = c.args.listed.checked.now.bound in
+    let values = values_of c.args.listed.choice.now.options in
     let sources = g.S.Shelf.stored c.args.shelf.now in
     let m = list_marking list values sources project binding in
     let due = opened_of (run_of list (range_of project values)) (g.B.Bench.stored c.args.bench.now) in
     let begun = IsLeftByRun m (g.B.Bench.may_leave c.args.bench.now) in
-    let was = marked_for c.args.choice.now.jobs list project binding values c.in-Ok.work c.in-Ok.ensures.planned c.in-Ok.ensures.run in
+    let was = marked_for c.args.listed.choice.now.jobs list project binding values c.in-Ok.work c.in-Ok.ensures.planned c.in-Ok.ensures.run in
     let of = reopened list project binding values c.in-Ok.work c.open.new.self was c.in-Ok-open.ensures.reopened.planned
     c.in-Ok-open.ensures.reopened.sounds c.in-Ok-open.ensures.reopened.run in
     project_ok g.S.Shelf g.B.Bench list project binding values c.open.new.self of c.args.shelf.now c.go_on_marked.new.shelf
     c.args.bench.now c.go_on_marked.new.bench (λ _. ⊤) (λ _ progress. progress.finished ≡ true) begun begun begun begun
-    (ResumesBound c.args.choice.now.jobs list values project binding due (source_view g.S.Shelf c.args.shelf.now)
+    (ResumesBound c.args.listed.choice.now.jobs list values project binding due (source_view g.S.Shelf c.args.shelf.now)
     (source_view g.S.Shelf c.go_on_marked.new.shelf) (output_view g.B.Bench c.args.bench.now)
     (output_view g.B.Bench c.go_on_marked.new.bench))
-    (ResumesBound c.args.choice.now.jobs list values project binding due (source_view g.S.Shelf c.args.shelf.now)
+    (ResumesBound c.args.listed.choice.now.jobs list values project binding due (source_view g.S.Shelf c.args.shelf.now)
     (source_view g.S.Shelf c.go_on_marked.new.shelf) (output_view g.B.Bench c.args.bench.now)
     (output_view g.B.Bench c.go_on_marked.new.bench))
     _ _
-    (marked_after_open g.S.Shelf g.B.Bench c.args.choice.now.jobs list values project binding c.in-Ok.work c.open.new.self was
+    (marked_after_open g.S.Shelf g.B.Bench c.args.listed.choice.now.jobs list values project binding c.in-Ok.work c.open.new.self was
     c.in-Ok-open.ensures.reopened.planned c.in-Ok-open.ensures.reopened.sounds c.in-Ok-open.ensures.reopened.run c.args.shelf.now
     c.go_on_marked.new.shelf c.args.bench.now c.open.new.bench c.go_on_marked.new.bench c.in-Ok-open.found
     c.in-Ok-open.ensures.untouched c.in-Ok-open.ensures.only_reads _
@@ -175,36 +175,36 @@ returns-in-Ok-go_on_marked-clause-does g c =
     ))
     (λ right. subst (λ (r : RunId). (marked : List Bool)
     × (opened_of r (g.B.Bench.stored c.args.bench.now) ≡ Ok (Some marked))
-    × AreCutBy c.args.choice.now.jobs marked c.open.new.self.work) was.run
+    × AreCutBy c.args.listed.choice.now.jobs marked c.open.new.self.work) was.run
     (subst (λ (f : Option ℕ). IfSome f (λ _. (marked : List Bool)
     × (opened_of c.in-Ok.work.run (g.B.Bench.stored c.args.bench.now) ≡ Ok (Some marked))
-    × AreCutBy c.args.choice.now.jobs marked c.open.new.self.work)) c.in-Some.is (c.in-Ok-open.ensures.cut right)))
+    × AreCutBy c.args.listed.choice.now.jobs marked c.open.new.self.work)) c.in-Some.is (c.in-Ok-open.ensures.cut right)))
     c.in-Ok-open.ensures.reopened.jobs c.in-Ok-go_on_marked.ensures.does)
     (λ _. c.in-Ok-go_on_marked.ensures.finished) c.in-Ok-go_on_marked.ensures.finished (λ left. left) (λ left. left) (λ ended came. came)
 
 pub returns-in-Err-go_on_marked-clause-does : goal.returns-in-Err-go_on_marked-clause-does
 returns-in-Err-go_on_marked-clause-does g c =
-    let list = c.args.list.now in
-    let project = c.args.checked.now.project in
-    let binding = c.args.checked.now.bound in
-    let values = values_of c.args.choice.now.options in
+    let list = c.args.listed.list.now in
+    let project = c.args.listed.checked.now.project in
+    let binding = c.args.listed.checked.now.bound in
+    let values = values_of c.args.listed.choice.now.options in
     let sources = g.S.Shelf.stored c.args.shelf.now in
     let m = list_marking list values sources project binding in
     let due = opened_of (run_of list (range_of project values)) (g.B.Bench.stored c.args.bench.now) in
     let begun = IsLeftByRun m (g.B.Bench.may_leave c.args.bench.now) in
-    let was = marked_for c.args.choice.now.jobs list project binding values c.in-Ok.work c.in-Ok.ensures.planned c.in-Ok.ensures.run in
+    let was = marked_for c.args.listed.choice.now.jobs list project binding values c.in-Ok.work c.in-Ok.ensures.planned c.in-Ok.ensures.run in
     let of = reopened list project binding values c.in-Ok.work c.open.new.self was c.in-Ok-open.ensures.reopened.planned
     c.in-Ok-open.ensures.reopened.sounds c.in-Ok-open.ensures.reopened.run in
     project_err g.S.Shelf g.B.Bench list project binding values c.open.new.self of c.args.shelf.now c.go_on_marked.new.shelf
     c.args.bench.now c.go_on_marked.new.bench (λ _. ⊤) (λ _ progress. progress.finished ≡ true) begun begun begun begun
-    (ResumesBound c.args.choice.now.jobs list values project binding due (source_view g.S.Shelf c.args.shelf.now)
+    (ResumesBound c.args.listed.choice.now.jobs list values project binding due (source_view g.S.Shelf c.args.shelf.now)
     (source_view g.S.Shelf c.go_on_marked.new.shelf) (output_view g.B.Bench c.args.bench.now)
     (output_view g.B.Bench c.go_on_marked.new.bench))
-    (ResumesBound c.args.choice.now.jobs list values project binding due (source_view g.S.Shelf c.args.shelf.now)
+    (ResumesBound c.args.listed.choice.now.jobs list values project binding due (source_view g.S.Shelf c.args.shelf.now)
     (source_view g.S.Shelf c.go_on_marked.new.shelf) (output_view g.B.Bench c.args.bench.now)
     (output_view g.B.Bench c.go_on_marked.new.bench))
     _
-    (marked_after_open g.S.Shelf g.B.Bench c.args.choice.now.jobs list values project binding c.in-Ok.work c.open.new.self was
+    (marked_after_open g.S.Shelf g.B.Bench c.args.listed.choice.now.jobs list values project binding c.in-Ok.work c.open.new.self was
     c.in-Ok-open.ensures.reopened.planned c.in-Ok-open.ensures.reopened.sounds c.in-Ok-open.ensures.reopened.run c.args.shelf.now
     c.go_on_marked.new.shelf c.args.bench.now c.open.new.bench c.go_on_marked.new.bench c.in-Ok-open.found
     c.in-Ok-open.ensures.untouched c.in-Ok-open.ensures.only_reads _
@@ -218,10 +218,10 @@ returns-in-Err-go_on_marked-clause-does g c =
     ))
     (λ right. subst (λ (r : RunId). (marked : List Bool)
     × (opened_of r (g.B.Bench.stored c.args.bench.now) ≡ Ok (Some marked))
-    × AreCutBy c.args.choice.now.jobs marked c.open.new.self.work) was.run
+    × AreCutBy c.args.listed.choice.now.jobs marked c.open.new.self.work) was.run
     (subst (λ (f : Option ℕ). IfSome f (λ _. (marked : List Bool)
     × (opened_of c.in-Ok.work.run (g.B.Bench.stored c.args.bench.now) ≡ Ok (Some marked))
-    × AreCutBy c.args.choice.now.jobs marked c.open.new.self.work)) c.in-Some.is (c.in-Ok-open.ensures.cut right)))
+    × AreCutBy c.args.listed.choice.now.jobs marked c.open.new.self.work)) c.in-Some.is (c.in-Ok-open.ensures.cut right)))
     c.in-Ok-open.ensures.reopened.jobs c.in-Err-go_on_marked.ensures.does)
     (λ left. left) (λ left. left) (λ ended came. came)
 
@@ -230,10 +230,10 @@ returns-in-Ok-go_on_marked-clause-reads_back g c mix = c.in-Ok.ensures.planned.r
 
 pub returns-in-Err-clause-keeps : goal.returns-in-Err-clause-keeps
 returns-in-Err-clause-keeps g c honest right left told there started =
-    let list = c.args.list.now in
-    let project = c.args.checked.now.project in
-    let binding = c.args.checked.now.bound in
-    let values = values_of c.args.choice.now.options in
+    let list = c.args.listed.list.now in
+    let project = c.args.listed.checked.now.project in
+    let binding = c.args.listed.checked.now.bound in
+    let values = values_of c.args.listed.choice.now.options in
     let sources = g.S.Shelf.stored c.args.shelf.now in
     let m = list_marking list values sources project binding in
     let held = left_holds m (g.B.Bench.may_leave c.args.bench.now) (g.B.Bench.stored c.args.bench.now) told left
@@ -243,10 +243,10 @@ returns-in-Err-clause-keeps g c honest right left told there started =
 
 pub returns-in-Err-open-clause-keeps : goal.returns-in-Err-open-clause-keeps
 returns-in-Err-open-clause-keeps g c honest right left told there started =
-    let list = c.args.list.now in
-    let project = c.args.checked.now.project in
-    let binding = c.args.checked.now.bound in
-    let values = values_of c.args.choice.now.options in
+    let list = c.args.listed.list.now in
+    let project = c.args.listed.checked.now.project in
+    let binding = c.args.listed.checked.now.bound in
+    let values = values_of c.args.listed.choice.now.options in
     let sources = g.S.Shelf.stored c.args.shelf.now in
     let m = list_marking list values sources project binding in
     let held = left_holds m (g.B.Bench.may_leave c.args.bench.now) (g.B.Bench.stored c.args.bench.now) told left
@@ -257,13 +257,13 @@ returns-in-Err-open-clause-keeps g c honest right left told there started =
 
 pub returns-in-Ok-render_anew-clause-keeps : goal.returns-in-Ok-render_anew-clause-keeps
 returns-in-Ok-render_anew-clause-keeps g c honest right left told there started =
-    let list = c.args.list.now in
-    let project = c.args.checked.now.project in
-    let binding = c.args.checked.now.bound in
-    let values = values_of c.args.choice.now.options in
+    let list = c.args.listed.list.now in
+    let project = c.args.listed.checked.now.project in
+    let binding = c.args.listed.checked.now.bound in
+    let values = values_of c.args.listed.choice.now.options in
     let sources = g.S.Shelf.stored c.args.shelf.now in
     let m = list_marking list values sources project binding in
-    let was = marked_for c.args.choice.now.jobs list project binding values c.in-Ok.work c.in-Ok.ensures.planned c.in-Ok.ensures.run in
+    let was = marked_for c.args.listed.choice.now.jobs list project binding values c.in-Ok.work c.in-Ok.ensures.planned c.in-Ok.ensures.run in
     let of = reopened list project binding values c.in-Ok.work c.open.new.self was c.in-Ok-open.ensures.reopened.planned
     c.in-Ok-open.ensures.reopened.sounds c.in-Ok-open.ensures.reopened.run in
     let now = subst IsTrue (sym c.in-Ok-open.ensures.only_reads.honest_same) right in
@@ -275,13 +275,13 @@ returns-in-Ok-render_anew-clause-keeps g c honest right left told there started 
 
 pub returns-in-Err-render_anew-clause-keeps : goal.returns-in-Err-render_anew-clause-keeps
 returns-in-Err-render_anew-clause-keeps g c honest right left told there started =
-    let list = c.args.list.now in
-    let project = c.args.checked.now.project in
-    let binding = c.args.checked.now.bound in
-    let values = values_of c.args.choice.now.options in
+    let list = c.args.listed.list.now in
+    let project = c.args.listed.checked.now.project in
+    let binding = c.args.listed.checked.now.bound in
+    let values = values_of c.args.listed.choice.now.options in
     let sources = g.S.Shelf.stored c.args.shelf.now in
     let m = list_marking list values sources project binding in
-    let was = marked_for c.args.choice.now.jobs list project binding values c.in-Ok.work c.in-Ok.ensures.planned c.in-Ok.ensures.run in
+    let was = marked_for c.args.listed.choice.now.jobs list project binding values c.in-Ok.work c.in-Ok.ensures.planned c.in-Ok.ensures.run in
     let of = reopened list project binding values c.in-Ok.work c.open.new.self was c.in-Ok-open.ensures.reopened.planned
     c.in-Ok-open.ensures.reopened.sounds c.in-Ok-open.ensures.reopened.run in
     let now = subst IsTrue (sym c.in-Ok-open.ensures.only_reads.honest_same) right in
@@ -293,15 +293,15 @@ returns-in-Err-render_anew-clause-keeps g c honest right left told there started
 
 pub returns-in-Ok-go_on_marked-clause-keeps : goal.returns-in-Ok-go_on_marked-clause-keeps
 returns-in-Ok-go_on_marked-clause-keeps g c honest right left told there started =
-    let list = c.args.list.now in
-    let project = c.args.checked.now.project in
-    let binding = c.args.checked.now.bound in
-    let values = values_of c.args.choice.now.options in
+    let list = c.args.listed.list.now in
+    let project = c.args.listed.checked.now.project in
+    let binding = c.args.listed.checked.now.bound in
+    let values = values_of c.args.listed.choice.now.options in
     let sources = g.S.Shelf.stored c.args.shelf.now in
     let m = list_marking list values sources project binding in
     let held = left_holds m (g.B.Bench.may_leave c.args.bench.now) (g.B.Bench.stored c.args.bench.now) told left
     (g.met.B.Bench.reads_now c.args.bench.now right) there started in
-    let was = marked_for c.args.choice.now.jobs list project binding values c.in-Ok.work c.in-Ok.ensures.planned c.in-Ok.ensures.run in
+    let was = marked_for c.args.listed.choice.now.jobs list project binding values c.in-Ok.work c.in-Ok.ensures.planned c.in-Ok.ensures.run in
     let of = reopened list project binding values c.in-Ok.work c.open.new.self was c.in-Ok-open.ensures.reopened.planned
     c.in-Ok-open.ensures.reopened.sounds c.in-Ok-open.ensures.reopened.run in
     let was_left = run_leaves (marks_of c.in-Ok.work sources) (g.B.Bench.may_leave c.args.bench.now)
@@ -326,15 +326,15 @@ returns-in-Ok-go_on_marked-clause-keeps g c honest right left told there started
 
 pub returns-in-Err-go_on_marked-clause-keeps : goal.returns-in-Err-go_on_marked-clause-keeps
 returns-in-Err-go_on_marked-clause-keeps g c honest right left told there started =
-    let list = c.args.list.now in
-    let project = c.args.checked.now.project in
-    let binding = c.args.checked.now.bound in
-    let values = values_of c.args.choice.now.options in
+    let list = c.args.listed.list.now in
+    let project = c.args.listed.checked.now.project in
+    let binding = c.args.listed.checked.now.bound in
+    let values = values_of c.args.listed.choice.now.options in
     let sources = g.S.Shelf.stored c.args.shelf.now in
     let m = list_marking list values sources project binding in
     let held = left_holds m (g.B.Bench.may_leave c.args.bench.now) (g.B.Bench.stored c.args.bench.now) told left
     (g.met.B.Bench.reads_now c.args.bench.now right) there started in
-    let was = marked_for c.args.choice.now.jobs list project binding values c.in-Ok.work c.in-Ok.ensures.planned c.in-Ok.ensures.run in
+    let was = marked_for c.args.listed.choice.now.jobs list project binding values c.in-Ok.work c.in-Ok.ensures.planned c.in-Ok.ensures.run in
     let of = reopened list project binding values c.in-Ok.work c.open.new.self was c.in-Ok-open.ensures.reopened.planned
     c.in-Ok-open.ensures.reopened.sounds c.in-Ok-open.ensures.reopened.run in
     let was_left = run_leaves (marks_of c.in-Ok.work sources) (g.B.Bench.may_leave c.args.bench.now)
@@ -359,13 +359,13 @@ returns-in-Err-go_on_marked-clause-keeps g c honest right left told there starte
 
 pub returns-in-Ok-render_anew-clause-marked : goal.returns-in-Ok-render_anew-clause-marked
 returns-in-Ok-render_anew-clause-marked g c right =
-    let list = c.args.list.now in
-    let project = c.args.checked.now.project in
-    let binding = c.args.checked.now.bound in
-    let values = values_of c.args.choice.now.options in
+    let list = c.args.listed.list.now in
+    let project = c.args.listed.checked.now.project in
+    let binding = c.args.listed.checked.now.bound in
+    let values = values_of c.args.listed.choice.now.options in
     let sources = g.S.Shelf.stored c.args.shelf.now in
     let m = list_marking list values sources project binding in
-    let was = marked_for c.args.choice.now.jobs list project binding values c.in-Ok.work c.in-Ok.ensures.planned c.in-Ok.ensures.run in
+    let was = marked_for c.args.listed.choice.now.jobs list project binding values c.in-Ok.work c.in-Ok.ensures.planned c.in-Ok.ensures.run in
     none_counted (opened_of (run_of list (range_of project values)) (g.B.Bench.stored c.args.bench.now))
     (subst (λ (r : RunId). IsFoundAs (Ok None) (opened_of r (g.B.Bench.stored c.args.bench.now))) was.run
     (subst (λ (f : Option ℕ). IsFoundAs (Ok f) (opened_of c.in-Ok.work.run (g.B.Bench.stored c.args.bench.now)))
@@ -374,13 +374,13 @@ returns-in-Ok-render_anew-clause-marked g c right =
 
 pub returns-in-Ok-go_on_marked-clause-marked : goal.returns-in-Ok-go_on_marked-clause-marked
 returns-in-Ok-go_on_marked-clause-marked g c right =
-    let list = c.args.list.now in
-    let project = c.args.checked.now.project in
-    let binding = c.args.checked.now.bound in
-    let values = values_of c.args.choice.now.options in
+    let list = c.args.listed.list.now in
+    let project = c.args.listed.checked.now.project in
+    let binding = c.args.listed.checked.now.bound in
+    let values = values_of c.args.listed.choice.now.options in
     let sources = g.S.Shelf.stored c.args.shelf.now in
     let m = list_marking list values sources project binding in
-    let was = marked_for c.args.choice.now.jobs list project binding values c.in-Ok.work c.in-Ok.ensures.planned c.in-Ok.ensures.run in
+    let was = marked_for c.args.listed.choice.now.jobs list project binding values c.in-Ok.work c.in-Ok.ensures.planned c.in-Ok.ensures.run in
     some_counted c.in-Some.marked (opened_of (run_of list (range_of project values)) (g.B.Bench.stored
     c.args.bench.now))
     (subst (λ (r : RunId). IsFoundAs (Ok (Some c.in-Some.marked)) (opened_of r (g.B.Bench.stored c.args.bench.now)))
@@ -391,10 +391,10 @@ returns-in-Ok-go_on_marked-clause-marked g c right =
 
 pub returns-in-Err-clause-refusals : goal.returns-in-Err-clause-refusals
 returns-in-Err-clause-refusals g c right =
-    let list = c.args.list.now in
-    let project = c.args.checked.now.project in
-    let binding = c.args.checked.now.bound in
-    let values = values_of c.args.choice.now.options in
+    let list = c.args.listed.list.now in
+    let project = c.args.listed.checked.now.project in
+    let binding = c.args.listed.checked.now.bound in
+    let values = values_of c.args.listed.choice.now.options in
     let sources = g.S.Shelf.stored c.args.shelf.now in
     let m = list_marking list values sources project binding in
     plan_due_as _ _ (render_fault project values) (opened_of (run_of list (range_of project values))
@@ -402,13 +402,13 @@ returns-in-Err-clause-refusals g c right =
 
 pub returns-in-Err-open-clause-refusals : goal.returns-in-Err-open-clause-refusals
 returns-in-Err-open-clause-refusals g c right =
-    let list = c.args.list.now in
-    let project = c.args.checked.now.project in
-    let binding = c.args.checked.now.bound in
-    let values = values_of c.args.choice.now.options in
+    let list = c.args.listed.list.now in
+    let project = c.args.listed.checked.now.project in
+    let binding = c.args.listed.checked.now.bound in
+    let values = values_of c.args.listed.choice.now.options in
     let sources = g.S.Shelf.stored c.args.shelf.now in
     let m = list_marking list values sources project binding in
-    let was = marked_for c.args.choice.now.jobs list project binding values c.in-Ok.work c.in-Ok.ensures.planned c.in-Ok.ensures.run in
+    let was = marked_for c.args.listed.choice.now.jobs list project binding values c.in-Ok.work c.in-Ok.ensures.planned c.in-Ok.ensures.run in
     subst (λ (d : Option Refusal). IsDue (refusal_of_marks c.in-Err-open.fault)
     (first_fault d (fault_in (opened_of (run_of list (range_of project values)) (g.B.Bench.stored
     c.args.bench.now))))) (sym c.in-Ok.ensures.refusals)
@@ -418,13 +418,13 @@ returns-in-Err-open-clause-refusals g c right =
 
 pub returns-in-Err-render_anew-clause-refusals : goal.returns-in-Err-render_anew-clause-refusals
 returns-in-Err-render_anew-clause-refusals g c right =
-    let list = c.args.list.now in
-    let project = c.args.checked.now.project in
-    let binding = c.args.checked.now.bound in
-    let values = values_of c.args.choice.now.options in
+    let list = c.args.listed.list.now in
+    let project = c.args.listed.checked.now.project in
+    let binding = c.args.listed.checked.now.bound in
+    let values = values_of c.args.listed.choice.now.options in
     let sources = g.S.Shelf.stored c.args.shelf.now in
     let m = list_marking list values sources project binding in
-    let was = marked_for c.args.choice.now.jobs list project binding values c.in-Ok.work c.in-Ok.ensures.planned c.in-Ok.ensures.run in
+    let was = marked_for c.args.listed.choice.now.jobs list project binding values c.in-Ok.work c.in-Ok.ensures.planned c.in-Ok.ensures.run in
     subst (λ (d : Option Refusal). IsDue (refusal_of c.in-Err-render_anew.fault)
     (first_fault d (fault_in (opened_of (run_of list (range_of project values)) (g.B.Bench.stored
     c.args.bench.now))))) (sym c.in-Ok.ensures.refusals)
@@ -438,13 +438,13 @@ returns-in-Err-render_anew-clause-refusals g c right =
 
 pub returns-in-Err-go_on_marked-clause-refusals : goal.returns-in-Err-go_on_marked-clause-refusals
 returns-in-Err-go_on_marked-clause-refusals g c right =
-    let list = c.args.list.now in
-    let project = c.args.checked.now.project in
-    let binding = c.args.checked.now.bound in
-    let values = values_of c.args.choice.now.options in
+    let list = c.args.listed.list.now in
+    let project = c.args.listed.checked.now.project in
+    let binding = c.args.listed.checked.now.bound in
+    let values = values_of c.args.listed.choice.now.options in
     let sources = g.S.Shelf.stored c.args.shelf.now in
     let m = list_marking list values sources project binding in
-    let was = marked_for c.args.choice.now.jobs list project binding values c.in-Ok.work c.in-Ok.ensures.planned c.in-Ok.ensures.run in
+    let was = marked_for c.args.listed.choice.now.jobs list project binding values c.in-Ok.work c.in-Ok.ensures.planned c.in-Ok.ensures.run in
     subst (λ (d : Option Refusal). IsDue (refusal_of c.in-Err-go_on_marked.fault)
     (first_fault d (fault_in (opened_of (run_of list (range_of project values)) (g.B.Bench.stored
     c.args.bench.now))))) (sym c.in-Ok.ensures.refusals)
@@ -459,13 +459,13 @@ returns-in-Err-go_on_marked-clause-refusals g c right =
 
 pub returns-in-Ok-render_anew-clause-refusals : goal.returns-in-Ok-render_anew-clause-refusals
 returns-in-Ok-render_anew-clause-refusals g c right =
-    let list = c.args.list.now in
-    let project = c.args.checked.now.project in
-    let binding = c.args.checked.now.bound in
-    let values = values_of c.args.choice.now.options in
+    let list = c.args.listed.list.now in
+    let project = c.args.listed.checked.now.project in
+    let binding = c.args.listed.checked.now.bound in
+    let values = values_of c.args.listed.choice.now.options in
     let sources = g.S.Shelf.stored c.args.shelf.now in
     let m = list_marking list values sources project binding in
-    let was = marked_for c.args.choice.now.jobs list project binding values c.in-Ok.work c.in-Ok.ensures.planned c.in-Ok.ensures.run in
+    let was = marked_for c.args.listed.choice.now.jobs list project binding values c.in-Ok.work c.in-Ok.ensures.planned c.in-Ok.ensures.run in
     ap (λ (d : Option Refusal). first_fault d (fault_in (opened_of (run_of list (range_of project values))
     (g.B.Bench.stored c.args.bench.now)))) c.in-Ok.ensures.refusals
     ∙ found_due None (opened_of (run_of list (range_of project values)) (g.B.Bench.stored c.args.bench.now)) (subst
@@ -476,13 +476,13 @@ returns-in-Ok-render_anew-clause-refusals g c right =
 
 pub returns-in-Ok-go_on_marked-clause-refusals : goal.returns-in-Ok-go_on_marked-clause-refusals
 returns-in-Ok-go_on_marked-clause-refusals g c right =
-    let list = c.args.list.now in
-    let project = c.args.checked.now.project in
-    let binding = c.args.checked.now.bound in
-    let values = values_of c.args.choice.now.options in
+    let list = c.args.listed.list.now in
+    let project = c.args.listed.checked.now.project in
+    let binding = c.args.listed.checked.now.bound in
+    let values = values_of c.args.listed.choice.now.options in
     let sources = g.S.Shelf.stored c.args.shelf.now in
     let m = list_marking list values sources project binding in
-    let was = marked_for c.args.choice.now.jobs list project binding values c.in-Ok.work c.in-Ok.ensures.planned c.in-Ok.ensures.run in
+    let was = marked_for c.args.listed.choice.now.jobs list project binding values c.in-Ok.work c.in-Ok.ensures.planned c.in-Ok.ensures.run in
     ap (λ (d : Option Refusal). first_fault d (fault_in (opened_of (run_of list (range_of project values))
     (g.B.Bench.stored c.args.bench.now)))) c.in-Ok.ensures.refusals
     ∙ found_due (Some c.in-Some.marked) (opened_of (run_of list (range_of project values)) (g.B.Bench.stored
@@ -505,14 +505,14 @@ returns-in-Err-go_on_marked-clause-own g c text = of_resuming text c.in-Err-go_o
 
 pub returns-in-Ok-render_anew-clause-clips : goal.returns-in-Ok-render_anew-clause-clips
 returns-in-Ok-render_anew-clause-clips g c honest right =
-    let list = c.args.list.now in
-    let project = c.args.checked.now.project in
-    let binding = c.args.checked.now.bound in
-    let values = values_of c.args.choice.now.options in
+    let list = c.args.listed.list.now in
+    let project = c.args.listed.checked.now.project in
+    let binding = c.args.listed.checked.now.bound in
+    let values = values_of c.args.listed.choice.now.options in
     let sources = g.S.Shelf.stored c.args.shelf.now in
     let run = run_of list (range_of project values) in
     let found = opened_of run (g.B.Bench.stored c.args.bench.now) in
-    let was = marked_for c.args.choice.now.jobs list project binding values c.in-Ok.work c.in-Ok.ensures.planned c.in-Ok.ensures.run in
+    let was = marked_for c.args.listed.choice.now.jobs list project binding values c.in-Ok.work c.in-Ok.ensures.planned c.in-Ok.ensures.run in
     let back = c.in-Ok-open.ensures.reopened in
     let none : found ≡ Ok None =
     subst (λ (r : RunId). opened_of r (g.B.Bench.stored c.args.bench.now) ≡ Ok None) was.run
@@ -522,7 +522,7 @@ returns-in-Ok-render_anew-clause-clips g c honest right =
     record {
       clips = subst (λ (x : List Bool). ClipsUnmarked x (range_of project values) (project_mix sources project binding)
           c.in-Ok-render_anew.worked.clips) (sym (ap marked_in none))
-          (reopened_clips c.args.choice.now.jobs project binding values c.in-Ok.work c.open.new.self sources []
+          (reopened_clips c.args.listed.choice.now.jobs project binding values c.in-Ok.work c.open.new.self sources []
           c.in-Ok-render_anew.worked.clips c.in-Ok.ensures.planned back
           (c.in-Ok-render_anew.ensures.clips honest []
           (subst (λ (w : MarkedWork). All (IsUniform []) w.work.stretches) (sym same)
@@ -533,25 +533,25 @@ returns-in-Ok-render_anew-clause-clips g c honest right =
 
 pub returns-in-Ok-go_on_marked-clause-clips : goal.returns-in-Ok-go_on_marked-clause-clips
 returns-in-Ok-go_on_marked-clause-clips g c honest right =
-    let list = c.args.list.now in
-    let project = c.args.checked.now.project in
-    let binding = c.args.checked.now.bound in
-    let values = values_of c.args.choice.now.options in
+    let list = c.args.listed.list.now in
+    let project = c.args.listed.checked.now.project in
+    let binding = c.args.listed.checked.now.bound in
+    let values = values_of c.args.listed.choice.now.options in
     let sources = g.S.Shelf.stored c.args.shelf.now in
     let run = run_of list (range_of project values) in
     let found = opened_of run (g.B.Bench.stored c.args.bench.now) in
-    let was = marked_for c.args.choice.now.jobs list project binding values c.in-Ok.work c.in-Ok.ensures.planned c.in-Ok.ensures.run in
+    let was = marked_for c.args.listed.choice.now.jobs list project binding values c.in-Ok.work c.in-Ok.ensures.planned c.in-Ok.ensures.run in
     let back = c.in-Ok-open.ensures.reopened in
     let cut = subst (λ (r : RunId). (marked : List Bool)
     × (opened_of r (g.B.Bench.stored c.args.bench.now) ≡ Ok (Some marked))
-    × AreCutBy c.args.choice.now.jobs marked c.open.new.self.work) was.run
+    × AreCutBy c.args.listed.choice.now.jobs marked c.open.new.self.work) was.run
     (subst (λ (f : Option ℕ). IfSome f (λ _. (marked : List Bool)
     × (opened_of c.in-Ok.work.run (g.B.Bench.stored c.args.bench.now) ≡ Ok (Some marked))
-    × AreCutBy c.args.choice.now.jobs marked c.open.new.self.work)) c.in-Some.is (c.in-Ok-open.ensures.cut right)) in
+    × AreCutBy c.args.listed.choice.now.jobs marked c.open.new.self.work)) c.in-Some.is (c.in-Ok-open.ensures.cut right)) in
     record {
       clips = subst (λ (x : List Bool). ClipsUnmarked x (range_of project values) (project_mix sources project binding)
           c.in-Ok-go_on_marked.worked.clips) (sym (ap marked_in cut.1))
-          (reopened_clips c.args.choice.now.jobs project binding values c.in-Ok.work c.open.new.self sources cut.0
+          (reopened_clips c.args.listed.choice.now.jobs project binding values c.in-Ok.work c.open.new.self sources cut.0
           c.in-Ok-go_on_marked.worked.clips c.in-Ok.ensures.planned back
           (c.in-Ok-go_on_marked.ensures.clips honest cut.0 cut.2.uniform));
       start = c.start-start.ensures ∙ ap (λ (r : Range). r.from) c.in-Ok.ensures.planned.range;

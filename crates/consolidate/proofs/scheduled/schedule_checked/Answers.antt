@@ -14,12 +14,12 @@ use Rattle.consolidate.proofs.scheduled.schedule_checked.Goals as goal
 
 pub returns-in-Err-clause-does : goal.returns-in-Err-clause-does
 returns-in-Err-clause-does g c =
-    let checked = c.args.checked.now in
-    let values = values_of c.args.choice.now.options in
-    let m = list_marking c.args.list.now values (g.S.Shelf.stored c.args.shelf.now) checked.project checked.bound in
+    let checked = c.args.listed.checked.now in
+    let values = values_of c.args.listed.choice.now.options in
+    let m = list_marking c.args.listed.list.now values (g.S.Shelf.stored c.args.shelf.now) checked.project checked.bound in
     unplanned g.S.Shelf g.B.Bench IsAllDone (λ told progress. told ≡ progress) m
-    (run_of c.args.list.now (range_of checked.project values)) ⊤ (NoneStarted (g.B.Bench.may_leave c.args.bench.now))
-    (RendersBound c.args.choice.now.jobs (λ _. c.args.events.now) c.args.list.now values checked.project checked.bound
+    (run_of c.args.listed.list.now (range_of checked.project values)) ⊤ (NoneStarted (g.B.Bench.may_leave c.args.bench.now))
+    (RendersBound c.args.listed.choice.now.jobs (λ _. c.args.events.now) c.args.listed.list.now values checked.project checked.bound
     (source_view g.S.Shelf c.args.shelf.now) (source_view g.S.Shelf c.args.shelf.now)
     (output_view g.B.Bench c.args.bench.now) (output_view g.B.Bench c.args.bench.now))
     g.met.B.Bench.only_now c.args.shelf.now c.args.bench.now c.in-Err.fault c.of_rendering.result
@@ -28,46 +28,46 @@ returns-in-Err-clause-does g c =
 
 pub returns-in-Ok-render_by_events-clause-does : goal.returns-in-Ok-render_by_events-clause-does
 returns-in-Ok-render_by_events-clause-does g c =
-    let checked = c.args.checked.now in
-    let values = values_of c.args.choice.now.options in
-    let of = marked_for c.args.choice.now.jobs c.args.list.now checked.project checked.bound values c.in-Ok.work c.in-Ok.ensures.planned
+    let checked = c.args.listed.checked.now in
+    let values = values_of c.args.listed.choice.now.options in
+    let of = marked_for c.args.listed.choice.now.jobs c.args.listed.list.now checked.project checked.bound values c.in-Ok.work c.in-Ok.ensures.planned
     c.in-Ok.ensures.run in
-    project_ok g.S.Shelf g.B.Bench c.args.list.now checked.project checked.bound values c.in-Ok.work of
+    project_ok g.S.Shelf g.B.Bench c.args.listed.list.now checked.project checked.bound values c.in-Ok.work of
     c.args.shelf.now c.render_by_events.new.shelf c.args.bench.now c.render_by_events.new.bench IsAllDone
     (λ told progress. told ≡ progress) ⊤ (NoneStarted (g.B.Bench.may_leave c.args.bench.now)) ⊤
     (NoneStarted (g.B.Bench.may_leave c.args.bench.now))
     (IsRenderedWork (λ _. c.args.events.now) c.in-Ok.work (source_view g.S.Shelf c.args.shelf.now)
     (source_view g.S.Shelf c.render_by_events.new.shelf) (output_view g.B.Bench c.args.bench.now)
     (output_view g.B.Bench c.render_by_events.new.bench))
-    (RendersBound c.args.choice.now.jobs (λ _. c.args.events.now) c.args.list.now values checked.project checked.bound
+    (RendersBound c.args.listed.choice.now.jobs (λ _. c.args.events.now) c.args.listed.list.now values checked.project checked.bound
     (source_view g.S.Shelf c.args.shelf.now) (source_view g.S.Shelf c.render_by_events.new.shelf)
     (output_view g.B.Bench c.args.bench.now) (output_view g.B.Bench c.render_by_events.new.bench))
     _ _ c.in-Ok-render_by_events.ensures.does (λ done. done)
     refl (λ b. b) (λ st. st)
-    (renders_bound c.args.choice.now.jobs
-    (λ _. c.args.events.now) c.args.list.now values checked.project checked.bound c.in-Ok.work g.S.Shelf g.B.Bench
+    (renders_bound c.args.listed.choice.now.jobs
+    (λ _. c.args.events.now) c.args.listed.list.now values checked.project checked.bound c.in-Ok.work g.S.Shelf g.B.Bench
     c.args.shelf.now c.render_by_events.new.shelf c.args.bench.now c.render_by_events.new.bench
     c.in-Ok.ensures.planned c.in-Ok.ensures.jobs of)
 
 pub returns-in-Err-render_by_events-clause-does : goal.returns-in-Err-render_by_events-clause-does
 returns-in-Err-render_by_events-clause-does g c =
-    let checked = c.args.checked.now in
-    let values = values_of c.args.choice.now.options in
-    let of = marked_for c.args.choice.now.jobs c.args.list.now checked.project checked.bound values c.in-Ok.work c.in-Ok.ensures.planned
+    let checked = c.args.listed.checked.now in
+    let values = values_of c.args.listed.choice.now.options in
+    let of = marked_for c.args.listed.choice.now.jobs c.args.listed.list.now checked.project checked.bound values c.in-Ok.work c.in-Ok.ensures.planned
     c.in-Ok.ensures.run in
-    project_err g.S.Shelf g.B.Bench c.args.list.now checked.project checked.bound values c.in-Ok.work of
+    project_err g.S.Shelf g.B.Bench c.args.listed.list.now checked.project checked.bound values c.in-Ok.work of
     c.args.shelf.now c.render_by_events.new.shelf c.args.bench.now c.render_by_events.new.bench IsAllDone
     (λ told progress. told ≡ progress) ⊤ (NoneStarted (g.B.Bench.may_leave c.args.bench.now)) ⊤
     (NoneStarted (g.B.Bench.may_leave c.args.bench.now))
     (IsRenderedWork (λ _. c.args.events.now) c.in-Ok.work (source_view g.S.Shelf c.args.shelf.now)
     (source_view g.S.Shelf c.render_by_events.new.shelf) (output_view g.B.Bench c.args.bench.now)
     (output_view g.B.Bench c.render_by_events.new.bench))
-    (RendersBound c.args.choice.now.jobs (λ _. c.args.events.now) c.args.list.now values checked.project checked.bound
+    (RendersBound c.args.listed.choice.now.jobs (λ _. c.args.events.now) c.args.listed.list.now values checked.project checked.bound
     (source_view g.S.Shelf c.args.shelf.now) (source_view g.S.Shelf c.render_by_events.new.shelf)
     (output_view g.B.Bench c.args.bench.now) (output_view g.B.Bench c.render_by_events.new.bench))
     c.in-Err-render_by_events.fault c.in-Err-render_by_events.ensures.does (λ b. b) (λ st. st)
-    (renders_bound c.args.choice.now.jobs
-    (λ _. c.args.events.now) c.args.list.now values checked.project checked.bound c.in-Ok.work g.S.Shelf g.B.Bench
+    (renders_bound c.args.listed.choice.now.jobs
+    (λ _. c.args.events.now) c.args.listed.list.now values checked.project checked.bound c.in-Ok.work g.S.Shelf g.B.Bench
     c.args.shelf.now c.render_by_events.new.shelf c.args.bench.now c.render_by_events.new.bench
     c.in-Ok.ensures.planned c.in-Ok.ensures.jobs of)
 
