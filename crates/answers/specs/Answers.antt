@@ -1,5 +1,5 @@
 -- What the program prints and answers of a command.
-use Rattle.std.specs.Prelude.{◌≡◌, ℕ, Bool, true, false, IsOk, IsErr, IsTrue, ⊤, List, [], ◌∷◌, ◌++◌, Option, None, Some, Result, Ok, Err, IfErr, codes, if◌then◌else◌}
+use Rattle.std.specs.Prelude.{◌≡◌, ℕ, Bool, true, false, IsOk, IsErr, ⊤, List, [], ◌∷◌, ◌++◌, Option, None, Some, Result, Ok, Err, IfErr, codes, if◌then◌else◌}
 use Rattle.work_terms.specs.Refusals.{Refusal, Nowhere}
 use Rattle.opening.specs.declared.checking.Accepted.{Accepted}
 use Rattle.devices.specs.declared.source.Shelf as source
@@ -257,11 +257,11 @@ CanBeTimed rate (Resume list media out chosen) = IsOk (values_of rate chosen)
 CanBeTimed rate (Show list media handle drawn) = IsOk (part_of rate drawn)
 CanBeTimed rate _ = ⊤
 
--- some report was printed in a line, and the status is that of this report; where the files are honest it holds of the
--- list over them
+-- some report was printed in a line, and the status is that of this report; it holds of the text, and of the list over
+-- these files where they are honest
 pub record IsReportPrinted {O : Type 0} (honest : Bool) (list : List ℕ) (files : Files) (out : console.Ghosts O)
     (old new : O) (status : ℕ) : Type 0 where
   pub report : reporting.Report
-  pub holds : IsTrue honest → Holds list files report
+  pub holds : Holds honest list files report
   pub status_is : status ≡ reporting.status_of report
   pub printed : Tells out old new (reporting.text_of report ++ 10 ∷ [])

@@ -1,11 +1,14 @@
 -- What a check whose report is asked for prints and answers.
-use Rattle.std.specs.Prelude.{◌≡◌, ◌⊎◌, ℕ, Bool, IsTrue, List, [], ◌∷◌, ◌++◌, Option, ⊤}
+use Rattle.std.specs.Prelude.{◌≡◌, ◌⊎◌, ℕ, Bool, IsTrue, List, [], ◌∷◌, ◌++◌, Option, Some, Ok, Err, false, map, true, ⊤}
 use Rattle.serde_json.specs.Written.{compact_text}
 use Rattle.work_terms.specs.Disk.{Files}
-use Rattle.work_terms.specs.Refusals.{IsDue, Nowhere, Where}
+use Rattle.work_terms.specs.Refusals.{IsDue, Nowhere, Refusal, Where}
 use Rattle.list_terms.specs.Project.{ListProject}
 use Rattle.list_terms.specs.Binding.{Binding}
 use Rattle.list_terms.specs.Heard.{IsAccepted, project_fault}
+use Rattle.list_terms.specs.Text.{text_value}
+use Rattle.adlread.specs.Further.{AreFurther}
+use Rattle.adlread.specs.declared.fault.AdlFault.{AdlFault}
 use Rattle.opening.specs.Faults.{refusal_of}
 use Rattle.opening.specs.Further.{AreAll}
 use Rattle.opening.specs.declared.fault.Fault.{Fault}
@@ -38,27 +41,54 @@ status_of (Accepted project binding beside) = 0
 status_of (Refused first further media_error are_all) = 1
 status_of Untold = 1
 
--- these are all further faults of the list over these files, where the first is one of a file or of an entry; of a fault
--- of the text nothing is said
-abbrev pub AreComplete : List ℕ → Files → Fault → List Fault → Type 0
-AreComplete list files (fault.List first) further = ⊤
-AreComplete list files (fault.SameName index) further = AreAll list files (fault.SameName index) further
-AreComplete list files (fault.Media index name first) further = AreAll list files (fault.Media index name first) further
-AreComplete list files (fault.Entry first) further = AreAll list files (fault.Entry first) further
+-- Of all of these, which are complete or not, some are listed, and whether that is all: each then, and they are complete;
+-- else the first of them.
+abbrev pub AreListed : {X : Type 0} (all : List X) (complete : Bool) (listed : List X) (are_all : Bool) → Type 0
+AreListed all complete listed true = (listed ≡ all) × (complete ≡ true)
+AreListed {X} all complete listed false = (rest : List X) × (listed ++ rest ≡ all)
 
--- the list over these files is as it is told
-abbrev pub Holds : List ℕ → Files → Report → Type 0
-Holds list files (Accepted project binding beside) = IsAccepted list files project binding
-Holds list files (Refused first further media_error are_all) =
-    IsDue (refusal_of first.fault) (project_fault list files)
-    × (IsTrue are_all → AreComplete list files first.fault (faults_of further))
-Holds list files Untold = ⊤
+-- these are listed of the further faults of a text, behind its first one
+abbrev pub AreOfText : List ℕ → (first : AdlFault) → List Fault → (are_all : Bool) → Type 0
+AreOfText text first listed are_all =
+    (all : List Refusal) × (complete : Bool) × AreFurther text first all complete
+    × AreListed all complete (map refusal_of listed) are_all
+
+-- these of the further faults of the files or the entries of a list, or none where they can't be looked for
+abbrev pub AreOfSources : List ℕ → Files → (first : Fault) → List Fault → (are_all : Bool) → Type 0
+AreOfSources list files first listed are_all =
+    ((listed ≡ []) × (are_all ≡ false))
+    ⊎ ((all : List Fault) × AreAll list files first all × AreListed all true listed are_all)
+
+-- these of the further faults of a list over these files: of its text whatever they are, of files and entries where they
+-- are honest
+abbrev pub AreOfList : (honest : Bool) → List ℕ → Files → (first : Fault) → List Fault → (are_all : Bool) → Type 0
+AreOfList honest list files (fault.List first) listed are_all = AreOfText list first listed are_all
+AreOfList honest list files (fault.SameName index) listed are_all =
+    IsTrue honest → AreOfSources list files (fault.SameName index) listed are_all
+AreOfList honest list files (fault.Media index name first) listed are_all =
+    IsTrue honest → AreOfSources list files (fault.Media index name first) listed are_all
+AreOfList honest list files (fault.Entry first) listed are_all =
+    IsTrue honest → AreOfSources list files (fault.Entry first) listed are_all
+
+-- where the text is at fault, that is told, whatever the files are
+abbrev pub IsOfText : List ℕ → (first : Refusal) → Type 0
+IsOfText text first = (refusal : Refusal) → text_value text ≡ Err refusal → IsDue first (Some refusal)
+
+-- the text is as it is told, and the list over these files where they are honest
+abbrev pub Holds : (honest : Bool) → List ℕ → Files → Report → Type 0
+Holds honest list files (Accepted project binding beside) =
+    (text_value list ≡ Ok project) × (IsTrue honest → IsAccepted list files project binding)
+Holds honest list files (Refused first further media_error are_all) =
+    IsOfText list (refusal_of first.fault)
+    × (IsTrue honest → IsDue (refusal_of first.fault) (project_fault list files))
+    × AreOfList honest list files first.fault (faults_of further) are_all
+Holds honest list files Untold = ⊤
 
 -- the list was checked over these files; the status is the report's, and its text was printed in a line
 pub record IsReported {O : Type 0} (list : List ℕ) (files : Files) (out : console.Ghosts O) (old new : O) (status : ℕ)
     : Type 0 where
   pub report : Report
-  pub holds : Holds list files report
+  pub holds : Holds true list files report
   pub status_is : status ≡ status_of report
   pub printed : Prints out.contents out.failures old new (text_of report ++ 10 ∷ [])
 
@@ -67,24 +97,23 @@ pub record PrintsUnread {O : Type 0} (out : console.Ghosts O) (old new : O) (num
   pub explained : Data
   pub printed : Prints out.contents out.failures old new (compact_text (unread_data number place explained) ++ 10 ∷ [])
 
--- the report of a list that is refused by this first fault was printed, with further faults and whether they are all,
--- which is said only of faults that are
+-- the report of a list that is refused by this first fault was printed, with such further faults, and whether they are all
 pub record PrintsRefused {O : Type 0} (out : console.Ghosts O) (old new : O) (first : Fault)
-    (AreThese : List Fault → Type 0) : Type 0 where
+    (AreThese : List Fault → (are_all : Bool) → Type 0) : Type 0 where
   pub explained : Data
   pub further : List ExplainedFault
   pub media_error : Option (List ℕ)
   pub are_all : Bool
-  pub complete : IsTrue are_all → AreThese (faults_of further)
+  pub these : AreThese (faults_of further) are_all
   pub printed : Prints out.contents out.failures old new
       (compact_text (refused_data (record { fault = first; explained = explained }) further media_error are_all))
 
 -- the same in a line; or that no memory was left for it
 abbrev pub PrintsRefusedLine : {O : Type 0} (out : console.Ghosts O) (old new : O) (first : Fault)
-    (AreThese : List Fault → Type 0) → Type 0
+    (AreThese : List Fault → (are_all : Bool) → Type 0) → Type 0
 PrintsRefusedLine out old new first AreThese =
     ((explained : Data) × (further : List ExplainedFault) × (media_error : Option (List ℕ)) × (are_all : Bool)
-    × (IsTrue are_all → AreThese (faults_of further))
+    × AreThese (faults_of further) are_all
     × Prints out.contents out.failures old new
     (compact_text (refused_data (record { fault = first; explained = explained }) further media_error are_all)
     ++ 10 ∷ []))

@@ -1,16 +1,15 @@
 // Reports as they are printed.
-ghost use Rattle.std.specs.Prelude.{◌≡◌, ◌≤◌, ◌++◌, ◌∷◌, [], ℕ, IsTrue, List, OnErr, OnOk, false, string_bytes, ⊤};
+ghost use Rattle.std.specs.Prelude.{◌≡◌, ◌≤◌, ◌++◌, ◌∷◌, [], ℕ, IsTrue, List, OnErr, OnOk, false, string_bytes};
 ghost use Rattle.serde_json.specs.Data.{Data};
 ghost use Rattle.serde_json.specs.Written.{compact_text};
 ghost use Rattle.work_terms.specs.Disk.{Files};
 ghost use Rattle.work_terms.specs.Refusals.{File, IsDue, Nowhere};
 ghost use Rattle.list_terms.specs.Heard.{IsAccepted, project_fault};
 ghost use Rattle.opening.specs.Faults.{refusal_of};
-ghost use Rattle.opening.specs.Further.{AreAll};
 ghost use Rattle.console.specs.Printing.{Prints};
 ghost use Rattle.checkreport.specs.Parts.{after_commas, fault_text};
 ghost use Rattle.checkreport.specs.Report.{Beside, ExplainedFault, accepted_data, faults_of, unread_data};
-ghost use Rattle.checkreport.specs.Reported.{AreComplete, IsReported, PrintsRefused, PrintsRefusedLine, PrintsUnread, no_memory};
+ghost use Rattle.checkreport.specs.Reported.{AreOfList, AreOfSources, AreOfText, IsReported, PrintsRefused, PrintsRefusedLine, PrintsUnread, no_memory};
 
 use crate::accepted::put_report;
 use crate::explained::{Explains, Member};
@@ -54,7 +53,7 @@ pub fn put_refused<S: Shelf, X: Explains, O: Console>(
     out: &mut O,
 ) -> u8
     ensures printed { PrintsRefusedLine O.Console out.old out.new first.now
-        (λ further. IsTrue (S.honest shelf.old) → AreComplete list.now (S.stored shelf.old) first.now further) }
+        (AreOfList (S.honest shelf.old) list.now (S.stored shelf.old) first.now) }
     ensures reported { IsTrue (S.honest shelf.old)
         → IsDue (refusal_of first.now) (project_fault list.now (S.stored shelf.old))
         → IsReported list.now (S.stored shelf.old) O.Console out.old out.new result }
@@ -107,7 +106,7 @@ fn put_faults<S: Shelf, X: Explains, O: Console>(
     out: &mut O,
 ) -> Result<(), AllocError>
     ensures printed { OnOk result (PrintsRefused O.Console out.old out.new first.now
-        (λ further. IsTrue (S.honest shelf.old) → AreComplete list.now (S.stored shelf.old) first.now further)) }
+        (AreOfList (S.honest shelf.old) list.now (S.stored shelf.old) first.now)) }
     ensures unprinted { OnErr result (out.new ≡ out.old) }
 {
     match first {
@@ -125,7 +124,7 @@ fn put_lines<X: Explains, O: Console>(
     explains: &mut X,
     out: &mut O,
 ) -> Result<(), AllocError>
-    ensures printed { OnOk result (PrintsRefused O.Console out.old out.new first.now (λ _. ⊤)) }
+    ensures printed { OnOk result (PrintsRefused O.Console out.old out.new first.now (AreOfText list.now fault)) }
     ensures unprinted { OnErr result (out.new ≡ out.old) }
 {
     let mut faults = Faults::after(alloc, list, fault)?;
@@ -146,7 +145,8 @@ fn put_sources<S: Shelf, X: Explains, O: Console>(
     out: &mut O,
 ) -> Result<(), AllocError>
     ensures printed { OnOk result (PrintsRefused O.Console out.old out.new first.now
-        (λ further. IsTrue (S.honest shelf.old) → AreAll list.now (S.stored shelf.old) first.now further)) }
+        (λ listed are_all. IsTrue (S.honest shelf.old)
+        → AreOfSources list.now (S.stored shelf.old) first.now listed are_all)) }
     ensures unprinted { OnErr result (out.new ≡ out.old) }
 {
     put_first(alloc, first, explains, out)?;
@@ -166,8 +166,8 @@ fn put_further<S: Shelf, X: Explains, O: Console>(
     out: &mut O,
 ) -> bool
     ensures { (printed : List ExplainedFault)
-        × (IsTrue result → IsTrue (S.honest shelf.old)
-        → AreAll list.now (S.stored shelf.old) first.now (faults_of printed))
+        × (IsTrue (S.honest shelf.old)
+        → AreOfSources list.now (S.stored shelf.old) first.now (faults_of printed) result)
         × Prints O.contents O.failures out.old out.new (after_commas fault_text printed) }
 {
     let Ok(further) = further_faults(alloc, list, shelf, first, usize::MAX) else {

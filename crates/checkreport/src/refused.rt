@@ -1,13 +1,16 @@
 // The faults of a list that is refused, as they are printed.
-ghost use Rattle.std.specs.Prelude.{◌≡◌, ◌∷◌, [], IfOk, None, OnErr, OnOk, IsTrue, List, option_map, string_bytes, ◌++◌, false};
+ghost use Rattle.std.specs.Prelude.{◌≡◌, ◌∷◌, [], Bool, IfOk, None, OnErr, OnOk, List, map, option_map, string_bytes, ◌++◌, false, true};
 ghost use Rattle.serde_json.specs.Data.{Data, null, string};
 ghost use Rattle.serde_json.specs.Written.{compact_text};
+ghost use Rattle.work_terms.specs.Refusals.{Refusal};
+ghost use Rattle.adlread.specs.Further.{IsLeft};
 ghost use Rattle.opening.specs.Faults.{refusal_of};
 ghost use Rattle.console.specs.Printing.{Prints};
 ghost use Rattle.checkreport.specs.Report as spec;
 ghost use Rattle.checkreport.specs.Report.{ExplainedFault, entry_in, fault_data, fault_of, faults_of, file_in, index_in, line_in, refused_of, text_in};
 ghost use Rattle.checkreport.specs.Explained.{explained_data};
 ghost use Rattle.checkreport.specs.Parts.{after_commas, fault_text, ready_data, refused_end, refused_front};
+ghost use Rattle.checkreport.specs.Reported.{AreListed};
 
 use crate::explained::{Explains, Member, put_explained};
 use crate::values::{FORM, put_flag, put_found, put_text};
@@ -149,7 +152,7 @@ pub fn put_all<X: Explains, O: Console>(
     explains: &mut X,
     out: &mut O,
 ) -> bool
-    ensures { (printed : List ExplainedFault) × (IsTrue result → faults_of printed ≡ faults.now)
+    ensures { (printed : List ExplainedFault) × AreListed faults.now true (faults_of printed) result
         × Prints O.contents O.failures out.old out.new (after_commas fault_text printed) }
 {
     for fault in faults {
@@ -168,6 +171,8 @@ pub fn put_of_text<X: Explains, O: Console>(
     out: &mut O,
 ) -> bool
     ensures { (printed : List ExplainedFault)
+        × ((all : List Refusal) (complete : Bool) → IsLeft faults.old all complete
+        → AreListed all complete (map refusal_of (faults_of printed)) result)
         × Prints O.contents O.failures out.old out.new (after_commas fault_text printed) }
 {
     'faults: for _ in 0..usize::MAX {

@@ -12,7 +12,7 @@ returns-clause-printed g c = (
 pub returns-clause-reported : goal.returns-clause-reported
 returns-clause-reported g c = λ list files accepted. record {
   report = Accepted c.args.checked.now.project c.args.checked.now.bound c.put_report.ensures.0;
-  holds = accepted;
+  holds = (accepted.spelt, λ _. accepted);
   status_is = refl;
   printed = prints_more g.O.Console.contents g.O.Console.failures c.put_report.ensures.1 c.end_line.ensures;
 }

@@ -6,6 +6,7 @@ use Rattle.checkreport.proofs.printed.put_lines.Goals as goal
 
 pub returns-clause-printed : goal.returns-clause-printed
 returns-clause-printed g c =
+    let left = c.in_ok-faults.ensures.further in
     let more = c.put_of_text-are_all.ensures in
     let first = c.in_ok-put_first.ensures.printed in
     let media = option_map string_bytes c.media_error-media_error.result in
@@ -14,9 +15,9 @@ returns-clause-printed g c =
       further = more.0;
       media_error = media;
       are_all = c.put_of_text-are_all.result;
-      complete = λ _. tt;
+      these = (left.0, left.1, left.2, more.1 left.0 left.1 left.3);
       printed = subst (Prints g.O.Console.contents g.O.Console.failures _ _)
           (refused_text (record { fault = c.args.first.now; explained = first.0 }) more.0 media c.put_of_text-are_all.result)
           (prints_more g.O.Console.contents g.O.Console.failures first.1
-          (prints_more g.O.Console.contents g.O.Console.failures more.1 c.put_end.ensures));
+          (prints_more g.O.Console.contents g.O.Console.failures more.2 c.put_end.ensures));
     }

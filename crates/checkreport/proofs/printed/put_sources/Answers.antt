@@ -14,7 +14,7 @@ returns-clause-printed g c =
       further = more.0;
       media_error = media;
       are_all = c.put_further-are_all.result;
-      complete = more.1;
+      these = more.1;
       printed = subst (Prints g.O.Console.contents g.O.Console.failures _ _)
           (refused_text (record { fault = c.args.first.now; explained = first.0 }) more.0 media c.put_further-are_all.result)
           (prints_more g.O.Console.contents g.O.Console.failures first.1
