@@ -13,7 +13,8 @@ use Rattle.sound_terms.specs.Mix.{full_scale, quantized}
 use Rattle.sound_terms.specs.Blocks.{block_samples, frame_samples}
 use Rattle.clipping.specs.Clips.{block_sums, frame_sums, is_clipped, rounded}
 use Rattle.blockmachine.specs.Clipped.{IsBetween}
-use Rattle.blockmachine.specs.Sums.{kept_sums}
+use Rattle.blockmachine.specs.Sums.{AreSums, BlockSums, kept_sums}
+use Rattle.blockmachine.proofs.Emitted.{near, room}
 
 -- a block's samples are its sums at a depth
 module _ (depth : ℕ) (sums : ℕ → ℕ → ℤ) where
@@ -116,3 +117,18 @@ module _ (sums : ℕ → ℕ → ℤ) (channels frames : ℕ) (values : List ℤ
       ∙ ap (λ m. block_sums sums channels 0 i ++ frame_sums sums m 1 channels) (sym (zero-add i))
       ∙ sym (block_more sums channels 0 i)
       ∙ ap (block_sums sums channels 0) (sym count)
+
+-- the first frames of sums that are kept are, one by one, the block's
+pub block_taken : (kept : BlockSums) (all : ℕ → ℕ → ℤ) → AreSums kept all
+    → length kept.values ≡ kept.extent.frames * kept.extent.channels → (frames given : ℕ) → given ≤ kept.extent.frames
+    → frames * kept.extent.channels ≡ given * kept.extent.channels
+    → take (frames * kept.extent.channels) kept.values ≡ block_sums all kept.extent.channels 0 frames
+block_taken kept all are whole frames given few count =
+    let extent = kept.extent in
+    let channels = extent.channels in
+    let most = room (frames * channels) given extent.frames channels few count in
+    frames_taken all channels frames kept.values (omega (arith, most, whole)) (λ i j below on.
+    let same : 1 + j - 1 ≡ j = omega arith in
+    sym (are i (1 + j) (near i frames given extent.frames channels j on few below (sym count))
+    (omega arith) (omega (arith, on)))
+    ∙ ap (λ n. get_or kept.values (i * channels + n) (pos 0)) same) frames (omega arith)

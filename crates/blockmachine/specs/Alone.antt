@@ -1,10 +1,14 @@
 -- A block that one file fills as it is.
-use Rattle.std.specs.Prelude.{◌≡◌, ℕ, List, [], ◌∷◌, Some, slice_get}
+use Rattle.std.specs.Prelude.{◌≡◌, ℕ, ◌*◌, ◌/◌, List, [], ◌∷◌, Some, slice_get}
 use Rattle.sound_terms.specs.declared.Depth.{Depth}
 use Rattle.sound_terms.specs.declared.block.Stretch.{Stretch}
 use Rattle.sound_terms.specs.declared.block.Instruction.{Instruction}
 use Rattle.sound_terms.specs.declared.block.Instruction.TheVariants.{Flat}
+use Rattle.sound_terms.specs.declared.Format.{Format}
+use Rattle.sound_terms.specs.Blocks.{IsBlockProgram, Programmed}
+use Rattle.sound_terms.specs.Depth.{bits_of}
 use Rattle.sound_terms.specs.Sounds.{SoundFacts}
+use Rattle.blockmachine.specs.Lines.{PlaysWithin}
 
 -- so many frames of a file, from this one on, on as many channels from the first on
 abbrev pub filling : (file frame frames channels : ℕ) → Stretch
@@ -27,3 +31,10 @@ pub record FillsAlone (sounds : List SoundFacts) (frames channels : ℕ) (depth 
   pub there : slice_get sounds stretch.file ≡ Some facts
   pub channels_alike : facts.channels ≡ channels
   pub depth_alike : facts.depth ≡ depth
+
+-- a program of so many frames of a format, over files that hold all that it plays, and room for their bytes
+pub record CanCopy (sounds : List SoundFacts) (frames : ℕ) (format : Format) (program : Programmed) (room : ℕ)
+    : Type 0 where
+  pub formed : IsBlockProgram frames format.channels format.depth program.lines
+  pub exact : room ≡ frames * format.channels * (bits_of format.depth / 8)
+  pub inside : PlaysWithin sounds program

@@ -1,10 +1,21 @@
 // Blocks that one file fills as it is.
-ghost use Rattle.std.specs.Prelude.{◌≡◌, IfSome};
+ghost use Rattle.std.specs.Prelude.{◌≡◌, IfErr, IfOk, IfSome, IsTrue, length};
+ghost use Rattle.std.specs.List.{All, flat_map};
+ghost use Rattle.clipping.specs.Clips.{IsClippingOf, block_sums};
+ghost use Rattle.devices.specs.Frame.{OnlyReads};
 ghost use Rattle.sound_terms.specs.declared.block.Instruction.TheVariants.{Flat};
-ghost use Rattle.blockmachine.specs.Alone.{FillsAlone};
+ghost use Rattle.sound_terms.specs.Blocks.{BlockState, PlaysFull, executed_all};
+ghost use Rattle.sound_terms.specs.Depth.{bits_of};
+ghost use Rattle.sound_terms.specs.Sounds.{reading_by};
+ghost use Rattle.sound_terms.specs.Waves.{sample_bytes};
+ghost use Rattle.blockmachine.specs.Alone.{CanCopy, FillsAlone};
+ghost use Rattle.blockmachine.specs.Fault.{FailsAt, IsSource};
 
-use crate::frames::Lanes;
-use sound_terms::{Depth, Instruction, Stretch};
+use crate::MachineFault;
+use crate::stretches::read_stored;
+use clipping::Clips;
+use devices::Shelf;
+use sound_terms::{Format, Instruction, Program, Stretch};
 use wavread::Sound;
 
 /// The stretch that an instruction adds without a fade.
@@ -17,15 +28,15 @@ fn flat_stretch(line: &Instruction) -> Option<Stretch>
     }
 }
 
-/// The flat stretch that alone fills a block of these frames, with all channels of a file of this depth. `None` where
+/// The flat stretch that alone fills a block of so many frames, with all channels of a file of this format. `None` where
 /// more is to be done than to hand its frames out.
-pub fn fills_alone(
+fn fills_alone(
     lines: &[Instruction],
-    lanes: Lanes,
-    depth: Depth,
+    frames: u32,
+    format: Format,
     sounds: &[Sound],
 ) -> Option<Stretch>
-    ensures { IfSome result (FillsAlone sounds.now lanes.frames lanes.channels depth lines.now) }
+    ensures { IfSome result (FillsAlone sounds.now frames format.channels format.depth lines.now) }
 {
     let [line] = lines else {
         return None;
@@ -33,18 +44,52 @@ pub fn fills_alone(
     let stretch = flat_stretch(line)?;
     let filling = Stretch {
         at: 0,
-        length: lanes.frames as u32,
+        length: frames,
         first: 1,
         dest: 1,
-        width: lanes.channels as u8,
+        width: format.channels,
         ..stretch
     };
     let sound = sounds.get(stretch.file as usize)?;
     if stretch != filling {
         return None;
     }
-    if sound.channels() as usize != lanes.channels || sound.depth() != depth {
+    if sound.channels() != format.channels || sound.depth() != format.depth {
         return None;
     }
     Some(filling)
+}
+
+/// Writes what a program hands out, so many frames, over `bytes` as a file of this format stores them, where one file
+/// fills them as it is: they are read to where they go, and nothing is clipped. There may be more frames than a machine
+/// has room for. `None` where more is to be done. `Source` where the read fails; what was written is then unspecified.
+pub fn copy_alone<S: Shelf>(
+    program: &Program,
+    frames: u32,
+    format: Format,
+    sounds: &[Sound],
+    shelf: &mut S,
+    bytes: &mut [u8],
+) -> Result<Option<Clips>, MachineFault>
+    requires { CanCopy sounds.now frames format program.now (length bytes.old) }
+    ensures ran { IsTrue (S.honest shelf.old) → IfOk result (λ copied. IfSome copied (λ _. (start : BlockState)
+        → bytes.new ≡ flat_map (sample_bytes (bits_of format.depth)) (executed_all (reading_by (S.stored shelf.old) sounds.now)
+        format.channels program.now.lines start).out)) }
+    ensures clips { IsTrue (S.honest shelf.old) → IfOk result (λ copied. IfSome copied (λ clips. (start : BlockState)
+        → IsClippingOf (bits_of format.depth) format.channels
+        (block_sums (executed_all (reading_by (S.stored shelf.old) sounds.now) format.channels
+        program.now.lines start).sums format.channels 0 frames) clips)) }
+    ensures full { IsTrue (S.honest shelf.old) → IfOk result (λ copied. IfSome copied
+        (λ _. All (PlaysFull (reading_by (S.stored shelf.old) sounds.now)) program.now.lines)) }
+    ensures source { IfErr result IsSource }
+    ensures only_reads { OnlyReads S.Shelf shelf.old shelf.new result (λ fault. IsSource fault)
+        (λ fault failed. FailsAt sounds.now fault failed) }
+{
+    let instructions = program.as_slice();
+    let lines = &instructions[1..instructions.len() - 1];
+    let Some(stretch) = fills_alone(lines, frames, format, sounds) else {
+        return Ok(None);
+    };
+    read_stored(&stretch, sounds, shelf, bytes)?;
+    Ok(Some(Clips::none()))
 }

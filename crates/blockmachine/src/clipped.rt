@@ -1,14 +1,12 @@
 // What is clipped of the sums of a block.
-ghost use Rattle.std.specs.Prelude.{◌≡◌, ◌*◌, ◌≤◌, ◌<◌, ◌≤ℤ◌, ℕ, ℤ, pos, false, length, slice_index_or};
+ghost use Rattle.std.specs.Prelude.{◌≡◌, ◌*◌, ◌<◌, ◌≤ℤ◌, pos, false, slice_index_or};
 ghost use Rattle.std.specs.List.{All};
 ghost use Rattle.sound_terms.specs.Depth.{bits_of};
-ghost use Rattle.sound_terms.specs.Blocks.{block_samples};
-ghost use Rattle.clipping.specs.Clips.{IsClippingOf, block_sums};
-ghost use Rattle.blockmachine.specs.Clipped.{IsBetween};
-ghost use Rattle.blockmachine.specs.Sums.{AreSums};
+ghost use Rattle.blockmachine.specs.Clipped.{IsBetween, TellsClips};
+ghost use Rattle.blockmachine.specs.Lines.{FillFrames};
 
 use crate::sums::Sums;
-use clipping::Clips;
+use clipping::{Clips, Kept};
 use sound_terms::Depth;
 use soundlaw::widen;
 
@@ -52,13 +50,23 @@ impl Sums {
 
     /// What is clipped of the first sums, which were handed out at this depth as these samples.
     pub fn clips(&self, depth: Depth, samples: &[i32]) -> Clips
-        requires { (frames : ℕ) × (frames ≤ self.now.extent.frames)
-            × (length samples.now ≡ frames * self.now.extent.channels) }
-        ensures { (all : ℕ → ℕ → ℤ) → AreSums self.now all → (frames : ℕ)
-            → length samples.now ≡ frames * self.now.extent.channels
-            → samples.now ≡ block_samples (bits_of depth) all self.now.extent.channels 0 frames
-            → IsClippingOf (bits_of depth) self.now.extent.channels (block_sums all self.now.extent.channels 0 frames)
-            result }
+        requires { FillFrames self.now.extent samples.now }
+        ensures { TellsClips depth self.now samples.now result }
+    {
+        if self.at_depth && self.depth.bits() == depth.bits() {
+            return Clips::of_kept(&Kept {
+                sums: &self.layers[..samples.len()],
+                depth,
+                channels: self.lanes.channels,
+            });
+        }
+        self.clips_one_by_one(depth, samples)
+    }
+
+    /// The same of sums that are kept at another depth, or at full scale.
+    fn clips_one_by_one(&self, depth: Depth, samples: &[i32]) -> Clips
+        requires { FillFrames self.now.extent samples.now }
+        ensures { TellsClips depth self.now samples.now result }
     {
         let mut clips = Clips::none();
         if !may_be_clipped(samples, depth) {

@@ -16,7 +16,8 @@ mod slope;
 mod stretches;
 mod sums;
 
+pub use alone::copy_alone;
 pub use clipping::Clips;
 pub use fault::MachineFault;
 pub use machine::Machine;
-pub use sound_terms::{Depth, Instruction, Program, Stretch};
+pub use sound_terms::{Depth, Format, Instruction, Program, Stretch};

@@ -1,5 +1,5 @@
 // The machine.
-ghost use Rattle.std.specs.Prelude.{◌≡◌, ◌*◌, ◌/◌, ◌^◌, ◌<◌, ◌≤◌, ◌++◌, ◌∷◌, [], ℕ, List, Some, IsTrue, IfOk, IfErr, OnOk, length};
+ghost use Rattle.std.specs.Prelude.{◌≡◌, ◌*◌, ◌/◌, ◌<◌, ◌≤◌, ◌++◌, ◌∷◌, [], ℕ, List, Some, IsTrue, IfOk, IfErr, OnOk, length};
 ghost use Rattle.std.specs.List.{All, flat_map};
 ghost use Rattle.sound_terms.specs.declared.Depth as declared;
 ghost use Rattle.sound_terms.specs.declared.block.Instruction as word;
@@ -17,15 +17,15 @@ ghost use Rattle.blockmachine.specs.Lines.{CanAdd, CanRun, CanSum, PlaysWithin, 
 ghost use Rattle.blockmachine.specs.Sums.{AreSums};
 
 use crate::MachineFault;
-use crate::alone::fills_alone;
+use crate::alone::copy_alone;
 use crate::buffer::Buffer;
 use crate::frames::Lanes;
-use crate::stretches::{add_stretch, read_stored};
+use crate::stretches::add_stretch;
 use crate::sums::Sums;
 use clipping::Clips;
 use devices::Shelf;
 use pcm::pack;
-use sound_terms::{Depth, Instruction, Program, Shape, Stretch};
+use sound_terms::{Depth, Format, Instruction, Program, Shape, Stretch};
 use sourceindex::Bound;
 use std::alloc::Global;
 use std::marker::Model;
@@ -265,16 +265,17 @@ impl Machine {
             (λ fault failed. FailsAt sounds.now fault failed) }
     {
         let lanes = self.sums.lanes();
+        let frames = samples.len() / lanes.channels;
+        let format = Format {
+            channels: lanes.channels as u8,
+            depth,
+        };
+        let copied = copy_alone(program, frames as u32, format, sounds, shelf, bytes)?;
+        if let Some(clips) = copied {
+            return Ok(clips);
+        }
         let instructions = program.as_slice();
         let lines = &instructions[1..instructions.len() - 1];
-        let filled = Lanes {
-            frames: samples.len() / lanes.channels,
-            channels: lanes.channels,
-        };
-        if let Some(stretch) = fills_alone(lines, filled, depth, sounds) {
-            read_stored(&stretch, sounds, shelf, bytes)?;
-            return Ok(Clips::none());
-        }
         let clips = self.run_lines(lines, depth, sounds, shelf, samples)?;
         pack(depth, samples, bytes);
         Ok(clips)

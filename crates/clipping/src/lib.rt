@@ -2,9 +2,12 @@
 //! channels.
 //!
 //! `is_clipped` says of a sum whether its rounded value lies outside of the depth. A tally, `Clips`, speaks of sums that
-//! lie frame by frame: `note` takes one sum more, `joined` the tally of the frames that come next.
+//! lie frame by frame: `note` takes one sum more, `joined` the tally of the frames that come next, and `of_kept` all
+//! sums that are kept at a depth.
 #![tactic(auto)]
 
+mod kept;
 mod tally;
 
+pub use kept::Kept;
 pub use tally::{Clips, is_clipped};

@@ -1,5 +1,5 @@
 -- What is clipped of blocks, one after the other.
-use Rattle.std.proofs.Common.{◌≡◌, ◌∙◌, ℕ, zero, suc, ◌+◌, ◌-◌, ◌*◌, ◌/◌, ◌^◌, ◌<◌, ◌≤◌, Bool, true, false, List, [], ◌∷◌, ◌++◌, length, get_or, refl, sym, ap, subst, arith}
+use Rattle.std.proofs.Common.{◌≡◌, ◌∙◌, ℕ, zero, suc, ◌+◌, ◌-◌, ◌*◌, ◌/◌, ◌^◌, ◌<◌, ◌≤◌, Bool, true, false, List, [], ◌∷◌, ◌++◌, length, refl, sym, ap, subst, arith}
 use Rattle.std.specs.Prelude.{ℤ, pos, slice_index_or, if◌then◌else◌}
 use Rattle.std.proofs.lemmas.List.Elements.{All-append, All-cons, All-nil}
 use Rattle.std.specs.List.{All}
@@ -8,9 +8,8 @@ use Rattle.clipping.specs.Clips.{IsClippingOf, block_sums, frame_sums, is_clippe
 use Rattle.clipping.specs.Laws.{block_sums-alike, block_sums-append, length-block_sums}
 use Rattle.sampletime.specs.TimeCode.{day}
 use Rattle.std.proofs.Math.Nat.{mul-le-mul}
-use Rattle.sound_terms.specs.Blocks.{BlockState, block_count, block_frames, block_length, block_start, executed_all, program_of}
+use Rattle.sound_terms.specs.Blocks.{BlockState, block_count, block_length, block_start, executed_all}
 use Rattle.sound_terms.specs.declared.block.Instruction.{Instruction}
-use Rattle.sound_terms.specs.declared.piece.Piece.{Piece}
 use Rattle.sound_terms.specs.Mix.{Reading}
 use Rattle.sound_terms.specs.declared.Depth.{Depth}
 use Rattle.sound_terms.specs.declared.Depth.TheVariants.{Sixteen, TwentyFour, ThirtyTwo}
@@ -22,38 +21,42 @@ use Rattle.rendering.specs.Cut.{IsCut, IsUniform}
 use Rattle.rendering.specs.Work.{IsInRange}
 use Rattle.rendering.specs.Written.{frames_before}
 
--- ---- a block
+-- ---- some blocks
 
--- sums that are those of a mix in block k are its sums there
-pub block_is : (range : Range) (mix sums : ℕ → ℕ → ℤ) (k : ℕ) → k < block_count range
-    → ((i c : ℕ) → i < block_frames range k → c ≤ range.channels → sums i c ≡ mix c (block_start range k + i))
-    → block_sums sums range.channels 0 (block_frames range k) ≡ sums_of_blocks range mix k (k + 1)
-block_is range mix sums k inside exact =
-    let here : block_start range k + 0 ≡ block_start range k = omega arith in
-    let n : frames_before range (k + 1) - frames_before range k ≡ block_frames range k = omega (arith, inside) in
-    block_sums-alike sums (λ time c. mix c time) (block_start range k) range.channels 0 (block_frames range k)
+-- sums that are those of a mix in some blocks are its sums there
+pub blocks_are : (range : Range) (mix sums : ℕ → ℕ → ℤ) (first last : ℕ)
+    → ((i c : ℕ) → i < frames_before range last - frames_before range first → c ≤ range.channels
+    → sums i c ≡ mix c (block_start range first + i))
+    → block_sums sums range.channels 0 (frames_before range last - frames_before range first)
+    ≡ sums_of_blocks range mix first last
+blocks_are range mix sums first last exact =
+    let here : block_start range first + 0 ≡ block_start range first = omega arith in
+    let n = frames_before range last - frames_before range first in
+    block_sums-alike sums (λ time c. mix c time) (block_start range first) range.channels 0 n
     (λ i c from to one few. exact i c (omega (arith, to)) few)
-    ∙ ap (λ (t : ℕ). block_sums (λ time c. mix c time) range.channels t (block_frames range k)) here
-    ∙ ap (λ (m : ℕ). block_sums (λ time c. mix c time) range.channels (block_start range k) m) (sym n)
+    ∙ ap (λ (t : ℕ). block_sums (λ time c. mix c time) range.channels t n) here
 
--- what a machine says of a block is what is clipped of it
-pub block_clips : (range : Range) (mix : ℕ → ℕ → ℤ) (reading : Reading) (pieces : List Piece) (k : ℕ)
-    (start : BlockState) (channels : ℕ) (depth : Depth) (lines : List Instruction) (clips : Clips)
-    → channels ≡ range.channels → depth ≡ range.depth → lines ≡ program_of pieces range k → k < block_count range
-    → ((i c : ℕ) → i < block_frames range k → c ≤ range.channels
-    → (executed_all reading range.channels (program_of pieces range k) start).sums i c ≡ mix c (block_start range k + i))
+-- what is said of their sums is what is clipped of them
+pub blocks_clips : (range : Range) (mix : ℕ → ℕ → ℤ) (reading : Reading) (program : List Instruction) (first last : ℕ)
+    (start : BlockState) (channels frames : ℕ) (depth : Depth) (lines : List Instruction) (clips : Clips)
+    → channels ≡ range.channels → depth ≡ range.depth → lines ≡ program
+    → frames ≡ frames_before range last - frames_before range first
+    → ((i c : ℕ) → i < frames_before range last - frames_before range first → c ≤ range.channels
+    → (executed_all reading range.channels program start).sums i c ≡ mix c (block_start range first + i))
     → IsClippingOf (bits_of depth) channels
-    (block_sums (executed_all reading channels lines start).sums channels 0 (block_frames range k)) clips
-    → Clip range (sums_of_blocks range mix k (k + 1)) clips
-block_clips range mix reading pieces k start channels depth lines clips wide deep are inside exact h =
+    (block_sums (executed_all reading channels lines start).sums channels 0 frames) clips
+    → Clip range (sums_of_blocks range mix first last) clips
+blocks_clips range mix reading program first last start channels frames depth lines clips wide deep are long exact h =
     subst (λ (x : List ℤ). Clip range x clips)
-    (block_is range mix (executed_all reading range.channels (program_of pieces range k) start).sums k inside exact)
+    (blocks_are range mix (executed_all reading range.channels program start).sums first last exact)
+    (subst (λ (n : ℕ). Clip range (block_sums (executed_all reading range.channels program start).sums range.channels 0 n)
+    clips) long
     (subst (λ (l : List Instruction). IsClippingOf (bits_of range.depth) range.channels
-    (block_sums (executed_all reading range.channels l start).sums range.channels 0 (block_frames range k)) clips) are
+    (block_sums (executed_all reading range.channels l start).sums range.channels 0 frames) clips) are
     (subst (λ (n : ℕ). IsClippingOf (bits_of range.depth) n
-    (block_sums (executed_all reading n lines start).sums n 0 (block_frames range k)) clips) wide
+    (block_sums (executed_all reading n lines start).sums n 0 frames) clips) wide
     (subst (λ (d : Depth). IsClippingOf (bits_of d) channels
-    (block_sums (executed_all reading channels lines start).sums channels 0 (block_frames range k)) clips) deep h)))
+    (block_sums (executed_all reading channels lines start).sums channels 0 frames) clips) deep h))))
 
 -- ---- one block after the other
 

@@ -1,8 +1,10 @@
 -- The bytes of blocks, one behind the other, are those of frames.
-use Rattle.std.proofs.Common.{◌≡◌, ℕ, zero, suc, ◌+◌, ◌-◌, ◌*◌, ◌/◌, ◌<◌, ◌≤◌, List, ◌++◌, length, refl, ap, ◌∙◌, arith, length-append}
+use Rattle.std.proofs.Common.{◌≡◌, ℕ, zero, suc, ◌+◌, ◌-◌, ◌*◌, ◌/◌, ◌<◌, ◌≤◌, List, ◌++◌, length, take, refl, sym, ap, ◌∙◌, arith, length-append}
+use borrow.Rule.Slice.PartMut.{post_of, put_mid}
 use Rattle.std.specs.Prelude.{ℤ}
 use Rattle.std.specs.List.{flat_map}
-use Rattle.std.proofs.lemmas.List.{append_assoc}
+use Rattle.std.proofs.Math.Seq.{take-append-add, take-append_seam}
+use Rattle.std.proofs.lemmas.List.{append_assoc, length-take-le}
 use Rattle.std.proofs.lemmas.List.Concat.{flat_map-append}
 use Rattle.pcm.specs.Laws.{length-sample_bytes}
 use Rattle.sound_terms.specs.Depth.{bits_of}
@@ -22,7 +24,7 @@ channels_packed depth start i channel (suc n) mix =
     ap (λ (rest : List ℕ). sample_bytes depth (quantized depth (mix channel (start + i))) ++ rest)
     (channels_packed depth start i (suc channel) n mix)
 
-frames_packed : (depth start channels i n : ℕ) (mix : ℕ → ℕ → ℤ)
+pub frames_packed : (depth start channels i n : ℕ) (mix : ℕ → ℕ → ℤ)
     → flat_map (sample_bytes depth) (block_samples depth (λ i channel. mix channel (start + i)) channels i n)
     ≡ frames_of depth mix channels (start + i) n
 frames_packed depth start channels i zero mix = refl
@@ -54,18 +56,26 @@ frames_behind depth channels from (suc n) m mix =
     ∙ ap (λ (rest : List ℕ). first ++ rest) (frames_behind depth channels (suc from) n m mix)
     ∙ ap (λ (k : ℕ). frames_of depth mix channels from k) more
 
--- a block behind others
-pub block_behind : (range : Range) (mix : ℕ → ℕ → ℤ) (first k : ℕ) → first ≤ k → k < block_count range
-    → bytes_of_blocks range mix first k ++ block_bytes range mix k ≡ bytes_of_blocks range mix first (k + 1)
-block_behind range mix first k behind inside =
+-- a block by itself
+pub one_block : (range : Range) (mix : ℕ → ℕ → ℤ) (k : ℕ) → k < block_count range
+    → block_bytes range mix k ≡ bytes_of_blocks range mix k (k + 1)
+one_block range mix k inside =
+    let start : block_start range k + 0 ≡ block_start range k = omega arith in
+    let count : block_frames range k ≡ frames_before range (k + 1) - frames_before range k = omega (arith, inside) in
+    frames_packed (bits_of range.depth) (block_start range k) range.channels 0 (block_frames range k) mix
+    ∙ ap (λ (time : ℕ). frames_of (bits_of range.depth) mix range.channels time (block_frames range k)) start
+    ∙ ap (λ (n : ℕ). frames_of (bits_of range.depth) mix range.channels (block_start range k) n) count
+
+-- blocks behind others
+pub blocks_behind : (range : Range) (mix : ℕ → ℕ → ℤ) (first k next : ℕ) → first ≤ k → k ≤ next → k < block_count range
+    → bytes_of_blocks range mix first k ++ bytes_of_blocks range mix k next ≡ bytes_of_blocks range mix first next
+blocks_behind range mix first k next behind before inside =
     let n = frames_before range k - frames_before range first in
-    let start : block_start range k + 0 ≡ block_start range first + n = omega (arith, behind, inside) in
-    let more : n + block_frames range k ≡ frames_before range (k + 1) - frames_before range first =
-    omega (arith, behind, inside) in
-    ap (λ (block : List ℕ). bytes_of_blocks range mix first k ++ block)
-    (frames_packed (bits_of range.depth) (block_start range k) range.channels 0 (block_frames range k) mix
-    ∙ ap (λ (time : ℕ). frames_of (bits_of range.depth) mix range.channels time (block_frames range k)) start)
-    ∙ frames_behind (bits_of range.depth) range.channels (block_start range first) n (block_frames range k) mix
+    let m = frames_before range next - frames_before range k in
+    let start : block_start range k ≡ block_start range first + n = omega (arith, behind, inside) in
+    let more : n + m ≡ frames_before range next - frames_before range first = omega (arith, behind, before) in
+    ap (λ (time : ℕ). bytes_of_blocks range mix first k ++ frames_of (bits_of range.depth) mix range.channels time m) start
+    ∙ frames_behind (bits_of range.depth) range.channels (block_start range first) n m mix
     ∙ ap (λ (n : ℕ). frames_of (bits_of range.depth) mix range.channels (block_start range first) n) more
 
 -- ---- the file
@@ -115,3 +125,20 @@ unfolding rendering_of
 rendering_same range mix other same =
     ap (λ (samples : List ℕ). file_of (render_info range) samples)
     (frames_same (bits_of range.depth) range.channels range.from (range.to - range.from) mix other same)
+
+-- ---- a part of the bytes that was written anew
+
+pub written_front : (at n : ℕ) (old new : List ℕ) → at + n ≤ length old → length new ≡ n
+    → take (at + n) (put_mid at n old new) ≡ take at old ++ new
+written_front at n old new room long =
+    let front : length (take at old) ≡ at = length-take-le at old (omega (arith, room)) in
+    ap (λ (m : ℕ). take m (take at old ++ (new ++ post_of at n old))) (omega (arith, front, long))
+    ∙ take-append-add (take at old) (new ++ post_of at n old) (length new)
+    ∙ ap (λ (l : List ℕ). take at old ++ l) (take-append_seam new (post_of at n old))
+
+pub same_front : (at n : ℕ) (old new : List ℕ) → at + n ≤ length old
+    → take at (put_mid at n old new) ≡ take at old
+same_front at n old new room =
+    let front : length (take at old) ≡ at = length-take-le at old (omega (arith, room)) in
+    ap (λ (m : ℕ). take m (take at old ++ (new ++ post_of at n old))) (sym front)
+    ∙ take-append_seam (take at old) (new ++ post_of at n old)

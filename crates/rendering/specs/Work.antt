@@ -82,6 +82,16 @@ stretch_at stretches k = slice_index_or stretches k no_stretch
 abbrev pub stretch_frames : Range → Stretch → ℕ
 stretch_frames range s = frames_before range s.end - frames_before range s.first
 
+-- such a stretch, and just room for its bytes
+pub record HasRoomFor (range : Range) (s : Stretch) (room : ℕ) : Type 0 where
+  pub inside : IsInRange range s
+  pub exact : room ≡ bytes_for range (stretch_frames range s)
+
+-- such a stretch, and room for its bytes from here on
+pub record HasRoomAt (range : Range) (s : Stretch) (at room : ℕ) : Type 0 where
+  pub inside : IsInRange range s
+  pub enough : at + bytes_for range (stretch_frames range s) ≤ room
+
 -- how many blocks a job of a range has
 abbrev pub job_blocks : JobLength → Range → ℕ
 job_blocks jobs range = blocks_in_job jobs (block_count range) (bytes_for range block_length)

@@ -1,5 +1,5 @@
 // Blocks that are summed, and their bytes.
-ghost use Rattle.std.specs.Prelude.{◌≡◌, ◌+◌, ◌*◌, ◌<◌, ◌≤◌, ◌++◌, ⊤, IfErr, IfOk, IfSome, IsTrue, OnOk, length, take};
+ghost use Rattle.std.specs.Prelude.{◌≡◌, ◌+◌, ◌-◌, ◌*◌, ◌<◌, ◌≤◌, ◌++◌, ⊤, IfErr, IfOk, IfSome, IsTrue, None, OnOk, length, take};
 ghost use Rattle.std.specs.List.{All};
 ghost use Rattle.sound_terms.specs.Blocks.{block_count, block_frames};
 ghost use Rattle.sound_terms.specs.Media.{IsPieceOf};
@@ -7,13 +7,13 @@ ghost use Rattle.devices.specs.Frame.{OnlyReads};
 ghost use Rattle.renderplan.specs.Sources.{IsInDay};
 ghost use Rattle.rendering.specs.Clipping.{Clip, sums_of_blocks};
 ghost use Rattle.rendering.specs.Fault.{WantsMemory};
-ghost use Rattle.rendering.specs.Work.{CanPlay, HasRoom, IsInRange, bytes_for, heard, stretch_frames};
-ghost use Rattle.rendering.specs.Written.{block_bytes, bytes_of_blocks};
+ghost use Rattle.rendering.specs.Work.{CanPlay, HasRoom, HasRoomAt, HasRoomFor, IsInRange, bytes_for, heard, stretch_frames};
+ghost use Rattle.rendering.specs.Written.{block_bytes, bytes_of_blocks, frames_before};
 ghost use Rattle.rendering.specs.declared.fault.RenderFault.TheVariants.{Memory};
 
 use crate::RenderFault;
 use crate::stretch::Stretch;
-use blockmachine::Machine;
+use blockmachine::{Machine, copy_alone};
 use clipping::Clips;
 use devices::{DeviceFault, Shelf};
 use renderplan::{Plan, Program};
@@ -24,9 +24,10 @@ use wavread::Sound;
 /// The most frames of a block.
 pub const BLOCK_LENGTH: usize = 4096;
 
-/// Where the samples of a block end, and what was clipped of it.
+/// Which block comes after those that were played, where their samples end, and what was clipped of them.
 #[derive(Clone, Copy)]
 struct Played {
+    next: u32,
     end: usize,
     clips: Clips,
 }
@@ -87,6 +88,22 @@ fn play_block<S: Shelf>(
     match machine.run_packed(program, format.depth, sounds, shelf, samples, bytes) {
         Ok(clips) => Ok(clips),
         Err(_) => Err(DeviceFault),
+    }
+}
+
+/// How many blocks are tried at once after these were, of which those before `next` were played: twice as many where
+/// these were all, else one.
+fn blocks_ahead(tried: &Stretch, next: u32) -> u32
+    ensures { 1 ≤ result }
+{
+    if next == tried.end {
+        tried
+            .end
+            .saturating_sub(tried.first)
+            .saturating_mul(2)
+            .max(1)
+    } else {
+        1
     }
 }
 
@@ -192,11 +209,11 @@ impl<'a> Blocks<'a> {
         )
     }
 
-    /// Sums block k and writes its samples over `bytes` from `at` on, where there is room for them; gives where they
-    /// end, and what was clipped of them. A file that can't be read fails it.
+    /// Sums block k and writes its samples over `bytes` from `at` on, where there is room for them. A file that can't be
+    /// read fails it.
     fn play_at<S: Shelf>(
         &mut self,
-        k: u64,
+        k: u32,
         shelf: &mut S,
         bytes: &mut [u8],
         at: usize,
@@ -211,26 +228,104 @@ impl<'a> Blocks<'a> {
             self.old.planned.range (heard self.old.planned self.old.sounds (S.stored shelf.old)) k (k + 1)) block.clips) }
         ensures ended { IfOk result
             (λ block. block.end ≡ at + bytes_for self.old.planned.range (block_frames self.old.planned.range k)) }
+        ensures next { IfOk result (λ block. block.next ≡ k + 1) }
         ensures ready { self.new ≡ self.old }
         ensures only_reads { OnlyReads S.Shelf shelf.old shelf.new result (λ _. ⊤) (λ _ failed. ⊤) }
     {
-        let frames = self.plan.frames_of(k) as usize;
+        let block = u64::from(k);
+        let frames = self.plan.frames_of(block) as usize;
         let end = at + self.length_of(frames);
-        let clips = self.play(k, shelf, &mut bytes[at..end])?;
-        Ok(Played { end, clips })
+        let clips = self.play(block, shelf, &mut bytes[at..end])?;
+        Ok(Played {
+            next: k + 1,
+            end,
+            clips,
+        })
+    }
+
+    /// Writes the samples of a stretch of some blocks over `bytes` from `at` on, where one file fills all of them as it
+    /// is. `None` where more is to be done; what comes before `at` stays. A file that can't be read fails it.
+    fn copy_at<S: Shelf>(
+        &mut self,
+        stretch: &Stretch,
+        shelf: &mut S,
+        bytes: &mut [u8],
+        at: usize,
+    ) -> Result<Option<Played>, DeviceFault>
+        requires { HasRoomAt self.old.planned.range stretch.now at (length bytes.old) }
+        ensures played { IsTrue (S.honest shelf.old) → IfOk result (λ copied. IfSome copied (λ some.
+            take some.end bytes.new ≡ take at bytes.old ++ bytes_of_blocks self.old.planned.range
+            (heard self.old.planned self.old.sounds (S.stored shelf.old)) stretch.now.first stretch.now.end)) }
+        ensures clips { IsTrue (S.honest shelf.old) → IfOk result (λ copied. IfSome copied (λ some.
+            Clip self.old.planned.range (sums_of_blocks self.old.planned.range
+            (heard self.old.planned self.old.sounds (S.stored shelf.old)) stretch.now.first stretch.now.end) some.clips)) }
+        ensures ended { IfOk result (λ copied. IfSome copied (λ some. (some.next ≡ stretch.now.end) × (some.end
+            ≡ at + bytes_for self.old.planned.range (stretch_frames self.old.planned.range stretch.now)))) }
+        ensures front { IfOk result (λ copied. copied ≡ None → take at bytes.new ≡ take at bytes.old) }
+        ensures ready { self.new ≡ self.old }
+        ensures only_reads { OnlyReads S.Shelf shelf.old shelf.new result (λ _. ⊤) (λ _ failed. ⊤) }
+    {
+        if stretch.end - stretch.first == 1 {
+            return Ok(None);
+        }
+        let end = at + self.length_of(self.frames_in(stretch));
+        let program = &mut self.program;
+        let format = self.plan.format();
+        let frames = self
+            .plan
+            .fill_span(stretch.first.into(), stretch.end.into(), program);
+        let room = &mut bytes[at..end];
+        let copied = match copy_alone(program, frames, format, self.sounds, shelf, room) {
+            Ok(copied) => copied,
+            Err(_) => return Err(DeviceFault),
+        };
+        let Some(clips) = copied else {
+            return Ok(None);
+        };
+        let next = stretch.end;
+        Ok(Some(Played { next, end, clips }))
+    }
+
+    /// Writes the samples of the blocks of a stretch over `bytes` from `at` on at once, where one file fills all of them as
+    /// it is; else those of the first one. A file that can't be read fails it.
+    fn play_next<S: Shelf>(
+        &mut self,
+        stretch: &Stretch,
+        shelf: &mut S,
+        bytes: &mut [u8],
+        at: usize,
+    ) -> Result<Played, DeviceFault>
+        requires { HasRoomAt self.old.planned.range stretch.now at (length bytes.old) }
+        ensures played { IsTrue (S.honest shelf.old) → IfOk result (λ some. take some.end bytes.new
+            ≡ take at bytes.old ++ bytes_of_blocks self.old.planned.range
+            (heard self.old.planned self.old.sounds (S.stored shelf.old)) stretch.now.first some.next) }
+        ensures clips { IsTrue (S.honest shelf.old) → IfOk result (λ some. Clip self.old.planned.range (sums_of_blocks
+            self.old.planned.range (heard self.old.planned self.old.sounds (S.stored shelf.old)) stretch.now.first
+            some.next) some.clips) }
+        ensures ended { IfOk result (λ some. some.end ≡ at + bytes_for self.old.planned.range
+            (frames_before self.old.planned.range some.next - frames_before self.old.planned.range stretch.now.first)) }
+        ensures next { IfOk result (λ some. (stretch.now.first < some.next) × (some.next ≤ stretch.now.end)) }
+        ensures ready { self.new ≡ self.old }
+        ensures only_reads { OnlyReads S.Shelf shelf.old shelf.new result (λ _. ⊤) (λ _ failed. ⊤) }
+    {
+        match self.copy_at(stretch, shelf, bytes, at)? {
+            Some(played) => return Ok(played),
+            None => {}
+        }
+        let played = self.play_at(stretch.first, shelf, bytes, at)?;
+        Ok(played)
     }
 
     /// Sums the blocks of a stretch and writes their samples over `bytes`, which has room for just these; gives what was
-    /// clipped of them. A file that can't be read fails it.
+    /// clipped of them. A file that can't be read fails it. As long as one file fills the blocks as it is, twice as many
+    /// are tried at once, all of them at first.
     pub fn play_stretch<S: Shelf>(
         &mut self,
         stretch: &Stretch,
         shelf: &mut S,
         bytes: &mut [u8],
     ) -> Result<Clips, DeviceFault>
-        requires inside { IsInRange self.old.planned.range stretch.now }
-        requires room { length bytes.old
-            ≡ bytes_for self.old.planned.range (stretch_frames self.old.planned.range stretch.now) }
+        requires { HasRoomFor self.old.planned.range stretch.now (length bytes.old) }
         ensures played { IsTrue (S.honest shelf.old) → OnOk result (bytes.new
             ≡ bytes_of_blocks self.old.planned.range
             (heard self.old.planned self.old.sounds (S.stored shelf.old)) stretch.now.first stretch.now.end) }
@@ -241,13 +336,22 @@ impl<'a> Blocks<'a> {
         ensures only_reads { OnlyReads S.Shelf shelf.old shelf.new result (λ _. ⊤) (λ _ failed. ⊤) }
     {
         let channels = u64::from(self.plan.format().channels);
+        let mut next = stretch.first;
+        let mut ahead = stretch.end - stretch.first;
         let mut end = 0;
         let mut clips = Clips::none();
-        for k in stretch.first as u64..stretch.end as u64 {
-            let played = self.play_at(k, shelf, bytes, end)?;
-            let before = (k - stretch.first as u64) * BLOCK_LENGTH as u64 * channels;
+        while next < stretch.end {
+            let tried = Stretch {
+                first: next,
+                end: next + ahead.min(stretch.end - next),
+                done: false,
+            };
+            let played = self.play_next(&tried, shelf, bytes, end)?;
+            let before = u64::from(next - stretch.first) * BLOCK_LENGTH as u64 * channels;
             clips = clips.joined(played.clips, before);
+            ahead = blocks_ahead(&tried, played.next);
             end = played.end;
+            next = played.next;
         }
         Ok(clips)
     }

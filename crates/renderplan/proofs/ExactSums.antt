@@ -9,10 +9,11 @@ use Rattle.facts.specs.Lists.{all_front}
 use Rattle.sound_terms.specs.declared.block.Instruction.TheVariants.{Start, Emit}
 use Rattle.sound_terms.specs.declared.piece.Piece.{Piece}
 use Rattle.sound_terms.specs.Mix.{Reading}
-use Rattle.sound_terms.specs.Blocks.{BlockState, PlaysFull, block_frames, block_start, executed_all, lines_of, program_of}
+use Rattle.sound_terms.specs.Blocks.{BlockState, PlaysFull, executed_all, lines_of}
 use Rattle.sound_terms.specs.BlockLaws.{executed_all-append}
 use Rattle.sound_terms.specs.Groups.{IsBounded, IsPiece, is_under, part_of, sum_of}
-use Rattle.sound_terms.specs.Render.{Range}
+use Rattle.sound_terms.specs.declared.Depth.{Depth}
+use Rattle.renderplan.specs.Spans.{written}
 use Rattle.renderplan.specs.Sources.{first_source, sounds_in}
 use Rattle.renderplan.proofs.Summing.{lines_sum}
 
@@ -50,22 +51,20 @@ module _ (reading : Reading) (from n channels : ℕ) where
             let here = part_silent p i c below inside e in
             rw (here, rest) refl
 
--- the sums of a block are those of the mix
-pub program_exact : (reading : Reading) (pieces : List Piece) (range : Range) (k : ℕ) (start : BlockState)
-    → All (PlaysFull reading) (program_of pieces range k) → All IsPiece pieces → IsBounded 32767 pieces
-    → (i c : ℕ) → i < block_frames range k → c ≤ range.channels
-    → (executed_all reading range.channels (program_of pieces range k) start).sums i c
-    ≡ sum_of reading pieces c (block_start range k + i)
-program_exact reading pieces range k start plays all bounded i c below inside =
-    let from = block_start range k in
-    let n = block_frames range k in
-    let lines = flat_map (lines_of from n range.channels) pieces in
+-- the sums of so many samples, from a time on, are those of the mix
+pub written_exact : (reading : Reading) (pieces : List Piece) (from n channels : ℕ) (depth : Depth) (start : BlockState)
+    → All (PlaysFull reading) (written from n channels depth pieces) → All IsPiece pieces → IsBounded 32767 pieces
+    → (i c : ℕ) → i < n → c ≤ channels
+    → (executed_all reading channels (written from n channels depth pieces) start).sums i c
+    ≡ sum_of reading pieces c (from + i)
+written_exact reading pieces from n channels depth start plays all bounded i c below inside =
+    let lines = flat_map (lines_of from n channels) pieces in
     let begun : BlockState = record start { frames = n; sums = λ i channel. pos 0 } in
-    let split = executed_all-append reading range.channels lines (Emit range.depth ∷ []) begun in
+    let split = executed_all-append reading channels lines (Emit depth ∷ []) begun in
     let full : All (PlaysFull reading) lines =
-    all_front (PlaysFull reading) lines (Emit range.depth ∷ [])
-    (All-tail (PlaysFull reading) (Start n) (lines ++ Emit range.depth ∷ []) plays) in
+    all_front (PlaysFull reading) lines (Emit depth ∷ [])
+    (All-tail (PlaysFull reading) (Start n) (lines ++ Emit depth ∷ []) plays) in
     ap (λ (state : BlockState). state.sums i c) split
-    ∙ lines_sum reading from n range.channels pieces begun i c 0 full all below inside
+    ∙ lines_sum reading from n channels pieces begun i c 0 full all below inside
     (omega (arith, bounded (from + i))) (omega (arith, ints), omega (arith, ints))
     ∙ omega (arith, ints)

@@ -10,12 +10,13 @@ use Rattle.sound_terms.specs.declared.block.Instruction.TheVariants.{Start, Emit
 use Rattle.sound_terms.specs.declared.piece.Piece.{Piece}
 use Rattle.sound_terms.specs.Sounds.{SoundFacts}
 use Rattle.sound_terms.specs.Media.{IsPieceOf}
-use Rattle.sound_terms.specs.Render.{Range}
+use Rattle.sound_terms.specs.declared.Depth.{Depth}
+use Rattle.renderplan.specs.Spans.{written}
 use Rattle.sound_terms.specs.Groups.{IsPiece}
 use Rattle.sound_terms.specs.GroupLaws.{ramp_within}
 use Rattle.sound_terms.specs.Passes.{shape_behind}
 use Rattle.sound_terms.specs.BlockLaws.{addition_of-adding}
-use Rattle.sound_terms.specs.Blocks.{IsBlockProgram, IsFormed, LiesInFiles, adding, block_frames, block_start, lines_of, program_of, stretch_in}
+use Rattle.sound_terms.specs.Blocks.{IsBlockProgram, IsFormed, LiesInFiles, adding, lines_of, stretch_in}
 
 module _ (from n channels : ℕ) where
   -- a line of a piece is the one of its stretch
@@ -64,25 +65,24 @@ pub lines_formed : (from n channels : ℕ) (pieces : List Piece) → All IsPiece
 lines_formed from n channels pieces all =
     all_of_parts IsPiece (IsFormed n channels) (lines_of from n channels) (line_formed from n channels) pieces all
 
-pub program_formed : (pieces : List Piece) (range : Range) (k : ℕ) → All IsPiece pieces
-    → IsBlockProgram (block_frames range k) range.channels range.depth (program_of pieces range k)
-program_formed pieces range k all =
-    let from = block_start range k in
-    let n = block_frames range k in
+pub written_formed : (from n channels : ℕ) (depth : Depth) (pieces : List Piece) → All IsPiece pieces
+    → IsBlockProgram n channels depth (written from n channels depth pieces)
+written_formed from n channels depth pieces all =
     record {
-      lines = flat_map (lines_of from n range.channels) pieces;
+      lines = flat_map (lines_of from n channels) pieces;
       whole = refl;
-      formed = lines_formed from n range.channels pieces all;
+      formed = lines_formed from n channels pieces all;
     }
 
-pub program_inside : (sounds : List SoundFacts) (pieces : List Piece) (range : Range) (k : ℕ)
-    → All (IsPieceOf sounds) pieces
-    → All (LiesInFiles sounds) (program_of pieces range k)
-program_inside sounds pieces range k all =
-    let from = block_start range k in
-    let n = block_frames range k in
+pub written_inside : (sounds : List SoundFacts) (from n channels : ℕ) (depth : Depth) (pieces : List Piece)
+    → All (IsPieceOf sounds) pieces → All (LiesInFiles sounds) (written from n channels depth pieces)
+written_inside sounds from n channels depth pieces all =
     let lines =
-    all_of_parts (IsPieceOf sounds) (LiesInFiles sounds) (lines_of from n range.channels)
-    (line_inside from n range.channels sounds) pieces all in
-    let emitted = All-cons (LiesInFiles sounds) (Emit range.depth) [] tt (All-nil (LiesInFiles sounds)) in
+    all_of_parts (IsPieceOf sounds) (LiesInFiles sounds) (lines_of from n channels)
+    (line_inside from n channels sounds) pieces all in
+    let emitted = All-cons (LiesInFiles sounds) (Emit depth) [] tt (All-nil (LiesInFiles sounds)) in
     All-cons (LiesInFiles sounds) (Start n) _ tt (All-append (LiesInFiles sounds) _ _ lines emitted)
+
+pub same_written : (from n channels a b c : ℕ) (depth : Depth) (pieces : List Piece) → a ≡ from → b ≡ n → c ≡ channels
+    → written a b c depth pieces ≡ written from n channels depth pieces
+same_written from n channels a b c depth pieces d e f = rw (d, e, f) refl

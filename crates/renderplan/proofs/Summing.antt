@@ -13,10 +13,11 @@ use Rattle.sound_terms.specs.Depth.{bits_of}
 use Rattle.sound_terms.specs.Mix.{Reading, share_of}
 use Rattle.sound_terms.specs.Groups.{IsBounded, IsPiece, fraction_of, holding, is_under, part_of, sum_of}
 use Rattle.sound_terms.specs.Passes.{shape_behind}
-use Rattle.sound_terms.specs.Render.{Range}
+use Rattle.sound_terms.specs.declared.Depth.{Depth}
 use Rattle.sound_terms.specs.BlockLaws.{addition_of-adding, executed-adding, executed_all-append, frames_kept}
 use Rattle.sound_terms.specs.GroupLaws.{fraction_behind}
-use Rattle.sound_terms.specs.Blocks.{BlockState, adding, block_frames, block_samples, block_start, executed_all, frame_samples, held, is_on, lines_of, mixed_block, program_of, share_at, stretch_in, PlaysFull}
+use Rattle.sound_terms.specs.Blocks.{BlockState, adding, block_samples, executed_all, frame_samples, held, is_on, lines_of, share_at, stretch_in, PlaysFull}
+use Rattle.renderplan.specs.Spans.{written}
 use Rattle.renderplan.proofs.Formed.{lines_formed}
 use Rattle.renderplan.proofs.Shares.{IsWithin, held_few, holds, part_within, within_add}
 
@@ -157,28 +158,25 @@ module _ (reading : Reading) (from n channels : ℕ) where
       (subst (λ (z : ℤ). IsWithin (m + holds p (from + i)) z) (sym first) both) in
       ap (λ (state : BlockState). state.sums i c) split ∙ rest ∙ omega (arith, ints, first)
 
--- the samples of a block are those of the mix
-pub program_sums : (reading : Reading) (pieces : List Piece) (range : Range) (k : ℕ) (start : BlockState)
-    → All (PlaysFull reading) (program_of pieces range k) → All IsPiece pieces → IsBounded 32767 pieces
-    → (executed_all reading range.channels (program_of pieces range k) start).out
-    ≡ mixed_block range (sum_of reading pieces) k
-program_sums reading pieces range k start plays all bounded =
-    let from = block_start range k in
-    let n = block_frames range k in
-    let lines = flat_map (lines_of from n range.channels) pieces in
+-- so many samples, from a time on, are those of the mix
+pub written_sums : (reading : Reading) (pieces : List Piece) (from n channels : ℕ) (depth : Depth) (start : BlockState)
+    → All (PlaysFull reading) (written from n channels depth pieces) → All IsPiece pieces → IsBounded 32767 pieces
+    → (executed_all reading channels (written from n channels depth pieces) start).out
+    ≡ block_samples (bits_of depth) (λ i channel. sum_of reading pieces channel (from + i)) channels 0 n
+written_sums reading pieces from n channels depth start plays all bounded =
+    let lines = flat_map (lines_of from n channels) pieces in
     let begun : BlockState = record start { frames = n; sums = λ i channel. pos 0 } in
-    let added : BlockState = executed_all reading range.channels lines begun in
-    let split = executed_all-append reading range.channels lines (Emit range.depth ∷ []) begun in
+    let added : BlockState = executed_all reading channels lines begun in
+    let split = executed_all-append reading channels lines (Emit depth ∷ []) begun in
     let frames : added.frames ≡ n =
-    frames_kept reading n range.channels lines begun (lines_formed from n range.channels pieces all) in
+    frames_kept reading n channels lines begun (lines_formed from n channels pieces all) in
     let full : All (PlaysFull reading) lines =
-    all_front (PlaysFull reading) lines (Emit range.depth ∷ [])
-    (All-tail (PlaysFull reading) (Start n) (lines ++ Emit range.depth ∷ []) plays) in
-    let sums : (i c : ℕ) → 0 ≤ i → i < 0 + n → 1 ≤ c → c ≤ range.channels
+    all_front (PlaysFull reading) lines (Emit depth ∷ [])
+    (All-tail (PlaysFull reading) (Start n) (lines ++ Emit depth ∷ []) plays) in
+    let sums : (i c : ℕ) → 0 ≤ i → i < 0 + n → 1 ≤ c → c ≤ channels
     → added.sums i c ≡ sum_of reading pieces c (from + i) =
-    λ i c low high first last. lines_sum reading from n range.channels pieces begun i c 0 full all (omega arith) last
+    λ i c low high first last. lines_sum reading from n channels pieces begun i c 0 full all (omega arith) last
     (omega (arith, bounded (from + i))) (omega (arith, ints), omega (arith, ints)) ∙ omega (arith, ints) in
     ap (λ (state : BlockState). state.out) split
-    ∙ ap (λ m. block_samples (bits_of range.depth) added.sums range.channels 0 m) frames
-    ∙ same_block (bits_of range.depth) added.sums (λ i channel. sum_of reading pieces channel (from + i))
-    range.channels 0 n sums
+    ∙ ap (λ m. block_samples (bits_of depth) added.sums channels 0 m) frames
+    ∙ same_block (bits_of depth) added.sums (λ i channel. sum_of reading pieces channel (from + i)) channels 0 n sums

@@ -2,3 +2,4 @@ pub mod Fault
 pub mod Planned
 pub mod Reaches
 pub mod Sources
+pub mod Spans

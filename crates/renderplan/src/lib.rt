@@ -8,6 +8,7 @@ mod lines;
 mod plan;
 mod reach;
 mod source;
+mod span;
 
 pub use fault::PlanFault;
 pub use plan::Plan;

@@ -10,6 +10,7 @@ ghost use Rattle.sound_terms.specs.Blocks.{BlockState, IsBlockProgram, LiesInFil
 ghost use Rattle.renderplan.specs.Planned.{IsPlan};
 ghost use Rattle.renderplan.specs.Sources.{IsInDay};
 ghost use Rattle.renderplan.specs.Sources as sources;
+ghost use Rattle.renderplan.specs.Spans.{written};
 
 use crate::PlanFault;
 use crate::lines::Window;
@@ -21,16 +22,16 @@ use std::alloc::{AllocError, Global};
 use std::marker::Model;
 
 /// The frames of a block; the last one may have fewer.
-const BLOCK_LENGTH: u64 = 4096;
+pub(crate) const BLOCK_LENGTH: u64 = 4096;
 
 /// A rendering of pieces, cut into blocks: the samples of a range, on channels from 1, at a depth. A clause sees all
 /// pieces, the range and the depth.
 #[derive(Drop)]
 pub struct Plan {
     pieces: Reached,
-    from: SampleTime,
-    to: SampleTime,
-    channels: u8,
+    pub(crate) from: SampleTime,
+    pub(crate) to: SampleTime,
+    pub(crate) channels: u8,
     depth: Depth,
 }
 
@@ -158,15 +159,15 @@ impl Plan {
         self.pieces.first_source(window)
     }
 
-    /// Writes the instructions of block k over those of a program that has room for them.
-    fn write_block(&self, k: u64, program: &mut Program)
-        requires there { k < block_count self.now.range }
-        requires room { length self.now.pieces + 2 ≤ program.old.room }
-        ensures program { program.new
-            ≡ record program.old { lines = program_of self.now.pieces self.now.range k } }
+    /// Writes the instructions of these samples over those of a program that has room for them.
+    pub(crate) fn write(&self, window: Window, program: &mut Program)
+        requires { length self.now.pieces + 2 ≤ program.old.room }
+        ensures program { program.new ≡ record program.old {
+          lines = written window.from window.frames window.channels
+              self.now.range.depth self.now.pieces;
+        } }
         ensures planned { IsPlan self.now }
     {
-        let window = self.window_of(k);
         program.clear();
         program.push(Instruction::Start {
             frames: window.frames,
@@ -190,7 +191,7 @@ impl Plan {
         ensures inside { (sounds : List SoundFacts) → All (IsPieceOf sounds) self.now.pieces
             → All (LiesInFiles sounds) program.new.lines }
     {
-        self.write_block(k, program);
+        self.write(self.window_of(k), program);
     }
 
     /// The program of block k, counted from 0, with room for that of any other block.

@@ -25,22 +25,22 @@ returns c =
     let stretch = c.in_ok-stretch.stretch in
     let same = c.if-ne.ensures in
     let at : stretch.at ≡ 0 = grind (arith, nat_tests) in
-    let long : stretch.length ≡ c.args.lanes.frames = grind (arith, nat_tests) in
+    let long : stretch.length ≡ c.args.frames = grind (arith, nat_tests) in
     let first : stretch.first ≡ 1 = grind (arith, nat_tests) in
     let dest : stretch.dest ≡ 1 = grind (arith, nat_tests) in
-    let wide : stretch.width ≡ c.args.lanes.channels = grind (arith, nat_tests) in
+    let wide : stretch.width ≡ c.args.format.channels = grind (arith, nat_tests) in
     let lines : c.args.lines.now ≡ Flat stretch ∷ [] =
     alone c.args.lines.now (Flat stretch) (omega (arith, c.in-len1.len_at_least, c.in-len1.len_below))
     c.in_ok-stretch.ensures in
     let found = c.in_ok-sound.ensures.lookup in
     let below : stretch.file < length c.args.sounds.now = grind (arith, nat_tests, found.0) in
-    let parts : stretch ≡ filling stretch.file stretch.frame c.args.lanes.frames c.args.lanes.channels =
-    by_parts stretch 0 c.args.lanes.frames 1 1 c.args.lanes.channels at long first dest wide in
+    let parts : stretch ≡ filling stretch.file stretch.frame c.args.frames c.args.format.channels =
+    by_parts stretch 0 c.args.frames 1 1 c.args.format.channels at long first dest wide in
     record {
       alone = lines ∙ ap (λ (s : Stretch). Flat s ∷ []) parts;
       whole = refl;
       facts = c.in_ok-sound.sound.now;
       there = slice_get_read c.args.sounds.now (length c.args.sounds.now) stretch.file c.in_ok-sound.sound.now refl below found.1;
-      channels_alike = sym c.channels.ensures.channels ∙ c.if-channels-lanes.false;
+      channels_alike = sym c.channels.ensures.channels ∙ c.if-channels-format.false;
       depth_alike = grind arith;
     }

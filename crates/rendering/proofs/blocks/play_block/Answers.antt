@@ -1,4 +1,4 @@
-use Rattle.std.proofs.Common.{◌≡◌, ◌∙◌, ◌*◌, ◌≤◌, ℕ, [], ap, arith, length, subst, sym}
+use Rattle.std.proofs.Common.{◌≡◌, ◌∙◌, ◌+◌, ◌-◌, ◌*◌, ◌≤◌, ℕ, [], ap, arith, length, subst, sym}
 use Rattle.std.proofs.Math.Nat.{mul-le-mul_right}
 use Rattle.std.proofs.lemmas.List.{length-take-le}
 use Rattle.std.specs.List.{All}
@@ -9,7 +9,8 @@ use Rattle.sound_terms.specs.Mix.{Reading}
 use Rattle.sound_terms.specs.Sounds.{reading_by}
 use Rattle.blockmachine.specs.Sums.{Extent}
 use Rattle.rendering.specs.Work.{heard}
-use Rattle.rendering.proofs.Clipped.{block_clips}
+use Rattle.rendering.specs.Written.{frames_before}
+use Rattle.rendering.proofs.Clipped.{blocks_clips}
 use Rattle.rendering.proofs.blocks.play_block.Goals as goal
 
 pub run_packed-requires-clause-inside : goal.run_packed-requires-clause-inside
@@ -45,10 +46,13 @@ returns-in-Ok-clause-clips g c = λ honest.
     subst (λ (x : ℕ). x ≤ length c.args.samples.now) (sym size)
     (subst (λ (x : ℕ). block_frames range c.args.k * m ≤ x)
     (sym (c.requires.ready.samples ∙ ap (λ (x : ℕ). 4096 * x) (sym wide))) (mul-le-mul_right m most)) in
-    block_clips range (heard c.args.plan.now c.args.sounds.now (g.S.Shelf.stored c.args.shelf.now)) reading
-    c.args.plan.now.pieces c.args.k start c.args.machine.now.channels c.format-format.result.depth c.fill.new.program.lines
-    c.in-Ok.clips wide (ap (λ (f : Format). f.depth) c.format-format.ensures.format) are c.requires.room.there
+    let count : block_frames range c.args.k ≡ frames_before range (c.args.k + 1) - frames_before range c.args.k =
+    omega (arith, c.requires.room.there) in
+    blocks_clips range (heard c.args.plan.now c.args.sounds.now (g.S.Shelf.stored c.args.shelf.now)) reading
+    (program_of c.args.plan.now.pieces range c.args.k) c.args.k (c.args.k + 1) start c.args.machine.now.channels
+    (block_frames range c.args.k) c.format-format.result.depth c.fill.new.program.lines c.in-Ok.clips wide
+    (ap (λ (f : Format). f.depth) c.format-format.ensures.format) are count
     (λ i channel below few. c.sums_exactly.ensures reading c.args.k
-    (subst (All (PlaysFull reading)) are (c.in-Ok.ensures.full honest)) start i channel below few)
+    (subst (All (PlaysFull reading)) are (c.in-Ok.ensures.full honest)) start i channel (omega (arith, below, count)) few)
     (c.in-Ok.ensures.clips honest (block_frames range c.args.k) start
     (length-take-le (c.frames_of.result * c.from.result) c.args.samples.now room ∙ size))

@@ -1,81 +1,62 @@
-use Rattle.std.proofs.Common.{◌≡◌, ◌<◌, ◌≤◌, List, [], ◌∷◌, ◌++◌, ◌+◌, ◌-◌, ◌*◌, ◌/◌, ◌%◌, ◌^◌, false, get_or, length, take, arith, rules, sym, ap, ◌∙◌, subst}
-use Rattle.std.specs.Prelude.{ℤ, pos}
-use Rattle.std.proofs.Math.Nat.{mul-le-mul_right}
-use Rattle.std.proofs.lemmas.Int.{to_z-of_z}
-use Rattle.std.proofs.lemmas.List.{length-take-le, take_more}
-use Rattle.std.proofs.lemmas.List.Elements.{All-nil}
-use Rattle.std.proofs.lemmas.Nat.{div-add-mod', mod_below}
-use mir.Syntax.{w64}
-use mir.Val.{SFits}
+use Rattle.std.proofs.Common.{◌≡◌, ◌≤◌, ◌/◌, ◌*◌, ℕ, List, length, take, arith, sym, ap, ◌∙◌, subst}
+use Rattle.std.specs.Prelude.{ℤ}
+use Rattle.std.proofs.Math.Nat.{mul-div_left, mul-le-mul_right}
+use Rattle.std.proofs.lemmas.List.{length-take-le, take-map}
 use Rattle.sound_terms.specs.Depth.{bits_of}
-use Rattle.clipping.specs.Clips.{IsClippingOf, block_sums, is_clipped}
-use Rattle.blockmachine.specs.Sums.{BlockSums}
-use Rattle.blockmachine.proofs.Emitted.{near, room}
-use Rattle.blockmachine.proofs.UnclippedSums.{block_mapped, frames_taken, length-kept, none_clipped}
+use Rattle.sound_terms.specs.Mix.{full_scale}
+use Rattle.clipping.specs.Clips.{IsClippingOf, block_sums}
+use Rattle.blockmachine.specs.Sums.{BlockSums, kept_sums, widened}
+use Rattle.blockmachine.proofs.UnclippedSums.{block_taken, length-kept}
 use Rattle.blockmachine.proofs.sums.Sums.clips.Goals as goal
 
-pub loop-k-init : goal.loop-k-init
-loop-k-init c =
-    c.none-clips.ensures (bits_of c.args.depth) c.args.self.now.extent.channels []
-    (All-nil (λ sum. is_clipped (bits_of c.args.depth) sum ≡ false))
+-- a whole number of frames
+whole_frames : (n taken frames channels : ℕ) → taken ≡ n → n ≡ frames * channels → 1 ≤ channels
+    → taken / channels * channels ≡ taken
+whole_frames n taken frames channels same is some =
+    ap (λ m. m / channels * channels) (same ∙ is) ∙ ap (λ m. m * channels) (mul-div_left frames some) ∙ sym (same ∙ is)
 
-pub loop-k-preserved : goal.loop-k-preserved
-loop-k-preserved c =
-    let n = c.loop-k.k in
+pub invariant_of-of_kept : goal.invariant_of-of_kept
+invariant_of-of_kept c =
     let inside = c.self.inside in
-    let values = c.args.self.now.values in
-    let channels = c.args.self.now.extent.channels in
-    let frames = c.args.self.now.extent.frames in
-    let wide : inside.lanes.channels ≡ channels = ap (λ (s : BlockSums). s.extent.channels) c.self.view_is in
-    let whole : length values ≡ frames * channels =
+    let wide = ap (λ (s : BlockSums). s.extent.channels) c.self.view_is in
+    let frames = ap (λ (s : BlockSums). s.extent.frames) c.self.view_is in
+    let n = length c.args.samples.now in
+    let long : n ≡ c.requires.0 * inside.lanes.channels =
+    c.requires.2 ∙ ap (λ m. c.requires.0 * m) (sym wide) in
+    let layers : length c.deref.result.now ≡ inside.lanes.frames * inside.lanes.channels =
+    ap length c.deref.ensures.value ∙ c.self.invariant.1 in
+    let row : c.requires.0 * inside.lanes.channels ≤ inside.lanes.frames * inside.lanes.channels =
+    mul-le-mul_right inside.lanes.channels (omega (arith, c.requires.1, frames)) in
+    record {
+      some_channels = inside.lanes.some_channels;
+      few_channels = inside.lanes.few_channels;
+      whole =
+          whole_frames n (length (take n c.deref.result.now)) c.requires.0 inside.lanes.channels
+          (length-take-le n c.deref.result.now (omega (arith, long, layers, row))) long inside.lanes.some_channels;
+    }
+
+pub returns-then-bits : goal.returns-then-bits
+returns-then-bits c = λ all are frames long handed.
+    let kept = c.args.self.now in
+    let inside = c.self.inside in
+    let bits = bits_of c.args.depth in
+    let whole : length kept.values ≡ kept.extent.frames * kept.extent.channels =
     sym (ap (λ (s : BlockSums). length s.values) c.self.view_is)
     ∙ length-kept inside.at_depth (bits_of inside.depth) (inside.lanes.frames * inside.lanes.channels)
     inside.layers.items inside.values.items c.self.invariant.1 c.self.invariant.0
     ∙ ap (λ (s : BlockSums). s.extent.frames * s.extent.channels) c.self.view_is in
-    let most = room (length c.args.samples.now) c.requires.0 frames channels c.requires.1 c.requires.2 in
-    let within : n < length values = omega (arith, whole, most, c.loop-k-test.true) in
-    let row : n ≡ n / channels * channels + n % inside.lanes.channels =
-    sym (div-add-mod' n channels) ∙ ap (λ m. n / channels * channels + n % m) (sym wide) in
-    let near : n % inside.lanes.channels < channels =
-    subst (λ m. n % inside.lanes.channels < m) wide (mod_below n inside.lanes.channels inside.lanes.some_channels) in
-    let few : frames * channels ≤ 4096 * channels =
-    mul-le-mul_right channels (omega (arith, inside.lanes.few_frames, ap (λ (s : BlockSums). s.extent.frames) c.self.view_is)) in
-    let small : n + 1 < 2 ^ 64 = omega (arith, few, most, wide, inside.lanes.few_channels, c.loop-k-test.true) in
-    let fits : SFits w64 c.sum_at.result = search rules in
-    let noted =
-    c.note.ensures channels (n / channels) (take n values) row near (length-take-le n values (omega (arith, within)))
-    small c.loop-k.invariant in
-    subst (λ (l : List ℤ). IsClippingOf (bits_of c.args.depth) channels l c.note.new.self)
-    (ap (λ z. take n values ++ z ∷ []) (to_z-of_z w64 c.sum_at.result fits ∙ c.sum_at.ensures)
-    ∙ sym (take_more values n (pos 0) within)) noted
-
-pub returns : goal.returns
-returns c = λ all are frames long handed.
-    let extent = c.args.self.now.extent in
-    let channels = extent.channels in
-    let inside = c.self.inside in
-    let values = c.args.self.now.values in
-    let count : frames * channels ≡ c.requires.0 * channels = sym long ∙ c.requires.2 in
-    let most = room (frames * channels) c.requires.0 extent.frames channels c.requires.1 count in
-    let whole : length values ≡ extent.frames * channels =
-    sym (ap (λ (s : BlockSums). length s.values) c.self.view_is)
-    ∙ length-kept inside.at_depth (bits_of inside.depth) (inside.lanes.frames * inside.lanes.channels)
-    inside.layers.items inside.values.items c.self.invariant.1 c.self.invariant.0
-    ∙ ap (λ (s : BlockSums). s.extent.frames * s.extent.channels) c.self.view_is in
-    let all_noted : c.loop-k.k ≡ length c.args.samples.now = omega (arith, c.loop-k-test.false, c.loop-k.auto.k-end) in
-    let taken : take (frames * channels) values ≡ block_sums all channels 0 frames =
-    frames_taken all channels frames values (omega (arith, most, whole)) (λ i j below on.
-    let same : 1 + j - 1 ≡ j = omega arith in
-    sym (are i (1 + j) (near i frames c.requires.0 extent.frames channels j on c.requires.1 below (sym count))
-    (omega arith) (omega (arith, on)))
-    ∙ ap (λ n. get_or values (i * channels + n) (pos 0)) same) frames (omega arith) in
-    subst (λ (l : List ℤ). IsClippingOf (bits_of c.args.depth) channels l c.loop-k.clips)
-    (ap (λ n. take n values) (all_noted ∙ long) ∙ taken) c.loop-k.invariant
-
-pub returns-then-not-may_be_clipped : goal.returns-then-not-may_be_clipped
-returns-then-not-may_be_clipped c = λ all are frames long handed.
-    let channels = c.args.self.now.extent.channels in
-    c.none-clips.ensures (bits_of c.args.depth) channels (block_sums all channels 0 frames)
-    (none_clipped c.args.depth (block_sums all channels 0 frames) c.args.samples.now
-    (handed ∙ block_mapped (bits_of c.args.depth) all channels 0 frames)
-    (c.may_be_clipped.ensures c.if-not-may_be_clipped.true))
+    let wide = ap (λ (s : BlockSums). s.extent.channels) c.self.view_is in
+    let same : bits_of inside.depth ≡ bits =
+    sym c.bits.ensures ∙ c.if-bits.true ∙ c.bits-then-self.ensures in
+    let layers = c.deref.result.now in
+    let values : widened bits layers ≡ kept.values =
+    ap (widened bits) c.deref.ensures.value
+    ∙ ap (λ n. widened n inside.layers.items) (sym same)
+    ∙ ap (λ b. kept_sums b (bits_of inside.depth) inside.layers.items inside.values.items) (sym c.if-self.true)
+    ∙ ap (λ (s : BlockSums). s.values) c.self.view_is in
+    let taken = block_taken kept all are whole frames c.requires.0 c.requires.1 (sym long ∙ c.requires.2) in
+    subst (λ n. IsClippingOf bits n (block_sums all kept.extent.channels 0 frames) c.of_kept.result) wide
+    (subst (λ (l : List ℤ). IsClippingOf bits inside.lanes.channels l c.of_kept.result)
+    (sym (take-map (full_scale bits) (length c.args.samples.now) layers)
+    ∙ ap (λ (l : List ℤ). take (length c.args.samples.now) l) values
+    ∙ ap (λ n. take n kept.values) long ∙ taken) c.of_kept.ensures)
