@@ -8,14 +8,8 @@ use Rattle.execution.specs.Noted.{IsNoted, KeepsNotes}
 use Rattle.execution.specs.View.{ExecutionView, hands_at}
 use Rattle.job_terms.specs.Board.{is_finished}
 use Rattle.job_terms.specs.Workers.{Nothing}
-use Rattle.list_terms.specs.Accepted.{OptionValues, range_of}
-use Rattle.list_terms.specs.Binding.{Binding}
-use Rattle.list_terms.specs.Heard.{project_mix}
-use Rattle.list_terms.specs.Project.{ListProject}
-use Rattle.rendering.specs.Clipping.{ClipsUnmarked}
+use Rattle.rendering.specs.Clipping.{ClipsUnmarked, marked_in}
 use Rattle.rendering.specs.ClippingLaws.{clips_same}
-use Rattle.rendering.specs.Planned.{IsRenderingOf}
-use Rattle.rendering.specs.declared.cutting.JobLength.{JobLength}
 use Rattle.renderplan.specs.Planned.{Planned}
 use Rattle.sound_terms.specs.Render.{Range}
 use Rattle.sound_terms.specs.Sounds.{SoundFacts}
@@ -24,6 +18,8 @@ use Rattle.rendering.specs.Maker.{HasClips, IsReopened, plan_of}
 use Rattle.rendering.specs.Marked.{MarkedWork}
 use Rattle.rendering.specs.Work.{RenderWork, done_before, heard}
 use Rattle.work_terms.specs.Disk.{Files}
+use Rattle.consolidate.specs.Listed.{IsPlannedAs, marks_in, mix_in, range_in}
+use Rattle.consolidate.specs.declared.requested.Listed.{Listed}
 
 -- what a work that has noted its open jobs makes of it
 abbrev pub Counts : MarkedWork → Clips → Type 0
@@ -61,25 +57,24 @@ clips_of x run new sources marked clips is idle count undone notes finished size
           | inr note ↦ note
         ]
 
--- of what was planned for a project
-pub listed_clips : (jobs : JobLength) (project : ListProject) (binding : Binding) (values : OptionValues)
-    (x : MarkedWork) (sources : Files) (marked : List Bool) (clips : Clips)
-    → IsRenderingOf jobs project binding values x.work
+-- of what was planned for what is asked for
+pub listed_clips : (listed : Listed) (x : MarkedWork) (sources : Files) (marked : List Bool) (clips : Clips)
+    → IsPlannedAs listed x.work
     → ClipsUnmarked marked x.work.planned.range (heard x.work.planned x.work.sounds sources) clips
-    → ClipsUnmarked marked (range_of project values) (project_mix sources project binding) clips
-listed_clips jobs project binding values x sources marked clips of h =
-    subst (λ (r : Range). ClipsUnmarked marked r (project_mix sources project binding) clips) of.range
-    (clips_same marked x.work.planned.range (heard x.work.planned x.work.sounds sources)
-    (project_mix sources project binding) clips (of.heard_as sources) h)
+    → ClipsUnmarked marked (range_in listed) (mix_in listed sources) clips
+listed_clips listed x sources marked clips of h =
+    subst (λ (r : Range). ClipsUnmarked marked r (mix_in listed sources) clips) of.range
+    (clips_same marked x.work.planned.range (heard x.work.planned x.work.sounds sources) (mix_in listed sources) clips
+    (of.heard_as sources) h)
 
--- and opened again
-pub reopened_clips : (jobs : JobLength) (project : ListProject) (binding : Binding) (values : OptionValues)
-    (was x : MarkedWork) (sources : Files) (marked : List Bool) (clips : Clips)
-    → IsRenderingOf jobs project binding values was.work → IsReopened was x
+-- and opened again, as it is marked
+pub reopened_clips : (listed : Listed) (was x : MarkedWork) (sources outputs : Files) (marked : List Bool) (clips : Clips)
+    → IsPlannedAs listed was.work → IsReopened was x → marked_in (marks_in listed outputs) ≡ marked
     → ClipsUnmarked marked x.work.planned.range (heard x.work.planned x.work.sounds sources) clips
-    → ClipsUnmarked marked (range_of project values) (project_mix sources project binding) clips
-reopened_clips jobs project binding values was x sources marked clips of back h =
-    listed_clips jobs project binding values was sources marked clips of
+    → ClipsUnmarked (marked_in (marks_in listed outputs)) (range_in listed) (mix_in listed sources) clips
+reopened_clips listed was x sources outputs marked clips of back is h =
+    subst (λ (b : List Bool). ClipsUnmarked b (range_in listed) (mix_in listed sources) clips) (sym is)
+    (listed_clips listed was sources marked clips of
     (subst (λ (p : Planned). ClipsUnmarked marked p.range (heard p was.work.sounds sources) clips) back.planned
     (subst (λ (s : List SoundFacts). ClipsUnmarked marked x.work.planned.range (heard x.work.planned s sources) clips)
-    back.sounds h))
+    back.sounds h)))

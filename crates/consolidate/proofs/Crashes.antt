@@ -1,5 +1,5 @@
 -- What a crash leaves, call after call.
-use Rattle.std.proofs.Common.{ℕ, ◌≤◌, inl, inr, arith}
+use Rattle.std.proofs.Common.{ℕ, inl, inr, arith}
 use Rattle.work_terms.specs.Disk.{Files, LeavesOnly}
 
 module _ {D : Type 0} (moment : D → ℕ) (left_since : D → ℕ → Files → Type 0) where
@@ -27,17 +27,3 @@ module _ {D : Type 0} (moment : D → ℕ) (left_since : D → ℕ → Files →
   pub idle : (b : D) (P : Files → Type 0) → ((c : Files) → left_since b (moment b) c → P c)
       → LeavesOnly moment left_since b b P
   idle b P each = record { later = omega arith; each = each; before = λ t c early l. inl l }
-
-  -- this moment is one of them
-  pub left_now : (old new : D) (P outcomes : Files → Type 0)
-      → ((t : ℕ) (c : Files) → t ≤ moment new → outcomes c → left_since new t c)
-      → LeavesOnly moment left_since old new P → (c : Files) → outcomes c → P c
-  left_now old new P outcomes counts h c left = h.each c (counts (moment old) c h.later left)
-
-  -- a call that wrote nothing, behind others
-  pub joined_idle : (old mid new : D) (P outcomes : Files → Type 0)
-      → ((t : ℕ) (c : Files) → t ≤ moment mid → outcomes c → left_since mid t c)
-      → LeavesOnly moment left_since old mid P → LeavesOnly moment left_since mid new outcomes
-      → LeavesOnly moment left_since old new P
-  joined_idle old mid new P outcomes counts one other =
-      joined old mid new P outcomes (left_now old mid P outcomes counts one) one other

@@ -1,8 +1,10 @@
+mod Answered
 mod Clipped
 pub mod Crashes
 pub mod Due
 mod First
 pub mod Listed
+mod MediaAnswered
 mod MediaCalls
 mod MediaFaults
 mod OfProject

@@ -7,18 +7,17 @@ use Rattle.list_terms.specs.Accepted.{OptionValues, range_of}
 use Rattle.list_terms.specs.Binding.{Binding}
 use Rattle.list_terms.specs.Heard.{IsAccepted, project_mix}
 use Rattle.list_terms.specs.Project.{ListProject}
-use Rattle.markfile.specs.Format.{marks_name}
 use Rattle.markfile.specs.Started.{NoneStarted, is_started}
 use Rattle.markfile.specs.declared.run.RunId.{RunId}
 use Rattle.rendering.specs.Marked as rendering
 use Rattle.rendering.specs.Maker.{marks_of}
-use Rattle.rendering.specs.Marked.{IsLeftByRun, IsResumable, MarkedWork, full_marks, run_of}
+use Rattle.rendering.specs.Marked.{IsLeftByRun, IsResumable, MarkedWork, run_of}
 use Rattle.execution.specs.Marking.{AreTrueMarks, Marking}
-use Rattle.rendering.specs.Planned.{IsRenderingOf}
-use Rattle.rendering.specs.declared.cutting.JobLength.{JobLength}
 use Rattle.rendering.specs.Rendering as rendering_file
 use Rattle.rendering.specs.Work.{whole_of}
-use Rattle.consolidate.specs.Marks.{HoldsMarked, IsLeftByRendering, IsLeftOf, IsMarkedFor, file_marking, list_marking}
+use Rattle.consolidate.specs.Listed.{IsMarkedIn, IsPlannedAs, marking_in, mix_in, range_in}
+use Rattle.consolidate.specs.Marks.{HoldsMarked, IsLeftByRendering, IsLeftOf, file_marking, list_marking}
+use Rattle.consolidate.specs.declared.requested.Listed.{Listed}
 use Rattle.consolidate.proofs.Crashes.{weaker}
 use Rattle.consolidate.proofs.Due.{one_accepted}
 
@@ -26,9 +25,6 @@ apart : true ≡ false → ⊥
 apart h = cc
 
 -- where no marks are started
-pub none_resumable : (m : Marking) (c : Files) → is_started (c m.marks) ≡ false → IsResumable m c
-none_resumable m c none started = absurd (apart (sym started ∙ none))
-
 pub none_left : (m : Marking) (outcomes : Files → Type 0)
     → ((c : Files) → outcomes c → is_started (c m.marks) ≡ false) → IsLeftByRun m outcomes
 none_left m outcomes none c d at other started = absurd (apart (sym started ∙ none c at))
@@ -47,28 +43,28 @@ fewer_left m old new back left c d at other = left c d (back c at) (back d other
 pub same_spelt : (p q : ListProject) (read : Result ListProject Refusal) → read ≡ Ok p → read ≡ Ok q → p ≡ q
 same_spelt p q read one other = let both = sym one ∙ other in cc
 
--- a plan of what was chosen of a project
-pub marked_for : (jobs : JobLength) (text : List ℕ) (project : ListProject) (binding : Binding) (values : OptionValues)
-    (marked : MarkedWork) → IsRenderingOf jobs project binding values marked.work
-    → marked.run ≡ run_of text marked.work.planned.range → IsMarkedFor text project binding values marked
-marked_for jobs text project binding values marked of run = record {
+-- a plan of what is asked for
+pub marked_in : (listed : Listed) (marked : MarkedWork) → IsPlannedAs listed marked.work
+    → marked.run ≡ run_of listed.list.now marked.work.planned.range → IsMarkedIn listed marked
+marked_in listed marked of run = record {
   range = of.range;
   whole = of.whole;
   reads_back = of.reads_back;
-  run = run ∙ ap (λ (r : Range). run_of text r) of.range;
+  run = run ∙ ap (λ (r : Range). run_of listed.list.now r) of.range;
 }
 
-module _ (text : List ℕ) (project : ListProject) (binding : Binding) (values : OptionValues) (marked : MarkedWork)
-    (of : IsMarkedFor text project binding values marked) (sources : Files) where
+module _ (listed : Listed) (marked : MarkedWork) (of : IsMarkedIn listed marked) (sources : Files) where
+  -- the plan's file is the list's
+  pub same_file : file_marking marked.work.planned.range (whole_of marked.work sources) marked.run
+      ≡ marking_in listed sources
+  same_file = ap (λ (r : Range). file_marking r (whole_of marked.work sources) marked.run) of.range
+      ∙ ap (λ (w : List ℕ). file_marking (range_in listed) w marked.run) (of.whole sources)
+      ∙ ap (λ (r : RunId). file_marking (range_in listed) (rendering_of (range_in listed) (mix_in listed sources)) r)
+      of.run
+
   -- marks that are true of the plan's file are true of the list's
-  as_list_true : (c d : Files) → AreTrueMarks (marks_of marked sources) c d
-      → AreTrueMarks (list_marking text values sources project binding) c d
-  as_list_true c d t = subst (λ (r : RunId). AreTrueMarks (file_marking (range_of project values)
-      (rendering_of (range_of project values) (project_mix sources project binding)) r) c d) of.run
-      (subst (λ (w : List ℕ). AreTrueMarks (file_marking (range_of project values) w marked.run) c d)
-      (of.whole sources)
-      (subst (λ (r : Range). AreTrueMarks (file_marking r (whole_of marked.work sources) marked.run) c d) of.range
-      as_file))
+  as_list_true : (c d : Files) → AreTrueMarks (marks_of marked sources) c d → AreTrueMarks (marking_in listed sources) c d
+  as_list_true c d t = subst (λ (m : Marking). AreTrueMarks m c d) same_file as_file
     where
       as_file : AreTrueMarks (file_marking marked.work.planned.range (whole_of marked.work sources) marked.run) c d
       as_file = record {
@@ -83,12 +79,11 @@ module _ (text : List ℕ) (project : ListProject) (binding : Binding) (values :
       }
 
   -- a crash leaves of the plan's file what it leaves of the list's
-  pub as_list : (c : Files) → IsResumable (marks_of marked sources) c
-      → IsResumable (list_marking text values sources project binding) c
+  pub as_list : (c : Files) → IsResumable (marks_of marked sources) c → IsResumable (marking_in listed sources) c
   as_list c left started = as_list_true c c (left started)
 
   pub left_as_list : (outcomes : Files → Type 0) → IsLeftByRun (marks_of marked sources) outcomes
-      → IsLeftByRun (list_marking text values sources project binding) outcomes
+      → IsLeftByRun (marking_in listed sources) outcomes
   left_as_list outcomes left c d at other started = as_list_true c d (left c d at other started)
 
 -- the file is the rendering
@@ -149,10 +144,6 @@ pub now_left : (text : List ℕ) (values : OptionValues) (sources : Files) (outc
 now_left text values sources outcomes left c at project binding accepted = left project binding accepted c c at at
 
 -- where no marks are started
-pub unstarted_left : (text : List ℕ) (values : OptionValues) (sources c : Files) → is_started (c marks_name) ≡ false
-    → IsLeftOf text values sources c
-unstarted_left text values sources c none project binding accepted started = absurd (apart (sym started ∙ none))
-
 pub unstarted_outcomes : (text : List ℕ) (values : OptionValues) (sources : Files) (outcomes : Files → Type 0)
     → NoneStarted outcomes → IsLeftByRendering text values sources outcomes
 unstarted_outcomes text values sources outcomes none project binding accepted =

@@ -320,18 +320,19 @@ module _ (plan : MediaPlan) (names : AreNamedOutputs plan) where
           let same = ap last_count matches in omega (arith, some, same, many)
 
   -- or where jobs remain
-  pub list_before : (media : ℕ) (board : Board) (s : SourceView) (o : OutputView) (new : Snapshot)
+  pub list_before : (media : ℕ) (reported : Bool) (board : Board) (s : SourceView) (o : OutputView) (new : Snapshot)
       (result : Result Progress Fault) (ended : Result Progress ExecutionFault) → media ≡ length plan.runs
-      → is_some plan.report ≡ false
-      → AnswersAs (consolidation_fault media false) (λ answer progress. answer ≡ progress) result ended
+      → is_some plan.report ≡ reported
+      → AnswersAs (consolidation_fault media reported) (λ answer progress. answer ≡ progress) result ended
       → IsBounded (snapshot_of (job_plan plan) board 0 s o) new ended → IsTrue o.honest
       → BeforeList result (new.output.files (codes "consolidated.adl") ≡ o.files (codes "consolidated.adl"))
-  list_before media board s o new (Ok answer) (Ok progress) many none answers bounded right = λ unfinished.
+  list_before media reported board s o new (Ok answer) (Ok progress) many matches answers bounded right = λ unfinished.
       stays_before board s o new (Ok progress) ((job_plan plan).outputs - 1) (codes "consolidated.adl") bounded right
       list_last list_at.1 (sym (ap (λ (p : Progress). p.finished) answers) ∙ unfinished)
-  list_before media board s o new (Ok answer) (Err of) many none answers bounded right = absurd answers
-  list_before media board s o new (Err failure) ended many none answers bounded right =
-      list_kept Progress (λ answer progress. answer ≡ progress) media false board s o new (Err failure) ended many none answers
+  list_before media reported board s o new (Ok answer) (Err of) many matches answers bounded right = absurd answers
+  list_before media reported board s o new (Err failure) ended many matches answers bounded right =
+      list_kept Progress (λ answer progress. answer ≡ progress) media reported board s o new (Err failure) ended many
+      matches answers
       bounded right
 
   -- and the report, where another came before it

@@ -1,5 +1,5 @@
 -- Which fault stands for one of the execution of a consolidation.
-use Rattle.std.proofs.Common.{◌≡◌, ◌≢◌, ◌∙◌, ℕ, zero, suc, ◌+◌, ◌-◌, ◌<◌, ◌≤◌, Bool, true, false, Err, arith, refl, sym, ap}
+use Rattle.std.proofs.Common.{◌≡◌, ◌≢◌, ◌∙◌, ℕ, zero, suc, ◌+◌, ◌-◌, ◌<◌, ◌≤◌, Bool, true, false, Err, arith, refl, ap}
 use Rattle.std.proofs.Common as bytes
 use Rattle.std.specs.Prelude.{cond, nat_lt}
 use Rattle.std.proofs.lemmas.Bool.Decides.{nat_tests}
@@ -50,36 +50,20 @@ pub of_execution : (text : bytes.List ℕ) (media : ℕ) (reported : Bool) (of :
     → of ≢ cause.JobMemory → IsOfConsolidation reported text (consolidation_fault media reported of)
 of_execution text media reported cause.Memory no_position no_room = absurd (no_position refl)
 of_execution text media reported cause.JobMemory no_position no_room = absurd (no_room refl)
-of_execution text media reported (cause.GivenUp job) no_position no_room = tt
-of_execution text media reported cause.Mark no_position no_room = tt
 of_execution text media reported (cause.Output number) no_position no_room = file_own media reported number
+of_execution text media reported _ no_position no_room = tt
 
 -- or of its schedule
 pub of_events : (text : bytes.List ℕ) (media : ℕ) (of : ExecutionFault)
     → IsOfConsolidationSchedule text (consolidation_fault media false of)
-of_events text media cause.Memory = tt
-of_events text media cause.JobMemory = tt
-of_events text media (cause.GivenUp job) = tt
-of_events text media cause.Mark = tt
 of_events text media (cause.Output number) = file_own media false number
+of_events text media _ = tt
 
--- it comes after the first write
-pub comes_late : (media : ℕ) (reported : Bool) (of : ExecutionFault)
-    → (refusal_of (consolidation_fault media reported of)).late ≡ true
-comes_late media reported cause.Memory = refl
-comes_late media reported cause.JobMemory = refl
-comes_late media reported (cause.GivenUp job) = refl
-comes_late media reported cause.Mark = refl
-comes_late media reported (cause.Output number) = refl
-
--- and may come where nothing is due
+-- it may come where nothing is due
 pub may_come : (media : ℕ) (reported : Bool) (of : ExecutionFault)
     → IsDue (refusal_of (consolidation_fault media reported of)) bytes.None
 may_come media reported cause.Memory = tt
-may_come media reported cause.JobMemory = tt
-may_come media reported (cause.GivenUp job) = tt
-may_come media reported cause.Mark = tt
-may_come media reported (cause.Output number) = tt
+may_come media reported _ = tt
 
 last_some : (reported : Bool) → 1 ≤ last_count reported
 last_some false = omega arith
@@ -100,10 +84,6 @@ file_at media reported number b is =
 -- where it isn't the list that can't be written, the list wasn't begun
 pub before_list : (media : ℕ) (reported : Bool) (of : ExecutionFault) (i : ℕ) → i + 1 ≡ media + last_count reported
     → consolidation_fault media reported of ≢ fault.Output file.List → IsBefore (Err of) i
-before_list media reported cause.Memory i last other = tt
-before_list media reported cause.JobMemory i last other = tt
-before_list media reported (cause.GivenUp job) i last other = tt
-before_list media reported cause.Mark i last other = tt
 before_list media reported (cause.Output number) i last other = by_test (nat_lt number media) refl where
   by_test : (b : Bool) → nat_lt number media ≡ b → number < i
   by_test true is = let below : number < media = grind (arith, nat_tests, is) in
@@ -113,14 +93,11 @@ before_list media reported (cause.Output number) i last other = by_test (nat_lt 
       let before = last_before reported (number - media)
       (λ e. other (ap (λ (f : OutputFile). fault.Output f) (file_at media reported number false is ∙ e))) in
       omega (arith, from, before, last)
+before_list media reported _ i last other = tt
 
 -- nor the report, where it is neither
 pub before_report : (media : ℕ) (of : ExecutionFault) → consolidation_fault media true of ≢ fault.Output file.List
     → consolidation_fault media true of ≢ fault.Output file.Report → IsBefore (Err of) (media + 1)
-before_report media cause.Memory no_list no_report = tt
-before_report media cause.JobMemory no_list no_report = tt
-before_report media (cause.GivenUp job) no_list no_report = tt
-before_report media cause.Mark no_list no_report = tt
 before_report media (cause.Output number) no_list no_report = by_test (nat_lt number media) refl where
   first : (position : ℕ) → last_output true position ≢ file.List → last_output true position ≢ file.Report
       → position ≡ 0
@@ -136,3 +113,4 @@ before_report media (cause.Output number) no_list no_report = by_test (nat_lt nu
       let sums = first (number - media) (λ e. no_list (ap (λ (f : OutputFile). fault.Output f) (at ∙ e)))
       (λ e. no_report (ap (λ (f : OutputFile). fault.Output f) (at ∙ e))) in
       omega (arith, from, sums)
+before_report media _ no_list no_report = tt

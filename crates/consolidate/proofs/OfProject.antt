@@ -19,7 +19,7 @@ use Rattle.list_terms.specs.Project.{ListProject}
 use Rattle.sound_terms.specs.Sounds.{SoundFacts}
 use Rattle.passes.specs.Left.{Leaving}
 use Rattle.execution.specs.Boards.{fresh_board}
-use Rattle.execution.specs.EventRun.{snapshot_of}
+use Rattle.execution.specs.EventRun.{Snapshot, snapshot_of}
 use Rattle.execution.specs.Outcome.{IsFresh, Outcome}
 use Rattle.execution.specs.Plan.{AreBlank, HoldJobs, HoldLast, IsForeign}
 use Rattle.execution.specs.declared.fault.ExecutionFault.{ExecutionFault}
@@ -36,13 +36,13 @@ use Rattle.consolidation.specs.declared.written.Written.{Written}
 use Rattle.consolidate.specs.Commands.{KeepsStores}
 use Rattle.consolidate.specs.Fault.{refusal_of}
 use Rattle.consolidate.specs.MediaOutcome.{ConsolidatesMedia, consolidation_fault}
-use Rattle.consolidate.specs.OfProject.{ConsolidatesByEvents, ConsolidatesProject}
+use Rattle.consolidate.specs.OfProject.{ConsolidatesByEvents, ConsolidatesProject, IsMadeOf}
 use Rattle.consolidate.specs.Outcomes.{AnswersAs}
 use Rattle.consolidate.specs.Own.{IsOfConsolidation, IsOfConsolidationSchedule}
 use Rattle.consolidate.specs.Schedules.{IsWrittenOut}
 use Rattle.consolidate.specs.declared.fault.Fault.{Fault}
 use Rattle.consolidate.proofs.MediaCalls.{IsMediaCall, answers_finished, came_out, due_late, durable_when, if_err, list_before, list_kept, named_of, on_finished, outcome_before, ready, report_kept, stores_ended, where_finished, whole_when}
-use Rattle.consolidate.proofs.MediaFaults.{of_events, of_execution}
+use Rattle.consolidate.proofs.MediaFaults.{of_execution}
 use Rattle.consolidate.proofs.Stores.{opened_before}
 
 -- a report is asked for just where a choice of it is
@@ -54,35 +54,41 @@ module _ {S B : Type 0} (shelf : source.Ghosts S) (bench : output.Ghosts B) (lea
     (binding : Binding) (handle : ℕ) (old new : S) (b : B) (fault : Fault) (early : (refusal_of fault).late ≡ false)
     (due : IsTrue (shelf.honest old) → (work : Work) → IsWorkOf leave project binding handle (shelf.stored old) work
     → IsDue (refusal_of fault) (work_fault work)) where
-  pub refused : (asked : Option AskedReport) (events : ℕ → List BoardEvent) → ((text : List ℕ) → IsOfConsolidation (is_some asked) text fault)
-      → KeepsStores shelf bench {X = Written} old new b b (Err fault)
-      → ConsolidatesProject shelf bench leave project binding handle asked events old new b b (Err fault)
-  refused asked events own stores = record {
-    same_sound = λ honest right text accepted. tt;
-    written = λ honest right text accepted. tt;
-    durable = λ right. tt;
+  unmade : {X : Type 0} {Says : X → Progress → Type 0} {Own : List ℕ → Fault → Type 0} {asked : Option AskedReport}
+      {events : ℕ → List BoardEvent} → ((text : List ℕ) → Own text fault)
+      → KeepsStores shelf bench {X = X} old new b b (Err fault)
+      → IsMadeOf shelf bench {X = X} Says Own leave project binding handle asked events old new b b (Err fault)
+  unmade own stores = record {
     refusals = due;
     own = own;
     named = λ right n away. refl;
-    list_last = λ right other. refl;
-    report_last = λ right no_list no_report. refl;
     outcome = λ honest right text accepted late. absurd (false≢true (sym early ∙ late));
     stores = stores;
   }
 
-  pub refused_events : (events : ℕ → List BoardEvent) → ((text : List ℕ) → IsOfConsolidationSchedule text fault)
-      → KeepsStores shelf bench {X = Progress} old new b b (Err fault)
-      → ConsolidatesByEvents shelf bench leave project binding handle events old new b b (Err fault)
-  refused_events events own stores = record {
+  pub refused : (asked : Option AskedReport) (events : ℕ → List BoardEvent)
+      → ((text : List ℕ) → IsOfConsolidation (is_some asked) text fault)
+      → KeepsStores shelf bench {X = Written} old new b b (Err fault)
+      → ConsolidatesProject shelf bench leave project binding handle asked events old new b b (Err fault)
+  refused asked events own stores = record {
+    made = unmade own stores;
     same_sound = λ honest right text accepted. tt;
     written = λ honest right text accepted. tt;
     durable = λ right. tt;
-    refusals = due;
-    own = own;
-    named = λ right n away. refl;
     list_last = λ right other. refl;
-    outcome = λ honest right text accepted late. absurd (false≢true (sym early ∙ late));
-    stores = stores;
+    report_last = λ right no_list no_report. refl;
+  }
+
+  pub refused_events : (asked : Option AskedReport) (events : ℕ → List BoardEvent)
+      → ((text : List ℕ) → IsOfConsolidationSchedule text fault)
+      → KeepsStores shelf bench {X = Progress} old new b b (Err fault)
+      → ConsolidatesByEvents shelf bench leave project binding handle asked events old new b b (Err fault)
+  refused_events asked events own stores = record {
+    made = unmade own stores;
+    same_sound = λ honest right text accepted. tt;
+    written = λ honest right text accepted. tt;
+    durable = λ right. tt;
+    list_last = λ right other. refl;
   }
 
 -- a plan whose outputs are whole sounds as its list
@@ -218,141 +224,93 @@ module _ {S B : Type 0} (shelf : source.Ghosts S) (bench : output.Ghosts B) (lea
       (fresh_board (work_of plan).count (range_with_len 0 (work_of plan).count)) board (job_plan plan) mid new before
       after result ended refl planned.is_asked answers call.bounded)
 
+  abbrev fault_for : ExecutionFault → Fault
+  fault_for = consolidation_fault (length plan.runs) (is_some asked)
+
+  abbrev first : Board
+  first = fresh_board (work_of plan).count (range_with_len 0 (work_of plan).count)
+
+  abbrev last : Snapshot
+  last = snapshot_of (job_plan plan) board 0 (source_view shelf new) (output_view bench after)
+
+  abbrev Whole : Type 0
+  Whole = HoldJobs (job_plan plan) (shelf.stored mid) (bench.stored after)
+      × HoldLast (job_plan plan) (shelf.stored mid) (bench.stored after)
+
+  abbrev Durable : Type 0
+  Durable = AreDurable (is_some asked) counts.media (bench.stored after) (bench.may_leave after)
+
+  made_of : (X : Type 0) (Says : X → Progress → Type 0) (Own : List ℕ → Fault → Type 0) (result : Result X Fault)
+      → AnswersAs fault_for Says result ended
+      → ((of : ExecutionFault) → ended ≡ Err of → (text : List ℕ) → Own text (fault_for of))
+      → IsMadeOf shelf bench Says Own leave project binding handle asked events old new before after result
+  made_of X Says Own result says own = record {
+    refusals = λ honest work is_work. due_late X (length plan.runs) (is_some asked) Says result ended (work_fault work)
+        (due honest work is_work) says;
+    own = λ text. if_err X fault_for Says result ended (Own text) says (λ of is. own of is text);
+    named = λ right. named_of plan names (is_some asked) first (source_view shelf mid) (output_view bench before) last
+        ended planned.is_asked planned.planned.few call.bounded right;
+    outcome = λ honest right text accepted begun. outcome_now X Says result says honest right text accepted;
+    stores = stores_now X Says result says;
+  }
+
   -- by one that does all jobs, and finds the memory that it needs
   pub consolidates : (result : Result Written Fault) → IfOk ended (λ progress. progress.finished ≡ true)
       → ended ≢ Err cause.Memory → ended ≢ Err cause.JobMemory
       → AnswersAs (consolidation_fault (length plan.runs) (is_some asked)) (λ answer _. answer ≡ counts) result ended
       → ConsolidatesProject shelf bench leave project binding handle asked events old new before after result
   consolidates result finished no_position no_room answers =
-      let fault_for = consolidation_fault (length plan.runs) (is_some asked) in
-      let first = fresh_board (work_of plan).count (range_with_len 0 (work_of plan).count) in
       let reports : Written → Progress → Type 0 = λ answer _. answer ≡ counts in
       record {
+        made = made_of Written (λ _ progress. progress.finished ≡ true) (IsOfConsolidation (is_some asked)) result
+            (answers_finished Written fault_for reports result ended finished answers)
+            (λ of is text. of_execution text (length plan.runs) (is_some asked) of
+            (λ e. no_position (is ∙ ap (λ f. Err f) e)) (λ e. no_room (is ∙ ap (λ f. Err f) e)));
         same_sound = λ honest right text accepted. on_finished Written fault_for reports result ended
-            (λ _. SoundsTheSame text (shelf.stored old) (bench.stored after))
-            (HoldJobs (job_plan plan) (shelf.stored mid) (bench.stored after)
-            × HoldLast (job_plan plan) (shelf.stored mid) (bench.stored after)) answers finished
+            (λ _. SoundsTheSame text (shelf.stored old) (bench.stored after)) Whole answers finished
             (whole_now honest right text accepted) (λ x progress is holds. sounds_now honest text accepted holds);
         written = λ honest right text accepted. on_finished Written fault_for reports result ended
             (IsConsolidated leave project binding handle asked (shelf.stored old) (bench.stored before)
-            (bench.stored after))
-            (HoldJobs (job_plan plan) (shelf.stored mid) (bench.stored after)
-            × HoldLast (job_plan plan) (shelf.stored mid) (bench.stored after)) answers finished
-            (whole_now honest right text accepted)
+            (bench.stored after)) Whole answers finished (whole_now honest right text accepted)
             (λ x progress is holds. subst (IsConsolidated leave project binding handle asked (shelf.stored old)
             (bench.stored before) (bench.stored after)) (sym is) (made_now honest right text accepted holds));
         durable = λ right. on_finished Written fault_for reports result ended
-            (λ answer. AreDurable (is_some asked) answer.media (bench.stored after) (bench.may_leave after))
-            (AreDurable (is_some asked) counts.media (bench.stored after) (bench.may_leave after)) answers finished
-            (durable_now right) (λ x progress is holds. subst (λ (w : Written). AreDurable (is_some asked) w.media
-            (bench.stored after) (bench.may_leave after)) (sym is) holds);
-        refusals = λ honest work is_work. due_late Written (length plan.runs) (is_some asked) reports result ended
-            (work_fault work) (due honest work is_work) answers;
-        own = λ text. if_err Written fault_for reports result ended (IsOfConsolidation (is_some asked) text) answers
-            (λ of is. of_execution text (length plan.runs) (is_some asked) of (λ e. no_position (is ∙ ap (λ f. Err f) e))
-            (λ e. no_room (is ∙ ap (λ f. Err f) e)));
-        named = λ right. named_of plan names (is_some asked) first (source_view shelf mid) (output_view bench before)
-            (snapshot_of (job_plan plan) board 0 (source_view shelf new) (output_view bench after)) ended
-            planned.is_asked planned.planned.few call.bounded right;
+            (λ answer. AreDurable (is_some asked) answer.media (bench.stored after) (bench.may_leave after)) Durable
+            answers finished (durable_now right) (λ x progress is holds. subst (λ (w : Written).
+            AreDurable (is_some asked) w.media (bench.stored after) (bench.may_leave after)) (sym is) holds);
         list_last = λ right. list_kept plan names Written reports (length plan.runs) (is_some asked) first
-            (source_view shelf mid) (output_view bench before)
-            (snapshot_of (job_plan plan) board 0 (source_view shelf new) (output_view bench after)) result ended refl
-            planned.is_asked answers call.bounded right;
+            (source_view shelf mid) (output_view bench before) last result ended refl planned.is_asked answers
+            call.bounded right;
         report_last = λ right. report_kept plan names Written reports (length plan.runs) (is_some asked) first
-            (source_view shelf mid) (output_view bench before)
-            (snapshot_of (job_plan plan) board 0 (source_view shelf new) (output_view bench after)) result ended refl
-            planned.is_asked answers call.bounded right;
-        outcome = λ honest right text accepted begun. outcome_now Written
-            (λ _ progress. progress.finished ≡ true) result
-            (answers_finished Written fault_for reports result ended finished answers) honest right text accepted;
-        stores = stores_now Written reports result answers;
+            (source_view shelf mid) (output_view bench before) last result ended refl planned.is_asked answers
+            call.bounded right;
       }
 
--- by any events, without a report
-module _ {S B : Type 0} (shelf : source.Ghosts S) (bench : output.Ghosts B) (leave : Leaving) (project : ListProject)
-    (binding : Binding) (handle : ℕ) (plan : MediaPlan) (counts : Written) (old mid new : S)
-    (before after : B) (board : Board) (events : ℕ → List BoardEvent) (untouched : Type 0)
-    (ended : Result Progress ExecutionFault)
-    (planned : IsPlanOf leave project binding handle None (shelf.honest old) (shelf.stored old) plan)
-    (there : (sources : Files) → binding_of project sources ≡ Ok binding → AreThere sources (sounds_of binding))
-    (fits : FitsSources plan)
-    (due : IsTrue (shelf.honest old) → (work : Work) → IsWorkOf leave project binding handle (shelf.stored old) work
-    → work_fault work ≡ None)
-    (reads : HasRead shelf.stored shelf.honest shelf.failures shelf.failed_at old mid ⊤ ⊥ ⊤)
-    (value : counts ≡ written_of plan) (names : AreNamedOutputs plan) (sounds : SoundsWhenWhole plan)
-    (made : IsMadeWhenWhole plan counts)
-    (call : IsMediaCall events plan board (source_view shelf mid) (source_view shelf new) (output_view bench before)
-    (output_view bench after) untouched ended)
-    (none : IsFresh (snapshot_of (job_plan plan)
-    (fresh_board (work_of plan).count (range_with_len 0 (work_of plan).count)) 0 (source_view shelf mid)
-    (output_view bench before)) (λ _. Nothing)) where
+  -- or by any events
   pub consolidates_events : (result : Result Progress Fault)
-      → AnswersAs (consolidation_fault (length plan.runs) false) (λ answer progress. answer ≡ progress) result ended
-      → ConsolidatesByEvents shelf bench leave project binding handle events old new before after result
-  consolidates_events result answers =
-      let fault_for = consolidation_fault (length plan.runs) false in
-      let first = fresh_board (work_of plan).count (range_with_len 0 (work_of plan).count) in
-      let reports : Progress → Progress → Type 0 = λ answer progress. answer ≡ progress in
-      record {
-        same_sound = λ honest right text accepted. where_finished fault_for result ended
-            (SoundsTheSame text (shelf.stored old) (bench.stored after))
-            (HoldJobs (job_plan plan) (shelf.stored mid) (bench.stored after)
-            × HoldLast (job_plan plan) (shelf.stored mid) (bench.stored after)) answers
-            (whole_now shelf bench leave project binding handle None plan counts old mid new before after board events
-            untouched ended planned there fits due reads value names sounds made call none honest right text accepted)
-            (λ holds. sounds_now shelf bench leave project binding handle None plan counts old mid new before after board
-            events untouched ended planned there fits due reads value names sounds made call none honest text accepted
-            holds);
-        written = λ honest right text accepted. where_finished fault_for result ended
-            (IsWrittenOut leave project binding handle (shelf.stored old) (bench.stored before) (bench.stored after)
-            (bench.may_leave after))
-            (Both (shelf.stored mid) (bench.stored after) (bench.may_leave after)) answers
-            (both honest right text accepted)
-            (λ holds. record {
-              counts = counts;
-              written = made_now shelf bench leave project binding handle None plan counts old mid new before after board
-                  events untouched ended planned there fits due reads value names sounds made call none honest right
-                  text accepted holds.0;
-              durable = holds.1;
-            });
-        durable = λ right. where_finished fault_for result ended
-            (IsDurable (codes "consolidated.adl") (bench.stored after) (bench.may_leave after))
-            (AreDurable false counts.media (bench.stored after) (bench.may_leave after)) answers
-            (durable_now shelf bench leave project binding handle None plan counts old mid new before after board events
-            untouched ended planned there fits due reads value names sounds made call none right)
-            (λ holds. holds.list);
-        refusals = λ honest work is_work. due_late Progress (length plan.runs) false reports result ended
-            (work_fault work) (due honest work is_work) answers;
-        own = λ text. if_err Progress fault_for reports result ended (IsOfConsolidationSchedule text) answers
-            (λ of is. of_events text (length plan.runs) of);
-        named = λ right. named_of plan names false first (source_view shelf mid) (output_view bench before)
-            (snapshot_of (job_plan plan) board 0 (source_view shelf new) (output_view bench after)) ended
-            planned.is_asked planned.planned.few call.bounded right;
-        list_last = λ right. list_before plan names (length plan.runs) first (source_view shelf mid)
-            (output_view bench before)
-            (snapshot_of (job_plan plan) board 0 (source_view shelf new) (output_view bench after)) result ended refl
-            planned.is_asked answers call.bounded right;
-        outcome = λ honest right text accepted begun. outcome_now shelf bench leave project binding handle None plan counts
-            old mid new before after board events untouched ended planned there fits due reads value names sounds made
-            call none Progress reports result answers honest right text accepted;
-        stores = stores_now shelf bench leave project binding handle None plan counts old mid new before after board events
-            untouched ended planned there fits due reads value names sounds made call none Progress reports result
-            answers;
-      }
-    where
-      Both : Files → Files → (Files → Type 0) → Type 0
-      Both sources written may_leave = (HoldJobs (job_plan plan) sources written × HoldLast (job_plan plan) sources
-          written) × AreDurable false counts.media written may_leave
-
-      both : IsTrue (shelf.honest old) → IsTrue (bench.honest before) → (text : List ℕ)
-          → IsAccepted text (shelf.stored old) project binding → IfOk ended (λ progress. progress.finished ≡ true
-          → Both (shelf.stored mid) (bench.stored after) (bench.may_leave after))
-      both honest right text accepted = if_both ended
-          (HoldJobs (job_plan plan) (shelf.stored mid) (bench.stored after)
-          × HoldLast (job_plan plan) (shelf.stored mid) (bench.stored after))
-          (AreDurable false counts.media (bench.stored after) (bench.may_leave after))
-          (whole_now shelf bench leave project binding handle None plan counts
-          old mid new before after board events untouched ended planned there fits due reads value names sounds made call
-          none honest right text accepted)
-          (durable_now shelf bench leave project binding handle None plan counts old mid new before after board events
-          untouched ended planned there fits due reads value names sounds made call none right)
+      → ((of : ExecutionFault) → (text : List ℕ)
+      → IsOfConsolidationSchedule text (consolidation_fault (length plan.runs) (is_some asked) of))
+      → AnswersAs (consolidation_fault (length plan.runs) (is_some asked)) (λ answer progress. answer ≡ progress) result
+      ended
+      → ConsolidatesByEvents shelf bench leave project binding handle asked events old new before after result
+  consolidates_events result own answers = record {
+    made = made_of Progress (λ answer progress. answer ≡ progress) IsOfConsolidationSchedule result answers
+        (λ of is. own of);
+    same_sound = λ honest right text accepted. where_finished fault_for result ended
+        (SoundsTheSame text (shelf.stored old) (bench.stored after)) Whole answers
+        (whole_now honest right text accepted) (λ holds. sounds_now honest text accepted holds);
+    written = λ honest right text accepted. where_finished fault_for result ended
+        (IsWrittenOut leave project binding handle asked (shelf.stored old) (bench.stored before) (bench.stored after)
+        (bench.may_leave after)) (Whole × Durable) answers
+        (if_both ended Whole Durable (whole_now honest right text accepted) (durable_now right))
+        (λ holds. record {
+          counts = counts;
+          written = made_now honest right text accepted holds.0;
+          durable = holds.1;
+        });
+    durable = λ right. where_finished fault_for result ended
+        (IsDurable (codes "consolidated.adl") (bench.stored after) (bench.may_leave after)) Durable answers
+        (durable_now right) (λ holds. holds.list);
+    list_last = λ right. list_before plan names (length plan.runs) (is_some asked) first (source_view shelf mid)
+        (output_view bench before) last result ended refl planned.is_asked answers call.bounded right;
+  }

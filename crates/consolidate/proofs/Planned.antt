@@ -26,57 +26,33 @@ untrue e = cc
 -- 52 alone tells that a source's device failed
 tells_source : (of : ConsolidationFault) → ((number_of of == 22) || (number_of of == 52)) ≡ true →
     consolidation.IsSource of
-tells_source plan.Intervals e = absurd (untrue e)
-tells_source (plan.Pass pass.Memory) e = absurd (untrue e)
 tells_source (plan.Pass (pass.Device file)) e = tt
-tells_source (plan.Runs runs.TooManyRuns) e = absurd (untrue e)
 tells_source (plan.Runs runs.Memory) e = absurd (untrue e)
-tells_source (plan.Relink list.TooManyEntries) e = absurd (untrue e)
 tells_source (plan.Relink list.Memory) e = absurd (untrue e)
+tells_source _ e = absurd (untrue e)
 
 source_told : (of : ConsolidationFault) → consolidation.IsSource of → ((number_of of == 22) || (number_of of == 52)) ≡
     true
-source_told plan.Intervals e = absurd e
-source_told (plan.Pass pass.Memory) e = absurd e
 source_told (plan.Pass (pass.Device file)) e = refl
-source_told (plan.Runs of) e = absurd e
-source_told (plan.Relink of) e = absurd e
+source_told _ e = absurd e
 
 no_output : (of : ConsolidationFault) → number_of of ≡ 62 → ⊥
-no_output plan.Intervals e = omega (arith, e)
 no_output (plan.Pass pass.Memory) e = omega (arith, e)
-no_output (plan.Pass (pass.Device file)) e = omega (arith, e)
-no_output (plan.Runs runs.TooManyRuns) e = omega (arith, e)
 no_output (plan.Runs runs.Memory) e = omega (arith, e)
-no_output (plan.Relink list.TooManyEntries) e = omega (arith, e)
 no_output (plan.Relink list.Memory) e = omega (arith, e)
+no_output _ e = omega (arith, e)
 
 -- the fault that is told names the file where the device failed
 holds_of : (sounds : List SoundFacts) (file : ℕ) (told : Fault) (P : List ℕ → Type 0)
     → NamesOpened sounds (plan.Pass (pass.Device file)) told → consolidation.HoldsOfSound sounds file P →
     HoldsOfSource told P
 holds_of sounds file (fault.Silence name) P names failed = subst P (sym (names failed.0 failed.1)) failed.2
-holds_of sounds file (fault.Project of) P names failed = absurd names
-holds_of sounds file fault.Intervals P names failed = absurd names
-holds_of sounds file fault.PassMemory P names failed = absurd names
-holds_of sounds file (fault.Runs of) P names failed = absurd names
-holds_of sounds file (fault.Relink of) P names failed = absurd names
-holds_of sounds file fault.RenderMemory P names failed = absurd names
-holds_of sounds file fault.BlockMemory P names failed = absurd names
-holds_of sounds file fault.EmptyRange P names failed = absurd names
-holds_of sounds file fault.BoardMemory P names failed = absurd names
-holds_of sounds file fault.WorkerMemory P names failed = absurd names
-holds_of sounds file (fault.Marks of) P names failed = absurd names
-holds_of sounds file (fault.GivenUp job) P names failed = absurd names
-holds_of sounds file (fault.Output of) P names failed = absurd names
+holds_of sounds file _ P names failed = absurd names
 
 named_there : (sounds : List SoundFacts) (of : ConsolidationFault) (told : Fault) (P : List ℕ → Type 0)
     → NamesOpened sounds of told → consolidation.IsSource of → FailsAt sounds of P → HoldsOfSource told P
-named_there sounds plan.Intervals told P names is failed = absurd is
-named_there sounds (plan.Pass pass.Memory) told P names is failed = absurd is
 named_there sounds (plan.Pass (pass.Device file)) told P names is failed = holds_of sounds file told P names failed
-named_there sounds (plan.Runs of) told P names is failed = absurd is
-named_there sounds (plan.Relink of) told P names is failed = absurd is
+named_there sounds _ told P names is failed = absurd is
 
 module _ {S B : Type 0} (shelf : source.Ghosts S) (bench : output.Ghosts B) where
   -- a plan that is refused

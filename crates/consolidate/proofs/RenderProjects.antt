@@ -1,7 +1,7 @@
 -- What an execution of a rendering leaves of a project, and behind marks that were opened.
-use Rattle.std.proofs.Common.{◌≡◌, ◌∙◌, ℕ, Bool, Option, None, Some, Result, Ok, Err, List, IsTrue, sym, ap, subst}
-use Rattle.std.specs.Prelude.{⊤}
-use Rattle.work_terms.specs.Disk.{Files, IsUntouched}
+use Rattle.std.proofs.Common.{◌≡◌, ◌∙◌, ℕ, Bool, true, Option, None, Some, Result, Ok, Err, List, IsTrue, sym, ap, subst}
+use Rattle.std.specs.Prelude.{IfOk, IfSome, ◌<◌}
+use Rattle.work_terms.specs.Disk.{Files, IsUntouched, LeavesOnly}
 use Rattle.work_terms.specs.Refusals.{Refusal}
 use Rattle.devices.specs.declared.source.Shelf as source
 use Rattle.devices.specs.declared.bench.Bench as output
@@ -9,120 +9,92 @@ use Rattle.devices.specs.Views.{Writes, output_view, source_view}
 use Rattle.job_terms.specs.declared.BoardEvent.{BoardEvent}
 use Rattle.job_terms.specs.declared.Progress.{Progress}
 use Rattle.job_terms.specs.Workers.{Nothing, jobs_over}
-use Rattle.list_terms.specs.Accepted.{OptionValues, range_of}
+use Rattle.list_terms.specs.Accepted.{OptionValues}
 use Rattle.list_terms.specs.Binding.{Binding}
 use Rattle.list_terms.specs.Project.{ListProject}
 use Rattle.markfile.specs.Fault.{ReadsMarks}
-use Rattle.markfile.specs.Format.{marks_name}
+use Rattle.markfile.specs.Format.{marks_name, sound_name}
 use Rattle.markfile.specs.Opened.{opened_of}
-use Rattle.markfile.specs.Started.{NoneStarted}
+use Rattle.markfile.specs.Started.{is_started}
 use Rattle.markfile.specs.declared.fault.MarkFault.{MarkFault}
 use Rattle.markfile.specs.declared.run.RunId.{RunId}
 use Rattle.execution.specs.Boards.{board_with, fresh_board}
 use Rattle.execution.specs.EventRun.{snapshot_of}
-use Rattle.execution.specs.Marking.{AreLeftBy, Marking, NoneStartedBy}
+use Rattle.execution.specs.Filled.{AreFilled}
+use Rattle.execution.specs.Marking.{AreLeftBy, IsRunning, Marking, NoneStartedBy}
 use Rattle.execution.specs.Plan.{AreBlank}
 use Rattle.execution.specs.declared.fault.ExecutionFault.{ExecutionFault}
 use Rattle.rendering.specs.Fault as rendering
 use Rattle.rendering.specs.declared.fault.RenderFault.{RenderFault}
-use Rattle.rendering.specs.Maker.{HasSoundJobs, marks_of, plan_of}
+use Rattle.rendering.specs.Maker.{HasSoundJobs, IsReopened, marks_of, plan_of}
 use Rattle.rendering.specs.MakerLaws.{run_leaves, started_as}
-use Rattle.rendering.specs.Marked.{IsLeftByRun, IsResumable, MarkedWork, full_marks, run_of}
-use Rattle.rendering.specs.Planned.{IsRenderingOf}
-use Rattle.rendering.specs.Work.{AreCutBy, work_of}
+use Rattle.rendering.specs.Marked.{HoldsMarked, IsFoundAs, IsLeftByRun, IsResumable, MarkedWork, full_marks}
+use Rattle.rendering.specs.Work.{AreCutBy, done_before, work_of}
 use Rattle.rendering.specs.declared.cutting.JobLength.{JobLength}
 use Rattle.consolidate.specs.Commands.{IsOutput, IsSource}
 use Rattle.consolidate.specs.Fault.{refusal_of}
-use Rattle.consolidate.specs.Marks.{IsMarkedFor, list_marking}
-use Rattle.consolidate.specs.Outcomes.{AnswersAs}
-use Rattle.consolidate.specs.RenderOutcome.{GoesOnBound, IsRenderedWork, IsResumedWork, RendersBound, ResumesBound, in_rounds, rendering_fault}
-use Rattle.consolidate.specs.RenderWorks.{BeginsWork, DoesWork, GoesOnWithWork, IsAllDone, StandsAsMarked}
+use Rattle.consolidate.specs.Listed.{BeginsListed, GoesOnListed, IsLeftListed, IsMarkedIn, IsPlannedAs, ResumesListed, marking_in, marks_in, run_in, values_in}
+use Rattle.consolidate.specs.Outcomes.{IsAllDone}
+use Rattle.consolidate.specs.RenderOutcome.{GoesOnBound, IsRenderedWork, IsResumedWork, RendersBound, ResumesBound, in_rounds}
+use Rattle.consolidate.specs.RenderWorks.{BeginsWork, DoesWork, GoesOnWithWork, StandsAsMarked}
 use Rattle.consolidate.specs.declared.fault.Fault.{Fault}
 use Rattle.consolidate.specs.declared.fault.Fault.TheVariants as fault
+use Rattle.consolidate.specs.declared.requested.Listed.{Listed}
 use Rattle.consolidate.proofs.Crashes.{joined, weaker}
 use Rattle.consolidate.proofs.Listed.{as_list, fewer_left, left_as_list, now_resumable}
 use Rattle.consolidate.proofs.RenderOutcomes.{outcome_before, outcome_opened}
 use Rattle.consolidate.proofs.RenderWorks.{refused, untouched_by}
-use Rattle.consolidate.proofs.Resumes.{from_list, reopened}
-use Rattle.consolidate.proofs.Stores.{answered_as, behind_open, late_not_early, not_opened, refused_as}
-
--- ---- another answer
-
-answered_alike : {X Y : Type 0} (One : X → Progress → Type 0) (Other : Y → Progress → Type 0) (x : X) (y : Y)
-    (ended : Result Progress ExecutionFault) → ((progress : Progress) → One x progress → Other y progress)
-    → AnswersAs {X = X} rendering_fault One (Ok x) ended → AnswersAs {X = Y} rendering_fault Other (Ok y) ended
-answered_alike One Other x y (Ok progress) so one = so progress one
-answered_alike One Other x y (Err cause) so never = absurd never
+use Rattle.consolidate.proofs.Resumes.{from_list, holds_list, left_holds, reopened}
+use Rattle.consolidate.proofs.Stores.{behind_open, late_not_early, not_opened}
 
 -- ---- the marks of the list that it was planned of
 
-module _ {S B Y : Type 0} (shelf : source.Ghosts S) (bench : output.Ghosts B) (text : List ℕ) (project : ListProject)
-    (binding : Binding) (values : OptionValues) (x : MarkedWork) (of : IsMarkedFor text project binding values x)
-    (s0 s1 : S) (b0 b1 : B) (IsFinished : Y → Type 0) (Reports : Y → Progress → Type 0)
-    (began started began_so started_so : Type 0) (Came CameSo : Result Progress ExecutionFault → Type 0) where
-  pub project_ok : (told : Progress) (y : Y)
-      → DoesWork shelf bench IsAllDone (λ told progress. told ≡ progress) (marks_of x (shelf.stored s0)) x.run began
-      started Came s0 s1 b0 b1 (Ok told) → (IsFinished y → IsAllDone told) → Reports y told → (began_so → began)
-      → (started_so → started) → ((ended : Result Progress ExecutionFault) → Came ended → CameSo ended)
-      → DoesWork shelf bench IsFinished Reports (list_marking text values (shelf.stored s0) project binding)
-      (run_of text (range_of project values)) began_so started_so CameSo s0 s1 b0 b1 (Ok y)
-  project_ok told y did finishes reports begins starts came = record {
-    finished = λ honest whole b done. did.finished honest whole (begins b) (finishes done)
-        ∙ ap Some (of.whole (shelf.stored s0));
-    marked = λ honest whole b done. did.marked honest whole (begins b) (finishes done)
-        ∙ ap (λ (r : RunId). Some (full_marks r)) of.run;
-    durable = λ whole done. did.durable whole (finishes done);
-    left = λ honest whole st. left_as_list text project binding values x of (shelf.stored s0) (bench.may_leave b1)
+module _ {S B : Type 0} (shelf : source.Ghosts S) (bench : output.Ghosts B) (listed : Listed) (x : MarkedWork)
+    (of : IsMarkedIn listed x) (s0 s1 : S) (b0 b1 : B) (result : Result Progress Fault) where
+  pub as_listed : {began started began_so started_so : Type 0} {Came CameSo : Result Progress ExecutionFault → Type 0}
+      → DoesWork shelf bench (marks_of x (shelf.stored s0)) x.run began started Came s0 s1 b0 b1 result
+      → (began_so → began) → (started_so → started)
+      → ((ended : Result Progress ExecutionFault) → Came ended → CameSo ended)
+      → DoesWork shelf bench (marking_in listed (shelf.stored s0)) (run_in listed) began_so started_so CameSo s0 s1 b0 b1
+      result
+  as_listed did begins starts came = record {
+    finished = λ honest whole b. subst (λ (w : List ℕ). IfOk result (λ told. IsAllDone told
+        → bench.stored b1 sound_name ≡ Some w)) (of.whole (shelf.stored s0)) (did.finished honest whole (begins b));
+    marked = λ honest whole b. subst (λ (r : RunId). IfOk result (λ told. IsAllDone told
+        → bench.stored b1 marks_name ≡ Some (full_marks r))) of.run (did.marked honest whole (begins b));
+    durable = did.durable;
+    left = λ honest whole st. left_as_list listed x of (shelf.stored s0) (bench.may_leave b1)
         (did.left honest whole (starts st));
     any_moment = λ honest whole st. weaker bench.moment bench.left_since b0 b1
-        (IsResumable (marks_of x (shelf.stored s0)))
-        (IsResumable (list_marking text values (shelf.stored s0) project binding))
-        (as_list text project binding values x of (shelf.stored s0)) (did.any_moment honest whole (starts st));
-    named = did.named;
-    outcome = λ honest whole b begun. let out = did.outcome honest whole (begins b) tt in (
-      out.0,
-      answered_alike (λ told progress. told ≡ progress) Reports told y out.0
-          (λ p same. subst (λ (q : Progress). Reports y q) same reports) out.1,
-      came out.0 out.2,
-    );
-    stores = answered_as shelf bench Progress Y s0 s1 b0 b1 told y did.stores;
-  }
-
-  pub project_err : (fault : Fault)
-      → DoesWork shelf bench IsAllDone (λ told progress. told ≡ progress) (marks_of x (shelf.stored s0)) x.run began
-      started Came s0 s1 b0 b1 (Err fault) → (began_so → began)
-      → (started_so → started) → ((ended : Result Progress ExecutionFault) → Came ended → CameSo ended)
-      → DoesWork shelf bench IsFinished Reports (list_marking text values (shelf.stored s0) project binding)
-      (run_of text (range_of project values)) began_so started_so CameSo s0 s1 b0 b1 (Err fault)
-  project_err fault did begins starts came = record {
-    finished = λ honest whole b. tt;
-    marked = λ honest whole b. tt;
-    durable = λ whole. tt;
-    left = λ honest whole st. left_as_list text project binding values x of (shelf.stored s0) (bench.may_leave b1)
-        (did.left honest whole (starts st));
-    any_moment = λ honest whole st. weaker bench.moment bench.left_since b0 b1
-        (IsResumable (marks_of x (shelf.stored s0)))
-        (IsResumable (list_marking text values (shelf.stored s0) project binding))
-        (as_list text project binding values x of (shelf.stored s0)) (did.any_moment honest whole (starts st));
+        (IsResumable (marks_of x (shelf.stored s0))) (IsResumable (marking_in listed (shelf.stored s0)))
+        (as_list listed x of (shelf.stored s0)) (did.any_moment honest whole (starts st));
     named = did.named;
     outcome = λ honest whole b begun. let out = did.outcome honest whole (begins b) begun in
         (out.0, out.1, came out.0 out.2);
-    stores = refused_as shelf bench Progress Y s0 s1 b0 b1 fault did.stores;
+    stores = did.stores;
   }
+
+  -- begun as it was planned
+  pub begun_listed : (events : ℕ → List BoardEvent) → IsPlannedAs listed x.work → HasSoundJobs x
+      → BeginsWork shelf bench events x s0 s1 b0 b1 result
+      → BeginsListed shelf bench events listed s0 s1 b0 b1 result
+  begun_listed events renders sound did = as_listed did (λ b. b) (λ st. st)
+      (λ ended came. record { work = x; renders = renders; sound = sound; run = of.run; came = came })
 
 -- ---- behind marks that were opened
 
-module _ {S B X Y : Type 0} (shelf : source.Ghosts S) (bench : output.Ghosts B) (IsFinished : X → Type 0)
-    (Reports : X → Progress → Type 0) (m : Marking) (run : RunId) (s0 s1 : S) (b0 mid b1 : B) (result : Result X Fault)
-    (found : Y) (same : IsUntouched bench.stored bench.may_leave bench.moment bench.left_since b0 mid)
-    (reads : ReadsMarks {X = Y} bench b0 mid (Ok found)) where
-  pub after_open : (began started began_so started_so : Type 0) (Came CameSo : Result Progress ExecutionFault → Type 0)
-      → DoesWork shelf bench IsFinished Reports m run began started Came s0 s1 mid b1 result
+module _ {S B : Type 0} (shelf : source.Ghosts S) (bench : output.Ghosts B) (s0 s1 : S) (b0 mid b1 : B)
+    (result : Result Progress Fault) (found : Option ℕ)
+    (same : IsUntouched bench.stored bench.may_leave bench.moment bench.left_since b0 mid)
+    (reads : ReadsMarks {X = Option ℕ} bench b0 mid (Ok found)) where
+  after_open : {m : Marking} {run : RunId} {began started began_so started_so : Type 0}
+      {Came CameSo : Result Progress ExecutionFault → Type 0}
+      → DoesWork shelf bench m run began started Came s0 s1 mid b1 result
       → (IsTrue (bench.honest b0) → began_so → began) → (IsTrue (bench.honest b0) → started_so → started)
       → (started_so → (c : Files) → bench.may_leave b0 c → IsResumable m c)
       → ((ended : Result Progress ExecutionFault) → IsTrue (bench.honest b0) → Came ended → CameSo ended)
-      → DoesWork shelf bench IsFinished Reports m run began_so started_so CameSo s0 s1 b0 b1 result
-  after_open began started began_so started_so Came CameSo did begins starts left came = record {
+      → DoesWork shelf bench m run began_so started_so CameSo s0 s1 b0 b1 result
+  after_open {m = m} did begins starts left came = record {
     finished = λ honest whole b. did.finished honest (on whole) (begins whole b);
     marked = λ honest whole b. did.marked honest (on whole) (begins whole b);
     durable = λ whole. did.durable (on whole);
@@ -134,7 +106,7 @@ module _ {S B X Y : Type 0} (shelf : source.Ghosts S) (bench : output.Ghosts B) 
     named = λ whole n other. did.named (on whole) n other ∙ ap (λ (files : Files). files n) same.reads;
     outcome = λ honest whole b begun. let out = did.outcome honest (on whole) (begins whole b) begun in
         (out.0, out.1, came out.0 whole out.2);
-    stores = behind_open shelf bench X Y s0 s1 b0 mid b1 result found same reads did.stores;
+    stores = behind_open shelf bench Progress (Option ℕ) s0 s1 b0 mid b1 result found same reads did.stores;
   }
     where
       on : IsTrue (bench.honest b0) → IsTrue (bench.honest mid)
@@ -154,7 +126,7 @@ module _ {S B X Y : Type 0} (shelf : source.Ghosts S) (bench : output.Ghosts B) 
   unstarted_mid None unstarted = tt
   unstarted_mid (Some marking) unstarted = λ c at. unstarted c (same.crash c at)
 
-  pub rendered_before : (events : ℕ → List BoardEvent) (x : MarkedWork) (ended : Result Progress ExecutionFault)
+  rendered_before : (events : ℕ → List BoardEvent) (x : MarkedWork) (ended : Result Progress ExecutionFault)
       → IsRenderedWork events x (source_view shelf s0) (source_view shelf s1) (output_view bench mid)
       (output_view bench b1) ended
       → IsRenderedWork events x (source_view shelf s0) (source_view shelf s1) (output_view bench b0)
@@ -175,7 +147,7 @@ module _ {S B X Y : Type 0} (shelf : source.Ghosts S) (bench : output.Ghosts B) 
     };
   }
 
-  pub resumed_before : (x : MarkedWork) (ended : Result Progress ExecutionFault)
+  resumed_before : (x : MarkedWork) (ended : Result Progress ExecutionFault)
       → IsResumedWork x (source_view shelf s0) (source_view shelf s1) (output_view bench mid)
       (output_view bench b1) ended
       → IsResumedWork x (source_view shelf s0) (source_view shelf s1) (output_view bench b0)
@@ -196,41 +168,6 @@ module _ {S B X Y : Type 0} (shelf : source.Ghosts S) (bench : output.Ghosts B) 
           (unstarted_mid ((plan_of x).marking (shelf.stored s0))) r.came.came;
     };
   }
-
--- ---- which work it was
-
-pub renders_bound : (jobs : JobLength) (events : ℕ → List BoardEvent) (text : List ℕ) (values : OptionValues) (project : ListProject)
-    (binding : Binding) (x : MarkedWork) {S B : Type 0} (shelf : source.Ghosts S) (bench : output.Ghosts B) (s0 s1 : S)
-    (b0 b1 : B) → IsRenderingOf jobs project binding values x.work → HasSoundJobs x → IsMarkedFor text project binding values x
-    → (ended : Result Progress ExecutionFault)
-    → IsRenderedWork events x (source_view shelf s0) (source_view shelf s1) (output_view bench b0)
-    (output_view bench b1) ended
-    → RendersBound jobs events text values project binding (source_view shelf s0) (source_view shelf s1)
-    (output_view bench b0) (output_view bench b1) ended
-renders_bound jobs events text values project binding x shelf bench s0 s1 b0 b1 renders sound of ended came =
-    record { work = x; renders = renders; sound = sound; run = of.run; came = came }
-
--- by what the marks are read as
-module _ (jobs : JobLength) (text : List ℕ) (values : OptionValues) (project : ListProject) (binding : Binding)
-    (due : Result (Option (List Bool)) MarkFault) {S B : Type 0} (shelf : source.Ghosts S) (bench : output.Ghosts B)
-    (s0 s1 : S) (b0 b1 : B) (ended : Result Progress ExecutionFault) where
-  pub resumes_anew : due ≡ Ok None
-      → RendersBound jobs in_rounds text values project binding (source_view shelf s0) (source_view shelf s1)
-      (output_view bench b0) (output_view bench b1) ended
-      → ResumesBound jobs text values project binding due (source_view shelf s0) (source_view shelf s1)
-      (output_view bench b0) (output_view bench b1) ended
-  resumes_anew is came = subst (λ (d : Result (Option (List Bool)) MarkFault). ResumesBound jobs text values project binding d
-      (source_view shelf s0) (source_view shelf s1) (output_view bench b0) (output_view bench b1) ended) (sym is) came
-
-  pub resumes_marked : (x : MarkedWork) → IsMarkedFor text project binding values x → HasSoundJobs x
-      → ((marked : List Bool) × (due ≡ Ok (Some marked)) × AreCutBy jobs marked x.work)
-      → IsResumedWork x (source_view shelf s0) (source_view shelf s1) (output_view bench b0) (output_view bench b1) ended
-      → ResumesBound jobs text values project binding due (source_view shelf s0) (source_view shelf s1)
-      (output_view bench b0) (output_view bench b1) ended
-  resumes_marked x of sound found came =
-      subst (λ (d : Result (Option (List Bool)) MarkFault). ResumesBound jobs text values project binding d
-      (source_view shelf s0) (source_view shelf s1) (output_view bench b0) (output_view bench b1) ended) (sym found.1)
-      (record { work = x; is_for = of; cut = found.2; sound = sound; came = came })
 
 -- ---- over the sources as they were before the list was opened
 
@@ -303,88 +240,155 @@ module _ (jobs : JobLength) (text : List ℕ) (values : OptionValues) (project :
 
 -- ---- a plan that is refused
 
-module _ {S B X : Type 0} (shelf : source.Ghosts S) (bench : output.Ghosts B) (IsFinished : X → Type 0)
-    (Reports : X → Progress → Type 0) (m : Marking) (run : RunId) (began started : Type 0)
-    (Came : Result Progress ExecutionFault → Type 0) where
+module _ {S B : Type 0} (shelf : source.Ghosts S) (bench : output.Ghosts B) {m : Marking} {run : RunId}
+    {began started : Type 0} {Came : Result Progress ExecutionFault → Type 0} where
   pub unplanned : ((b : B) (c : Files) → bench.left_since b (bench.moment b) c → bench.may_leave b c) → (s : S) (b : B)
       (of : RenderFault) (told : Fault) → refusal_of told ≡ rendering.refusal_of of
       → (IsSource told → ⊥) × (IsOutput told → ⊥) → (started → IsLeftByRun m (bench.may_leave b))
-      → DoesWork shelf bench IsFinished Reports m run began started Came s s b b (Err told)
-  unplanned only_now s b of told same quiet left = untouched_by shelf bench IsFinished Reports m run began started Came
+      → DoesWork shelf bench m run began started Came s s b b (Err told)
+  unplanned only_now s b of told same quiet left = untouched_by shelf bench m run began started Came
       only_now s b told (λ late. late_not_early (sym late ∙ ap (λ (r : Refusal). r.late) same)) quiet.0 quiet.1 left
 
   -- marks that aren't opened
   pub unopened : (s : S) (b0 b1 : B) (of : MarkFault)
       → IsUntouched bench.stored bench.may_leave bench.moment bench.left_since b0 b1
       → ReadsMarks {X = Option ℕ} bench b0 b1 (Err of) → (started → IsLeftByRun m (bench.may_leave b0))
-      → DoesWork shelf bench IsFinished Reports m run began started Came s s b0 b1 (Err (fault.Marks of))
-  unopened s b0 b1 of same reads left = refused shelf bench IsFinished Reports m run began started Came s s b0 b1
+      → DoesWork shelf bench m run began started Came s s b0 b1 (Err (fault.Marks of))
+  unopened s b0 b1 of same reads left = refused shelf bench m run began started Came s s b0 b1
       (fault.Marks of) (λ late. late_not_early (sym late)) same.reads
       (λ st. fewer_left m (bench.may_leave b0) (bench.may_leave b1) same.crash (left st))
       (λ st. weaker bench.moment bench.left_since b0 b1 (bench.may_leave b0) (IsResumable m)
       (now_resumable m (bench.may_leave b0) (left st)) same.moments)
-      (not_opened shelf bench (Option ℕ) X s b0 b1 of same reads)
+      (not_opened shelf bench (Option ℕ) Progress s b0 b1 of same reads)
+
+-- ---- what is found of the marks of a plan
+
+module _ {B : Type 0} (bench : output.Ghosts B) (listed : Listed) (was : MarkedWork) (of : IsMarkedIn listed was) (b : B)
+    (found : Result (Option ℕ) MarkFault)
+    (found_as : IsTrue (bench.honest b) → IsFoundAs found (opened_of was.run (bench.stored b)))
+    (right : IsTrue (bench.honest b)) where
+  pub found_now : IsFoundAs found (marks_in listed (bench.stored b))
+  found_now = subst (λ (r : RunId). IsFoundAs found (opened_of r (bench.stored b))) of.run (found_as right)
+
+  pub found_so : (so : Option ℕ) → found ≡ Ok so → IsFoundAs (Ok so) (marks_in listed (bench.stored b))
+  found_so so is = subst (λ (f : Result (Option ℕ) MarkFault). IsFoundAs f (marks_in listed (bench.stored b))) is found_now
 
 -- ---- all of a call behind marks that were opened
 
-module _ {S B : Type 0} (shelf : source.Ghosts S) (bench : output.Ghosts B) (jobs : JobLength) (text : List ℕ)
-    (values : OptionValues) (project : ListProject) (binding : Binding) (was x : MarkedWork)
-    (of : IsMarkedFor text project binding values was)
-    (plan : x.work.planned ≡ was.work.planned) (sounds : x.work.sounds ≡ was.work.sounds) (same_run : x.run ≡ was.run)
-    (s0 s1 : S) (b0 mid b1 : B) (found : Option ℕ)
+module _ {S B : Type 0} (shelf : source.Ghosts S) (bench : output.Ghosts B) (listed : Listed) (was x : MarkedWork)
+    (of : IsMarkedIn listed was) (back : IsReopened was x) (s0 s1 : S) (b0 mid b1 : B) (found : Option ℕ)
     (same : IsUntouched bench.stored bench.may_leave bench.moment bench.left_since b0 mid)
-    (reads : ReadsMarks {X = Option ℕ} bench b0 mid (Ok found)) (result : Result Progress Fault) where
-  abbrev Left : Type 0
-  Left = IsLeftByRun (list_marking text values (shelf.stored s0) project binding) (bench.may_leave b0)
-
+    (reads : ReadsMarks {X = Option ℕ} bench b0 mid (Ok found)) (result : Result Progress Fault)
+    (found_as : IsTrue (bench.honest b0) → IsFoundAs (Ok found) (opened_of was.run (bench.stored b0))) where
   abbrev due : Result (Option (List Bool)) MarkFault
-  due = opened_of (run_of text (range_of project values)) (bench.stored b0)
+  due = marks_in listed (bench.stored b0)
+
+  abbrev Left : Type 0
+  Left = IsLeftListed shelf bench listed s0 b0
 
   abbrev Came : Result Progress ExecutionFault → Type 0
-  Came = ResumesBound jobs text values project binding due (source_view shelf s0) (source_view shelf s1)
-      (output_view bench b0) (output_view bench b1)
+  Came = ResumesListed listed (bench.stored b0) (source_view shelf s0) (source_view shelf s1) (output_view bench b0)
+      (output_view bench b1)
 
-  now_of : IsMarkedFor text project binding values x
-  now_of = reopened text project binding values was x of plan sounds same_run
+  -- where blocks are found to be marked, this holds of the jobs that are done
+  abbrev HoldsOfDone : (Files → (ℕ → Bool) → Type 0) → Type 0
+  HoldsOfDone Holds = IsTrue (bench.honest b0) → (sources : Files)
+      → AreLeftBy (Some (marks_of was sources)) (bench.may_leave b0) → (done : ℕ → Bool)
+      → ((k : ℕ) → k < (work_of x.work).count → done k ≡ done_before x.work k) → IfSome found (λ _. Holds sources done)
 
-  resumable : Left → (c : Files) → bench.may_leave b0 c → IsResumable (marks_of x (shelf.stored s0)) c
+  abbrev IsCutAsFound : Type 0
+  IsCutAsFound = IsTrue (bench.honest b0) → IfSome found (λ _. (marked : List Bool)
+      × (opened_of was.run (bench.stored b0) ≡ Ok (Some marked)) × AreCutBy listed.choice.now.jobs marked x.work)
+
+  now_of : IsMarkedIn listed x
+  now_of = reopened listed was x of back
+
+  was_left : Left → AreLeftBy (Some (marks_of was (shelf.stored s0))) (bench.may_leave b0)
+  was_left left = run_leaves (marks_of was (shelf.stored s0)) (bench.may_leave b0)
+      (from_list listed was of (shelf.stored s0) (bench.may_leave b0) left)
+
+  resumable : Left → (c : Files) → bench.may_leave b0 c
+      → IsResumable (marks_of x (shelf.stored s0)) c
   resumable left = now_resumable (marks_of x (shelf.stored s0)) (bench.may_leave b0)
-      (from_list text project binding values x now_of (shelf.stored s0) (bench.may_leave b0) left)
+      (from_list listed x now_of (shelf.stored s0) (bench.may_leave b0) left)
 
-  pub anew_after_open : (IsTrue (bench.honest b0) → NoneStartedBy (Some (marks_of x (shelf.stored s0))) (bench.may_leave mid))
-      → (IsTrue (bench.honest b0) → due ≡ Ok None) → IsRenderingOf jobs project binding values x.work → HasSoundJobs x
-      → BeginsWork shelf bench in_rounds x s0 s1 mid b1 result
-      → DoesWork shelf bench IsAllDone (λ told progress. told ≡ progress) (marks_of x (shelf.stored s0)) x.run Left Left
-      Came s0 s1 b0 b1 result
-  anew_after_open unstarted is_none renders sound did = after_open shelf bench IsAllDone (λ told progress. told ≡ progress)
-      (marks_of x (shelf.stored s0)) x.run s0 s1 b0 mid b1 result found same reads ⊤ (NoneStarted (bench.may_leave mid))
-      Left Left
-      (IsRenderedWork in_rounds x (source_view shelf s0) (source_view shelf s1) (output_view bench mid)
-      (output_view bench b1))
-      Came did (λ whole left. tt) (λ whole left c at. sym (started_as (c marks_name)) ∙ unstarted whole c at) resumable
-      (λ ended whole came. resumes_anew jobs text values project binding due shelf bench s0 s1 b0 b1 ended (is_none whole)
-      (renders_bound jobs in_rounds text values project binding x shelf bench s0 s1 b0 b1 renders sound now_of ended
-      (rendered_before shelf bench IsAllDone (λ told progress. told ≡ progress) (marks_of x (shelf.stored s0)) x.run
-      s0 s1 b0 mid b1 result found same reads in_rounds x ended came)))
+  pub anew_after_open : found ≡ None → (found ≡ None → x ≡ was) → IsPlannedAs listed was.work
+      → (IsTrue (bench.honest b0) → (sources : Files) → found ≡ None
+      → NoneStartedBy (Some (marks_of x sources)) (bench.may_leave mid))
+      → BeginsWork shelf bench in_rounds x s0 s1 mid b1 result → GoesOnListed shelf bench listed s0 s1 b0 b1 result
+  anew_after_open is unchanged renders unstarted did = as_listed shelf bench listed x now_of s0 s1 b0 b1 result
+      (after_open shelf bench s0 s1 b0 mid b1 result found same reads {began_so = Left} {started_so = Left} {CameSo = Came} did (λ whole left. tt)
+      (λ whole left c at. sym (started_as (c marks_name)) ∙ unstarted whole (shelf.stored s0) is c at) resumable
+      (λ ended whole came. subst (λ (d : Result (Option (List Bool)) MarkFault). ResumesBound listed.choice.now.jobs
+      listed.list.now (values_in listed) listed.checked.now.project listed.checked.now.bound d (source_view shelf s0)
+      (source_view shelf s1) (output_view bench b0) (output_view bench b1) ended)
+      (sym (found_so bench listed was of b0 (Ok found) found_as whole None (ap Ok is)))
+      (record {
+        work = x;
+        renders = subst (λ (w : MarkedWork). IsPlannedAs listed w.work) (sym (unchanged is)) renders;
+        sound = back.jobs;
+        run = now_of.run;
+        came = rendered_before shelf bench s0 s1 b0 mid b1 result found same reads in_rounds x ended came;
+      })))
+      (λ left. left) (λ left. left) (λ ended came. came)
 
-  pub marked_after_open : (IsTrue (bench.honest b0)
-      → AreLeftBy (Some (marks_of was (shelf.stored s0))) (bench.may_leave b0)
-      → StandsAsMarked x (shelf.stored s0) (bench.stored mid) (bench.may_leave mid))
-      → (IsTrue (bench.honest b0) → (marked : List Bool) × (due ≡ Ok (Some marked)) × AreCutBy jobs marked x.work)
-      → HasSoundJobs x → GoesOnWithWork shelf bench x s0 s1 mid b1 result
-      → DoesWork shelf bench IsAllDone (λ told progress. told ≡ progress) (marks_of x (shelf.stored s0)) x.run Left Left
-      Came s0 s1 b0 b1 result
-  marked_after_open stands cut sound did = after_open shelf bench IsAllDone (λ told progress. told ≡ progress)
-      (marks_of x (shelf.stored s0)) x.run s0 s1 b0 mid b1 result found same reads
-      (StandsAsMarked x (shelf.stored s0) (bench.stored mid) (bench.may_leave mid))
-      (StandsAsMarked x (shelf.stored s0) (bench.stored mid) (bench.may_leave mid)) Left Left
-      (IsResumedWork x (source_view shelf s0) (source_view shelf s1) (output_view bench mid) (output_view bench b1))
-      Came did (λ whole left. stands whole (was_left left)) (λ whole left. stands whole (was_left left)) resumable
-      (λ ended whole came. resumes_marked jobs text values project binding due shelf bench s0 s1 b0 b1 ended x now_of sound
-      (cut whole)
-      (resumed_before shelf bench IsAllDone (λ told progress. told ≡ progress) (marks_of x (shelf.stored s0)) x.run
-      s0 s1 b0 mid b1 result found same reads x ended came))
-    where
-      was_left : Left → AreLeftBy (Some (marks_of was (shelf.stored s0))) (bench.may_leave b0)
-      was_left left = run_leaves (marks_of was (shelf.stored s0)) (bench.may_leave b0)
-          (from_list text project binding values was of (shelf.stored s0) (bench.may_leave b0) left)
+  -- what stands of the marks that are found
+  pub stands : (n : ℕ) → found ≡ Some n
+      → HoldsOfDone (λ sources done. IsRunning (marks_of x sources) done (bench.may_leave mid))
+      → HoldsOfDone (λ sources done. AreFilled (jobs_over (plan_of x).jobs sources) ((plan_of x).whole sources) done
+      (bench.stored mid))
+      → IsTrue (bench.honest b0) → Left → StandsAsMarked x (shelf.stored s0) (bench.stored mid) (bench.may_leave mid)
+  stands n is running filled right left done agrees = (
+    subst (λ (f : Option ℕ). IfSome f (λ _. IsRunning (marks_of x (shelf.stored s0)) done (bench.may_leave mid))) is
+        (running right (shelf.stored s0) (was_left left) done agrees),
+    subst (λ (f : Option ℕ). IfSome f (λ _. AreFilled (jobs_over (plan_of x).jobs (shelf.stored s0))
+        ((plan_of x).whole (shelf.stored s0)) done (bench.stored mid))) is
+        (filled right (shelf.stored s0) (was_left left) done agrees),
+  )
+
+  pub cut_now : (n : ℕ) → found ≡ Some n
+      → IsCutAsFound
+      → IsTrue (bench.honest b0) → (marked : List Bool) × (due ≡ Ok (Some marked))
+      × AreCutBy listed.choice.now.jobs marked x.work
+  cut_now n is cut right = subst (λ (r : RunId). (marked : List Bool) × (opened_of r (bench.stored b0) ≡ Ok (Some marked))
+      × AreCutBy listed.choice.now.jobs marked x.work) of.run
+      (subst (λ (f : Option ℕ). IfSome f (λ _. (marked : List Bool)
+      × (opened_of was.run (bench.stored b0) ≡ Ok (Some marked)) × AreCutBy listed.choice.now.jobs marked x.work)) is
+      (cut right))
+
+  -- they stand at each moment
+  pub keeps_marks : ((b : B) → IsTrue (bench.honest b) → bench.may_leave b (bench.stored b)) → IsTrue (bench.honest b0)
+      → Left → (marks : List ℕ) → bench.stored b0 marks_name ≡ Some marks → is_started (Some marks) ≡ true
+      → LeavesOnly bench.moment bench.left_since mid b1 (HoldsMarked (marks_of x (shelf.stored s0)) marks)
+      → LeavesOnly bench.moment bench.left_since b0 b1 (HoldsMarked (marking_in listed (shelf.stored s0)) marks)
+  keeps_marks reads_now right left marks there started kept = joined bench.moment bench.left_since b0 mid b1
+      (HoldsMarked (marking_in listed (shelf.stored s0)) marks) (HoldsMarked (marks_of x (shelf.stored s0)) marks)
+      (holds_list listed x now_of (shelf.stored s0) marks)
+      (weaker bench.moment bench.left_since b0 mid (bench.may_leave b0)
+      (HoldsMarked (marking_in listed (shelf.stored s0)) marks)
+      (left_holds (marking_in listed (shelf.stored s0)) (bench.may_leave b0) (bench.stored b0) marks left
+      (reads_now b0 right) there started) same.moments) kept
+
+  -- or with those that are marked
+  pub marked_after_open : (n : ℕ) → found ≡ Some n
+      → HoldsOfDone (λ sources done. IsRunning (marks_of x sources) done (bench.may_leave mid))
+      → HoldsOfDone (λ sources done. AreFilled (jobs_over (plan_of x).jobs sources) ((plan_of x).whole sources) done
+      (bench.stored mid))
+      → IsCutAsFound
+      → GoesOnWithWork shelf bench x s0 s1 mid b1 result → GoesOnListed shelf bench listed s0 s1 b0 b1 result
+  marked_after_open n is running filled cut did = as_listed shelf bench listed x now_of s0 s1 b0 b1 result
+      (after_open shelf bench s0 s1 b0 mid b1 result found same reads {began_so = Left} {started_so = Left} {CameSo = Came} did
+      (stands n is running filled) (stands n is running filled) resumable
+      (λ ended whole came. let cuts = cut_now n is cut whole in
+      subst (λ (d : Result (Option (List Bool)) MarkFault). ResumesBound listed.choice.now.jobs
+      listed.list.now (values_in listed) listed.checked.now.project listed.checked.now.bound d (source_view shelf s0)
+      (source_view shelf s1) (output_view bench b0) (output_view bench b1) ended)
+      (sym cuts.1)
+      (record {
+        work = x;
+        is_for = now_of;
+        cut = cuts.2;
+        sound = back.jobs;
+        came = resumed_before shelf bench s0 s1 b0 mid b1 result found same reads x ended came;
+      })))
+      (λ left. left) (λ left. left) (λ ended came. came)

@@ -29,9 +29,9 @@ use Rattle.rendering.specs.Marked.{HoldsMarked, IsLeftByRun, IsOther, IsResumabl
 use Rattle.rendering.specs.Work.{done_before, whole_of, work_of}
 use Rattle.consolidate.specs.Fault.{name_of_output, refusal_of}
 use Rattle.consolidate.specs.Commands.{IsOutput, IsSource, KeepsStores}
-use Rattle.consolidate.specs.Outcomes.{AnswersAs}
+use Rattle.consolidate.specs.Outcomes.{AnswersAs, IsAllDone}
 use Rattle.consolidate.specs.RenderOutcome.{IsRenderedWork, IsResumedWork, in_rounds, rendering_fault}
-use Rattle.consolidate.specs.RenderWorks.{BeginsWork, DoesWork, GoesOnWithWork, IsAllDone, IsPrepared, IsTakenUp, IsUnbegun, StandsAsMarked}
+use Rattle.consolidate.specs.RenderWorks.{BeginsWork, DoesWork, GoesOnWithWork, IsPrepared, IsTakenUp, IsUnbegun, StandsAsMarked}
 use Rattle.consolidate.specs.declared.fault.Fault.{Fault}
 use Rattle.consolidate.specs.declared.fault.Fault.TheVariants as fault
 use Rattle.consolidate.specs.declared.fault.OutputFile.TheVariants as file
@@ -162,8 +162,7 @@ module _ {S B : Type 0} (shelf : source.Ghosts S) (bench : output.Ghosts B)
       → (Came : Result Progress ExecutionFault → Type 0)
       → (Outcome Begins events (snapshot_of (plan_of x) first 0 (source_view shelf s0) (output_view bench b0)) had
       (snapshot_of plan board 0 (source_view shelf s1) (output_view bench b1)) untouched ended → Came ended)
-      → DoesWork shelf bench IsAllDone (λ told progress. told ≡ progress) (marks_of x (shelf.stored s0)) x.run began
-      started Came s0 s1 b0 b1 (answered ended)
+      → DoesWork shelf bench (marks_of x (shelf.stored s0)) x.run began started Came s0 s1 b0 b1 (answered ended)
   does Begins Leaving begun starts untouched events plan board ended call began started to from on leaves none Came came =
       record {
         finished = λ honest whole b. if_ok ended
@@ -212,60 +211,26 @@ module _ {S B : Type 0} (shelf : source.Ghosts S) (bench : output.Ghosts B)
 unbegun_late : (cause : Fault) → IsUnbegun cause → IsTrue (refusal_of cause).late → ⊥
 unbegun_late fault.BoardMemory un late = apart late
 unbegun_late fault.RenderMemory un late = apart late
-unbegun_late (fault.Project of) un late = un
-unbegun_late fault.Intervals un late = un
-unbegun_late fault.PassMemory un late = un
-unbegun_late (fault.Silence name) un late = un
-unbegun_late (fault.Runs of) un late = un
-unbegun_late (fault.Relink of) un late = un
-unbegun_late fault.BlockMemory un late = un
-unbegun_late fault.EmptyRange un late = un
-unbegun_late (fault.Marks of) un late = un
-unbegun_late fault.WorkerMemory un late = un
-unbegun_late (fault.GivenUp job) un late = un
-unbegun_late (fault.Output name) un late = un
+unbegun_late _ un late = un
 
 unbegun_source : (cause : Fault) → IsUnbegun cause → IsSource cause → ⊥
 unbegun_source fault.BoardMemory un device = apart device
 unbegun_source fault.RenderMemory un device = apart device
-unbegun_source (fault.Project of) un device = un
-unbegun_source fault.Intervals un device = un
-unbegun_source fault.PassMemory un device = un
-unbegun_source (fault.Silence name) un device = un
-unbegun_source (fault.Runs of) un device = un
-unbegun_source (fault.Relink of) un device = un
-unbegun_source fault.BlockMemory un device = un
-unbegun_source fault.EmptyRange un device = un
-unbegun_source (fault.Marks of) un device = un
-unbegun_source fault.WorkerMemory un device = un
-unbegun_source (fault.GivenUp job) un device = un
-unbegun_source (fault.Output name) un device = un
+unbegun_source _ un device = un
 
 unbegun_output : (cause : Fault) → IsUnbegun cause → IsOutput cause → ⊥
 unbegun_output fault.BoardMemory un device = let e : 60 ≡ 62 = device in omega (arith, e)
 unbegun_output fault.RenderMemory un device = let e : 57 ≡ 62 = device in omega (arith, e)
-unbegun_output (fault.Project of) un device = un
-unbegun_output fault.Intervals un device = un
-unbegun_output fault.PassMemory un device = un
-unbegun_output (fault.Silence name) un device = un
-unbegun_output (fault.Runs of) un device = un
-unbegun_output (fault.Relink of) un device = un
-unbegun_output fault.BlockMemory un device = un
-unbegun_output fault.EmptyRange un device = un
-unbegun_output (fault.Marks of) un device = un
-unbegun_output fault.WorkerMemory un device = un
-unbegun_output (fault.GivenUp job) un device = un
-unbegun_output (fault.Output name) un device = un
+unbegun_output _ un device = un
 
-module _ {S B X : Type 0} (shelf : source.Ghosts S) (bench : output.Ghosts B) (IsFinished : X → Type 0)
-    (Reports : X → Progress → Type 0) (m : Marking) (run : RunId) (began started : Type 0)
-    (Came : Result Progress ExecutionFault → Type 0) where
+module _ {S B : Type 0} (shelf : source.Ghosts S) (bench : output.Ghosts B) (m : Marking) (run : RunId)
+    (began started : Type 0) (Came : Result Progress ExecutionFault → Type 0) where
   -- it may have synced its files
   pub refused : (s0 s1 : S) (b0 b1 : B) (cause : Fault) → (IsTrue (refusal_of cause).late → ⊥)
       → bench.stored b1 ≡ bench.stored b0 → (started → IsLeftByRun m (bench.may_leave b1))
       → (started → LeavesOnly bench.moment bench.left_since b0 b1 (IsResumable m))
-      → KeepsStores shelf bench {X = X} s0 s1 b0 b1 (Err cause)
-      → DoesWork shelf bench IsFinished Reports m run began started Came s0 s1 b0 b1 (Err cause)
+      → KeepsStores shelf bench {X = Progress} s0 s1 b0 b1 (Err cause)
+      → DoesWork shelf bench m run began started Came s0 s1 b0 b1 (Err cause)
   refused s0 s1 b0 b1 cause early same left moments stores = record {
     finished = λ honest whole b. tt;
     marked = λ honest whole b. tt;
@@ -281,7 +246,7 @@ module _ {S B X : Type 0} (shelf : source.Ghosts S) (bench : output.Ghosts B) (I
   pub untouched_by : ((b : B) (c : Files) → bench.left_since b (bench.moment b) c → bench.may_leave b c) → (s : S) (b : B)
       (cause : Fault) → (IsTrue (refusal_of cause).late → ⊥) → (IsSource cause → ⊥) → (IsOutput cause → ⊥)
       → (started → IsLeftByRun m (bench.may_leave b))
-      → DoesWork shelf bench IsFinished Reports m run began started Came s s b b (Err cause)
+      → DoesWork shelf bench m run began started Came s s b b (Err cause)
   untouched_by only_now s b cause early no_source no_output left = refused s s b b cause early refl left
       (λ st. idle bench.moment bench.left_since b (IsResumable m)
       (λ c at. now_resumable m (bench.may_leave b) (left st) c (only_now b c at)))
@@ -289,7 +254,7 @@ module _ {S B X : Type 0} (shelf : source.Ghosts S) (bench : output.Ghosts B) (I
 
   pub unbegun : ((b : B) (c : Files) → bench.left_since b (bench.moment b) c → bench.may_leave b c) → (s : S) (b : B)
       (cause : Fault) → IsUnbegun cause → (started → IsLeftByRun m (bench.may_leave b))
-      → DoesWork shelf bench IsFinished Reports m run began started Came s s b b (Err cause)
+      → DoesWork shelf bench m run began started Came s s b b (Err cause)
   unbegun only_now s b cause un left = untouched_by only_now s b cause (unbegun_late cause un) (unbegun_source cause un)
       (unbegun_output cause un) left
 
@@ -487,13 +452,12 @@ module _ {S B : Type 0} (shelf : source.Ghosts S) (bench : output.Ghosts B)
     (only_now : (b : B) (c : Files) → bench.left_since b (bench.moment b) c → bench.may_leave b c) (x : MarkedWork)
     (s : S) (b : B) (cause : Fault) (un : IsUnbegun cause) where
   pub not_prepared : (events : ℕ → List BoardEvent) → BeginsWork shelf bench events x s s b b (Err cause)
-  not_prepared events = unbegun shelf bench IsAllDone (λ told progress. told ≡ progress)
-      (marks_of x (shelf.stored s)) x.run ⊤ (NoneStarted (bench.may_leave b))
+  not_prepared events = unbegun shelf bench (marks_of x (shelf.stored s)) x.run ⊤ (NoneStarted (bench.may_leave b))
       (IsRenderedWork events x (source_view shelf s) (source_view shelf s) (output_view bench b) (output_view bench b))
       only_now s b cause un (λ none. none_left (marks_of x (shelf.stored s)) (bench.may_leave b) none)
 
   pub not_taken_up : GoesOnWithWork shelf bench x s s b b (Err cause)
-  not_taken_up = unbegun shelf bench IsAllDone (λ told progress. told ≡ progress) (marks_of x (shelf.stored s)) x.run
+  not_taken_up = unbegun shelf bench (marks_of x (shelf.stored s)) x.run
       (StandsAsMarked x (shelf.stored s) (bench.stored b) (bench.may_leave b))
       (StandsAsMarked x (shelf.stored s) (bench.stored b) (bench.may_leave b))
       (IsResumedWork x (source_view shelf s) (source_view shelf s) (output_view bench b) (output_view bench b))

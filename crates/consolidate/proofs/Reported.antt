@@ -55,27 +55,19 @@ of_sums_only : (sounds : List SoundFacts) (fault : SideFault) (reported : ListFa
 of_sums_only sounds side.Intervals reported is = subst IsOfSums (sym is) tt
 of_sums_only sounds side.Memory reported is = subst IsOfSums (sym is) tt
 of_sums_only sounds (side.Source file) (Source name) is = tt
-of_sums_only sounds (side.Source file) (Project of) is = absurd is
-of_sums_only sounds (side.Source file) Intervals is = absurd is
-of_sums_only sounds (side.Source file) Memory is = absurd is
+of_sums_only sounds (side.Source file) _ is = absurd is
 
 due_of_sums : (reported : ListFault) → IsOfSums reported → IsDue (refusal_of reported) None
 due_of_sums (Project of) is = absurd is
-due_of_sums Intervals is = tt
-due_of_sums Memory is = tt
-due_of_sums (Source name) is = tt
+due_of_sums _ is = tt
 
 own_of_sums : (text : List ℕ) (reported : ListFault) → IsOfSums reported → IsOwn text reported
 own_of_sums text (Project of) is = absurd is
-own_of_sums text Intervals is = tt
-own_of_sums text Memory is = tt
-own_of_sums text (Source name) is = tt
+own_of_sums text _ is = tt
 
 first_of_sums : (text : List ℕ) (files : Files) (reported : ListFault) → IsOfSums reported → IsFirst text files reported
 first_of_sums text files (Project of) is = absurd is
-first_of_sums text files Intervals is = tt
-first_of_sums text files Memory is = tt
-first_of_sums text files (Source name) is = tt
+first_of_sums text files _ is = tt
 
 was_device : (sounds : List SoundFacts) (fault : SideFault) (reported : ListFault) → IsReportedAs sounds fault reported
     → IsDevice reported → comparison.IsSource fault
@@ -90,18 +82,14 @@ is_device : (sounds : List SoundFacts) (fault : SideFault) (reported : ListFault
 is_device sounds side.Intervals reported is source = absurd source
 is_device sounds side.Memory reported is source = absurd source
 is_device sounds (side.Source file) (Source name) is source = omega arith
-is_device sounds (side.Source file) (Project of) is source = absurd is
-is_device sounds (side.Source file) Intervals is source = absurd is
-is_device sounds (side.Source file) Memory is source = absurd is
+is_device sounds (side.Source file) _ is source = absurd is
 
 holds_there : (sounds : List SoundFacts) (failed : List ℕ → Type 0) (fault : SideFault) (reported : ListFault)
     → IsReportedAs sounds fault reported → comparison.FailsAt sounds fault failed → HoldsOfDevice reported failed
 holds_there sounds failed side.Intervals reported is fails = absurd fails
 holds_there sounds failed side.Memory reported is fails = absurd fails
 holds_there sounds failed (side.Source file) (Source name) is fails = subst failed (sym (is fails.0 fails.1)) fails.2
-holds_there sounds failed (side.Source file) (Project of) is fails = absurd is
-holds_there sounds failed (side.Source file) Intervals is fails = absurd is
-holds_there sounds failed (side.Source file) Memory is fails = absurd is
+holds_there sounds failed (side.Source file) _ is fails = absurd is
 
 -- ---- of two
 
@@ -114,10 +102,7 @@ module _ (sounds others : List SoundFacts) where
       subst (λ (d : Option Refusal). IsDue (refusal_of reported) d) (sym none)
       (due_of_sums reported (of_sums_only sounds fault reported is))
   answers_first due none (sums.Second fault) (Second reported) is = none
-  answers_first due none (sums.First fault) (Second reported) is = absurd is
-  answers_first due none (sums.First fault) EmptyRange is = absurd is
-  answers_first due none (sums.Second fault) (First reported) is = absurd is
-  answers_first due none (sums.Second fault) EmptyRange is = absurd is
+  answers_first due none _ _ is = absurd is
 
   pub answers_second : (due : Option Refusal) → due ≡ None → (fault : of_sums.CompareFault) (reported : CompareFault)
       → IsReportedOfTwo sounds others fault reported → AnswersSecond {X = Compared} due (Err reported)
@@ -127,10 +112,7 @@ module _ (sounds others : List SoundFacts) where
   answers_second due none (sums.Second fault) (Second reported) is =
       subst (λ (d : Option Refusal). IsDue (refusal_of reported) d) (sym none)
       (due_of_sums reported (of_sums_only others fault reported is))
-  answers_second due none (sums.First fault) (Second reported) is = absurd is
-  answers_second due none (sums.First fault) EmptyRange is = absurd is
-  answers_second due none (sums.Second fault) (First reported) is = absurd is
-  answers_second due none (sums.Second fault) EmptyRange is = absurd is
+  answers_second due none _ _ is = absurd is
 
   pub answers_range : (extent : Extent) (fault : of_sums.CompareFault) (reported : CompareFault)
       → IsReportedOfTwo sounds others fault reported
@@ -146,10 +128,7 @@ module _ (sounds others : List SoundFacts) where
       let some : ¬ (extent.to ≤ extent.from) =
       λ below. let wrong : IsErrOf {T = Comparison} (Err (sums.Second fault)) sums.EmptyRange = empty.1 below in cc in
       omega (arith, some)
-  answers_range extent (sums.First fault) (Second reported) is empty = absurd is
-  answers_range extent (sums.First fault) EmptyRange is empty = absurd is
-  answers_range extent (sums.Second fault) (First reported) is empty = absurd is
-  answers_range extent (sums.Second fault) EmptyRange is empty = absurd is
+  answers_range extent _ _ is empty = absurd is
 
   -- a predicate of all faults of sums of the first list, or of the second one
   for_first : (P : ListFault → Type 0) → ((reported : ListFault) → IsOfSums reported → P reported)
@@ -158,10 +137,7 @@ module _ (sounds others : List SoundFacts) where
   for_first P each sums.EmptyRange reported is = subst (λ (r : CompareFault). ForFirst P r) (sym is) tt
   for_first P each (sums.First fault) (First reported) is = each reported (of_sums_only sounds fault reported is)
   for_first P each (sums.Second fault) (Second reported) is = tt
-  for_first P each (sums.First fault) (Second reported) is = absurd is
-  for_first P each (sums.First fault) EmptyRange is = absurd is
-  for_first P each (sums.Second fault) (First reported) is = absurd is
-  for_first P each (sums.Second fault) EmptyRange is = absurd is
+  for_first P each _ _ is = absurd is
 
   for_second : (P : ListFault → Type 0) → ((reported : ListFault) → IsOfSums reported → P reported)
       → (fault : of_sums.CompareFault) (reported : CompareFault) → IsReportedOfTwo sounds others fault reported
@@ -169,10 +145,7 @@ module _ (sounds others : List SoundFacts) where
   for_second P each sums.EmptyRange reported is = subst (λ (r : CompareFault). ForSecond P r) (sym is) tt
   for_second P each (sums.First fault) (First reported) is = tt
   for_second P each (sums.Second fault) (Second reported) is = each reported (of_sums_only others fault reported is)
-  for_second P each (sums.First fault) (Second reported) is = absurd is
-  for_second P each (sums.First fault) EmptyRange is = absurd is
-  for_second P each (sums.Second fault) (First reported) is = absurd is
-  for_second P each (sums.Second fault) EmptyRange is = absurd is
+  for_second P each _ _ is = absurd is
 
   pub first_own : (text : List ℕ) (fault : of_sums.CompareFault) (reported : CompareFault)
       → IsReportedOfTwo sounds others fault reported → ForFirst (IsOwn text) reported
@@ -197,20 +170,14 @@ module _ (sounds others : List SoundFacts) where
       absurd (subst (λ (r : CompareFault). OfFirst IsDevice r) is device)
   was_first (sums.First fault) (First reported) is device = was_device sounds fault reported is device
   was_first (sums.Second fault) (Second reported) is device = absurd device
-  was_first (sums.First fault) (Second reported) is device = absurd is
-  was_first (sums.First fault) EmptyRange is device = absurd is
-  was_first (sums.Second fault) (First reported) is device = absurd is
-  was_first (sums.Second fault) EmptyRange is device = absurd is
+  was_first _ _ is device = absurd is
 
   pub is_first : (fault : of_sums.CompareFault) (reported : CompareFault) → IsReportedOfTwo sounds others fault reported
       → comparison.OfFirst comparison.IsSource fault → OfFirst IsDevice reported
   is_first sums.EmptyRange reported is source = absurd source
   is_first (sums.First fault) (First reported) is source = is_device sounds fault reported is source
   is_first (sums.Second fault) (Second reported) is source = absurd source
-  is_first (sums.First fault) (Second reported) is source = absurd is
-  is_first (sums.First fault) EmptyRange is source = absurd is
-  is_first (sums.Second fault) (First reported) is source = absurd is
-  is_first (sums.Second fault) EmptyRange is source = absurd is
+  is_first _ _ is source = absurd is
 
   pub holds_first : (failed : List ℕ → Type 0) (fault : of_sums.CompareFault) (reported : CompareFault)
       → IsReportedOfTwo sounds others fault reported
@@ -219,10 +186,7 @@ module _ (sounds others : List SoundFacts) where
   holds_first failed sums.EmptyRange reported is fails = absurd fails
   holds_first failed (sums.First fault) (First reported) is fails = holds_there sounds failed fault reported is fails
   holds_first failed (sums.Second fault) (Second reported) is fails = absurd fails
-  holds_first failed (sums.First fault) (Second reported) is fails = absurd is
-  holds_first failed (sums.First fault) EmptyRange is fails = absurd is
-  holds_first failed (sums.Second fault) (First reported) is fails = absurd is
-  holds_first failed (sums.Second fault) EmptyRange is fails = absurd is
+  holds_first failed _ _ is fails = absurd is
 
   pub was_second : (fault : of_sums.CompareFault) (reported : CompareFault)
       → IsReportedOfTwo sounds others fault reported → OfSecond IsDevice reported
@@ -231,10 +195,7 @@ module _ (sounds others : List SoundFacts) where
       absurd (subst (λ (r : CompareFault). OfSecond IsDevice r) is device)
   was_second (sums.Second fault) (Second reported) is device = was_device others fault reported is device
   was_second (sums.First fault) (First reported) is device = absurd device
-  was_second (sums.First fault) (Second reported) is device = absurd is
-  was_second (sums.First fault) EmptyRange is device = absurd is
-  was_second (sums.Second fault) (First reported) is device = absurd is
-  was_second (sums.Second fault) EmptyRange is device = absurd is
+  was_second _ _ is device = absurd is
 
   pub is_second : (fault : of_sums.CompareFault) (reported : CompareFault)
       → IsReportedOfTwo sounds others fault reported → comparison.OfSecond comparison.IsSource fault
@@ -242,10 +203,7 @@ module _ (sounds others : List SoundFacts) where
   is_second sums.EmptyRange reported is source = absurd source
   is_second (sums.Second fault) (Second reported) is source = is_device others fault reported is source
   is_second (sums.First fault) (First reported) is source = absurd source
-  is_second (sums.First fault) (Second reported) is source = absurd is
-  is_second (sums.First fault) EmptyRange is source = absurd is
-  is_second (sums.Second fault) (First reported) is source = absurd is
-  is_second (sums.Second fault) EmptyRange is source = absurd is
+  is_second _ _ is source = absurd is
 
   pub holds_second : (failed : List ℕ → Type 0) (fault : of_sums.CompareFault) (reported : CompareFault)
       → IsReportedOfTwo sounds others fault reported
@@ -254,7 +212,4 @@ module _ (sounds others : List SoundFacts) where
   holds_second failed sums.EmptyRange reported is fails = absurd fails
   holds_second failed (sums.Second fault) (Second reported) is fails = holds_there others failed fault reported is fails
   holds_second failed (sums.First fault) (First reported) is fails = absurd fails
-  holds_second failed (sums.First fault) (Second reported) is fails = absurd is
-  holds_second failed (sums.First fault) EmptyRange is fails = absurd is
-  holds_second failed (sums.Second fault) (First reported) is fails = absurd is
-  holds_second failed (sums.Second fault) EmptyRange is fails = absurd is
+  holds_second failed _ _ is fails = absurd is

@@ -1,14 +1,14 @@
 -- Going on with the marks that are found.
 use Rattle.std.proofs.Common.{◌≡◌, ◌∙◌, ◌≤◌, ℕ, Bool, true, false, cond, Option, None, Some, Result, Ok, Err, List, ap, arith, refl, subst, sym, take}
 use Rattle.std.specs.Prelude.{IfSome, option_map, length}
-use Rattle.sound_terms.specs.Render.{Range, rendering_of}
+use Rattle.sound_terms.specs.Render.{rendering_of}
 use Rattle.sound_terms.specs.Sounds.{SoundFacts}
 use Rattle.renderplan.specs.Planned.{Planned}
 use Rattle.work_terms.specs.Disk.{Files}
 use Rattle.work_terms.specs.Refusals.{ComesInTurn, IsDue, Refusal, turn_of}
 use Rattle.list_terms.specs.Accepted.{OptionValues, first_fault, range_of}
 use Rattle.list_terms.specs.Binding.{Binding}
-use Rattle.list_terms.specs.Heard.{IsAccepted, project_fault, project_mix}
+use Rattle.list_terms.specs.Heard.{IsAccepted, project_fault}
 use Rattle.list_terms.specs.Project.{ListProject}
 use Rattle.list_terms.specs.Text.{text_value}
 use Rattle.markfile.specs.Format.{marks_name, sound_name}
@@ -19,42 +19,42 @@ use Rattle.markfile.specs.declared.fault.MarkFault.TheVariants as marks
 use Rattle.markfile.specs.declared.run.RunId.{RunId}
 use Rattle.execution.specs.Marking.{AreTrueMarks, HoldsIn, Marking, is_marked}
 use Rattle.rendering.specs.Fault as rendering
-use Rattle.rendering.specs.Maker.{marks_of}
+use Rattle.rendering.specs.Maker.{IsReopened, marks_of}
 use Rattle.rendering.specs.Marked.{HoldsMarked, IsFoundAs, IsLeftByRun, MarkedWork, run_of}
 use Rattle.rendering.specs.Rendering.{render_fault}
 use Rattle.rendering.specs.Work.{heard, whole_of}
 use Rattle.rendering.specs.declared.fault.RenderFault.{RenderFault}
-use Rattle.rendering.specs.declared.fault.RenderFault.TheVariants.{Intervals, EmptyRange, Memory, MarksMemory}
+use Rattle.rendering.specs.declared.fault.RenderFault.TheVariants.{Intervals}
 use Rattle.consolidate.specs.Commands.{render_refusal}
-use Rattle.consolidate.specs.Fault.{refusal_of, refusal_of_marks}
-use Rattle.consolidate.specs.Marks.{IsMarkedFor, count_in, fault_in, file_marking, list_marking, marks_refusal}
+use Rattle.consolidate.specs.Fault.{IsAlwaysDue, refusal_of, refusal_of_marks}
+use Rattle.consolidate.specs.Listed.{IsMarkedIn, fault_of_range, marking_in, marks_in}
+use Rattle.consolidate.specs.Marks.{count_in, fault_in, file_marking, marks_refusal}
 use Rattle.consolidate.specs.Own.{IsOfRendering, IsOfResuming}
 use Rattle.consolidate.specs.Resuming.{resume_refusal}
 use Rattle.consolidate.specs.declared.fault.Fault.{Fault}
+use Rattle.consolidate.specs.declared.requested.Listed.{Listed}
 use Rattle.consolidate.specs.declared.fault.Fault.TheVariants as fault
+use Rattle.consolidate.proofs.Listed.{same_file}
 use Rattle.consolidate.proofs.Due.{due_behind, opening_due, range_due}
 
 -- ---- the plan, opened again
 
 -- the marks of a plan that is cut anew are those of the same list
-pub reopened : (text : List ℕ) (project : ListProject) (binding : Binding) (values : OptionValues)
-    (was is : MarkedWork) → IsMarkedFor text project binding values was → is.work.planned ≡ was.work.planned
-    → is.work.sounds ≡ was.work.sounds → is.run ≡ was.run → IsMarkedFor text project binding values is
-reopened text project binding values was is of plan sounds run = record {
-  range = ap (λ (p : Planned). p.range) plan ∙ of.range;
-  whole = λ sources. ap (λ (p : Planned). rendering_of p.range (heard p is.work.sounds sources)) plan
-      ∙ ap (λ (s : List SoundFacts). rendering_of was.work.planned.range (heard was.work.planned s sources)) sounds
+pub reopened : (listed : Listed) (was is : MarkedWork) → IsMarkedIn listed was → IsReopened was is → IsMarkedIn listed is
+reopened listed was is of back = record {
+  range = ap (λ (p : Planned). p.range) back.planned ∙ of.range;
+  whole = λ sources. ap (λ (p : Planned). rendering_of p.range (heard p is.work.sounds sources)) back.planned
+      ∙ ap (λ (s : List SoundFacts). rendering_of was.work.planned.range (heard was.work.planned s sources)) back.sounds
       ∙ of.whole sources;
   reads_back = of.reads_back;
-  run = run ∙ of.run;
+  run = back.run ∙ of.run;
 }
 
-module _ (text : List ℕ) (project : ListProject) (binding : Binding) (values : OptionValues) (marked : MarkedWork)
-    (of : IsMarkedFor text project binding values marked) (sources : Files) where
-  -- marks that are true of the list's file are true of the plan's
-  from_list_true : (c d : Files) → AreTrueMarks (list_marking text values sources project binding) c d
-      → AreTrueMarks (marks_of marked sources) c d
-  from_list_true c d is = record {
+module _ (listed : Listed) (marked : MarkedWork) (of : IsMarkedIn listed marked) (sources : Files) where
+  -- what is left of the list's file is left of the plan's
+  pub from_list : (outcomes : Files → Type 0) → IsLeftByRun (marking_in listed sources) outcomes
+      → IsLeftByRun (marks_of marked sources) outcomes
+  from_list outcomes left c d at other started = record {
     marks = as_file.marks;
     there = as_file.there;
     ours = record { front = as_file.ours.front; size = as_file.ours.size };
@@ -66,29 +66,13 @@ module _ (text : List ℕ) (project : ListProject) (binding : Binding) (values :
   }
     where
       as_file : AreTrueMarks (file_marking marked.work.planned.range (whole_of marked.work sources) marked.run) c d
-      as_file =
-          subst (λ (r : Range). AreTrueMarks (file_marking r (whole_of marked.work sources) marked.run) c d) (sym
-          of.range)
-          (subst (λ (w : List ℕ). AreTrueMarks (file_marking (range_of project values) w marked.run) c d)
-          (sym (of.whole sources))
-          (subst (λ (r : RunId). AreTrueMarks (file_marking (range_of project values)
-          (rendering_of (range_of project values) (project_mix sources project binding)) r) c d) (sym of.run) is))
-
-  -- what is left of the list's file is left of the plan's
-  pub from_list : (outcomes : Files → Type 0)
-      → IsLeftByRun (list_marking text values sources project binding) outcomes
-      → IsLeftByRun (marks_of marked sources) outcomes
-  from_list outcomes left c d at other started = from_list_true c d (left c d at other started)
+      as_file = subst (λ (m : Marking). AreTrueMarks m c d) (sym (same_file listed marked of sources))
+          (left c d at other started)
 
   -- and so of the blocks that are marked
   pub holds_list : (told : List ℕ) (c : Files) → HoldsMarked (marks_of marked sources) told c
-      → HoldsMarked (list_marking text values sources project binding) told c
-  holds_list told c held = subst (λ (r : RunId). HoldsMarked (file_marking (range_of project values)
-      (rendering_of (range_of project values) (project_mix sources project binding)) r) told c) of.run
-      (subst (λ (w : List ℕ). HoldsMarked (file_marking (range_of project values) w marked.run) told c)
-      (of.whole sources)
-      (subst (λ (r : Range). HoldsMarked (file_marking r (whole_of marked.work sources) marked.run) told c) of.range
-      as_file))
+      → HoldsMarked (marking_in listed sources) told c
+  holds_list told c held = subst (λ (m : Marking). HoldsMarked m told c) (same_file listed marked of sources) as_file
     where
       as_file : HoldsMarked (file_marking marked.work.planned.range (whole_of marked.work sources) marked.run) told c
       as_file = record {
@@ -145,10 +129,8 @@ some_counted count due is = is.2 ∙ sym (ap count_in is.1)
 -- marks come behind all else
 marks_turn : (due : Result (Option (List Bool)) MarkFault) → IfSome (fault_in due) (λ d. 10 ≤ turn_of d)
 marks_turn (Ok found) = tt
-marks_turn (Err (marks.Device file)) = omega arith
 marks_turn (Err marks.OtherRun) = omega arith
-marks_turn (Err marks.BadMarks) = omega arith
-marks_turn (Err marks.Memory) = omega arith
+marks_turn (Err _) = omega arith
 
 earlier : (due : Option Refusal) → IfSome due (λ d. 10 ≤ turn_of d) → (n : ℕ) → n ≤ 10
     → IfSome due (λ d. n ≤ turn_of d)
@@ -183,9 +165,7 @@ resuming_due text values files outputs project binding accepted =
 
 plan_turn : (of : RenderFault) → turn_of (rendering.refusal_of of) ≤ 10
 plan_turn Intervals = omega arith
-plan_turn EmptyRange = omega arith
-plan_turn Memory = omega arith
-plan_turn MarksMemory = omega arith
+plan_turn _ = omega arith
 
 -- a plan is refused before marks are opened
 pub plan_due : (of : RenderFault) (first : Option Refusal) (due : Result (Option (List Bool)) MarkFault)
@@ -212,20 +192,26 @@ open_due marks.BadMarks due is = rw (is) refl
 open_due marks.Memory due is = in_place (refusal_of_marks marks.Memory) (fault_in due) (omega arith) (marks_turn due)
 open_due (marks.Device file) due is = in_place (refusal_of_marks (marks.Device file)) (fault_in due) (omega arith) (marks_turn due)
 
+-- of what is asked for
+
+pub open_due_of : (listed : Listed) (outputs : Files) (of : MarkFault) → fault_of_range listed ≡ None
+    → IsFoundAs (Err of) (marks_in listed outputs)
+    → IsDue (refusal_of_marks of) (first_fault (fault_of_range listed) (fault_in (marks_in listed outputs)))
+open_due_of listed outputs of none is = subst (λ (d : Option Refusal). IsDue (refusal_of_marks of)
+    (first_fault d (fault_in (marks_in listed outputs)))) (sym none) (open_due of (marks_in listed outputs) is)
+
+pub none_due_of : (listed : Listed) (outputs : Files) (found : Option ℕ) → fault_of_range listed ≡ None
+    → IsFoundAs (Ok found) (marks_in listed outputs)
+    → first_fault (fault_of_range listed) (fault_in (marks_in listed outputs)) ≡ None
+none_due_of listed outputs found none is =
+    ap (λ (d : Option Refusal). first_fault d (fault_in (marks_in listed outputs))) none
+    ∙ found_due found (marks_in listed outputs) is
+
+pub always_due : (of : Fault) (due : Option Refusal) → due ≡ None → IsAlwaysDue of → IsDue (refusal_of of) due
+always_due of due none is = subst (λ (d : Option Refusal). IsDue (refusal_of of) d) (sym none) is
+
 -- ---- whose fault it is
 
 pub of_resuming : (text : List ℕ) (of : Fault) → IsOfRendering text of → IsOfResuming text of
-of_resuming text (fault.Project of) own = own
-of_resuming text fault.Intervals own = own
-of_resuming text fault.PassMemory own = own
-of_resuming text (fault.Silence name) own = own
-of_resuming text (fault.Runs of) own = own
-of_resuming text (fault.Relink of) own = own
-of_resuming text fault.RenderMemory own = own
-of_resuming text fault.BlockMemory own = own
-of_resuming text fault.EmptyRange own = own
-of_resuming text fault.BoardMemory own = own
 of_resuming text (fault.Marks of) own = tt
-of_resuming text fault.WorkerMemory own = own
-of_resuming text (fault.GivenUp job) own = own
-of_resuming text (fault.Output file) own = own
+of_resuming text _ own = own

@@ -31,9 +31,7 @@ raised_behind old mid new before r = record {
 -- no fault of marks tells of a source
 no_source : (of : MarkFault) → IsSource (fault.Marks of) → ⊥
 no_source (marks.Device file) e = late_not_early (sym e)
-no_source marks.OtherRun e = late_not_early (sym e)
-no_source marks.BadMarks e = late_not_early (sym e)
-no_source marks.Memory e = late_not_early (sym e)
+no_source _ e = late_not_early (sym e)
 
 -- a device's fault of marks names its file
 at_file : (of : MarkFault) (P : List ℕ → Type 0) → number_of of ≡ 62 → P (name_of of) → HoldsOfOutput (fault.Marks
@@ -53,6 +51,25 @@ untouched_twice stored may_leave moment left_since old mid new one other = recor
   moments = joined moment left_since old mid new (may_leave old) (may_leave mid) one.crash one.moments other.moments;
 }
 
+-- a reading behind one that didn't fail
+pub read_behind : {S : Type 0} (shelf : source.Ghosts S) (old mid new : S)
+    {quiet device failed quiet_so device_so failed_so : Type 0}
+    → HasRead shelf.stored shelf.honest shelf.failures shelf.failed_at old mid ⊤ ⊥ ⊤
+    → HasRead shelf.stored shelf.honest shelf.failures shelf.failed_at mid new quiet device failed
+    → (quiet_so → quiet) → (device_so → device) → (failed → failed_so)
+    → HasRead shelf.stored shelf.honest shelf.failures shelf.failed_at old new quiet_so device_so failed_so
+read_behind shelf old mid new opened read quiets devices fails = let still = opened.cause.left tt in record {
+  same = read.same ∙ opened.same;
+  honest_same = read.honest_same ∙ opened.honest_same;
+  cause = record {
+    later = omega (arith, read.cause.later, still);
+    left = λ none. read.cause.left (quiets none) ∙ still;
+    rose = λ device few. omega (arith, still, read.cause.rose (devices device) (omega (arith, few, still)));
+  };
+  keeps = λ n was. read.keeps n (opened.keeps n was);
+  failed_there = fails read.failed_there;
+}
+
 -- no memory was left after the first write
 abbrev pub IsLateMemory : Fault → Type 0
 IsLateMemory fault.WorkerMemory = ⊤
@@ -62,50 +79,17 @@ IsLateMemory _ = ⊥
 memory_late : (cause : Fault) → IsLateMemory cause → (refusal_of cause).late ≡ true
 memory_late fault.WorkerMemory is = refl
 memory_late fault.BlockMemory is = refl
-memory_late (fault.Project of) is = absurd is
-memory_late fault.Intervals is = absurd is
-memory_late fault.PassMemory is = absurd is
-memory_late (fault.Silence name) is = absurd is
-memory_late (fault.Runs of) is = absurd is
-memory_late (fault.Relink of) is = absurd is
-memory_late fault.RenderMemory is = absurd is
-memory_late fault.EmptyRange is = absurd is
-memory_late fault.BoardMemory is = absurd is
-memory_late (fault.Marks of) is = absurd is
-memory_late (fault.GivenUp job) is = absurd is
-memory_late (fault.Output name) is = absurd is
+memory_late _ is = absurd is
 
 memory_no_source : (cause : Fault) → IsLateMemory cause → IsSource cause → ⊥
 memory_no_source fault.WorkerMemory is device = late_not_early (sym device)
 memory_no_source fault.BlockMemory is device = late_not_early (sym device)
-memory_no_source (fault.Project of) is device = absurd is
-memory_no_source fault.Intervals is device = absurd is
-memory_no_source fault.PassMemory is device = absurd is
-memory_no_source (fault.Silence name) is device = absurd is
-memory_no_source (fault.Runs of) is device = absurd is
-memory_no_source (fault.Relink of) is device = absurd is
-memory_no_source fault.RenderMemory is device = absurd is
-memory_no_source fault.EmptyRange is device = absurd is
-memory_no_source fault.BoardMemory is device = absurd is
-memory_no_source (fault.Marks of) is device = absurd is
-memory_no_source (fault.GivenUp job) is device = absurd is
-memory_no_source (fault.Output name) is device = absurd is
+memory_no_source _ is device = absurd is
 
 memory_no_output : (cause : Fault) → IsLateMemory cause → IsOutput cause → ⊥
 memory_no_output fault.WorkerMemory is device = let e : 60 ≡ 62 = device in omega (arith, e)
 memory_no_output fault.BlockMemory is device = let e : 57 ≡ 62 = device in omega (arith, e)
-memory_no_output (fault.Project of) is device = absurd is
-memory_no_output fault.Intervals is device = absurd is
-memory_no_output fault.PassMemory is device = absurd is
-memory_no_output (fault.Silence name) is device = absurd is
-memory_no_output (fault.Runs of) is device = absurd is
-memory_no_output (fault.Relink of) is device = absurd is
-memory_no_output fault.RenderMemory is device = absurd is
-memory_no_output fault.EmptyRange is device = absurd is
-memory_no_output fault.BoardMemory is device = absurd is
-memory_no_output (fault.Marks of) is device = absurd is
-memory_no_output (fault.GivenUp job) is device = absurd is
-memory_no_output (fault.Output name) is device = absurd is
+memory_no_output _ is device = absurd is
 
 module _ {S B : Type 0} (shelf : source.Ghosts S) (bench : output.Ghosts B) where
   -- a bench that no call has touched
@@ -199,25 +183,37 @@ module _ {S B : Type 0} (shelf : source.Ghosts S) (bench : output.Ghosts B) wher
     failed_output = tt;
   }
 
+  -- a call that a fault behind the first write ended, which tells of no source
+  late_end : {X : Type 0} (old new : S) (before after : B) (of : Fault) → (refusal_of of).late ≡ true
+      → (IsSource of → ⊥) → (IsOutput of → Rises (bench.failures before) (bench.failures after))
+      → (IsOutput of → HoldsOfOutput of (bench.failed_at after)) → shelf.stored new ≡ shelf.stored old
+      → shelf.honest new ≡ shelf.honest old → bench.honest after ≡ bench.honest before
+      → shelf.failures old ≤ shelf.failures new → bench.failures before ≤ bench.failures after
+      → KeepsStores shelf bench {X = X} old new before after (Err of)
+  late_end old new before after of late no_source rises failed same honest_shelf honest_bench later_shelf later_bench =
+      record {
+        early = λ early. absurd (late_not_early (sym late ∙ early));
+        sources = same;
+        honest_shelf = honest_shelf;
+        honest_bench = honest_bench;
+        later_at_source = later_shelf;
+        later_at_output = later_bench;
+        cause_at_source = λ device. absurd (no_source device);
+        cause_of_62 = rises;
+        quiet_source = λ early. absurd (late_not_early (sym late ∙ early));
+        quiet_output = λ early. absurd (late_not_early (sym late ∙ early));
+        failed_source = λ device. absurd (no_source device);
+        failed_output = failed;
+      }
+
   -- a call that gave a job up
   pub gave_up : {X : Type 0} (old new : S) (before after : B) (job : ℕ) → shelf.stored new ≡ shelf.stored old
       → shelf.honest new ≡ shelf.honest old → bench.honest after ≡ bench.honest before
       → shelf.failures old ≤ shelf.failures new → bench.failures before ≤ bench.failures after
       → KeepsStores shelf bench {X = X} old new before after (Err (fault.GivenUp job))
-  gave_up old new before after job same honest_shelf honest_bench later_shelf later_bench = record {
-    early = λ early. absurd (late_not_early early);
-    sources = same;
-    honest_shelf = honest_shelf;
-    honest_bench = honest_bench;
-    later_at_source = later_shelf;
-    later_at_output = later_bench;
-    cause_at_source = λ device. absurd (late_not_early (sym device));
-    cause_of_62 = λ device. absurd (let e : 66 ≡ 62 = device in omega (arith, e));
-    quiet_source = λ early. absurd (late_not_early early);
-    quiet_output = λ early. absurd (late_not_early early);
-    failed_source = λ device. absurd (late_not_early (sym device));
-    failed_output = λ device. absurd (let e : 66 ≡ 62 = device in omega (arith, e));
-  }
+  gave_up old new before after job = late_end old new before after (fault.GivenUp job) refl
+      (λ device. late_not_early (sym device)) (λ device. absurd (let e : 66 ≡ 62 = device in omega (arith, e)))
+      (λ device. absurd (let e : 66 ≡ 62 = device in omega (arith, e)))
 
   -- a call that found no memory for a worker, or for the bytes of a job
   pub no_room : {X : Type 0} (old new : S) (before after : B) (cause : Fault) → IsLateMemory cause
@@ -225,20 +221,9 @@ module _ {S B : Type 0} (shelf : source.Ghosts S) (bench : output.Ghosts B) wher
       → shelf.honest new ≡ shelf.honest old → bench.honest after ≡ bench.honest before
       → shelf.failures old ≤ shelf.failures new → bench.failures before ≤ bench.failures after
       → KeepsStores shelf bench {X = X} old new before after (Err cause)
-  no_room old new before after cause is same honest_shelf honest_bench later_shelf later_bench = record {
-    early = λ early. absurd (late_not_early (sym (memory_late cause is) ∙ early));
-    sources = same;
-    honest_shelf = honest_shelf;
-    honest_bench = honest_bench;
-    later_at_source = later_shelf;
-    later_at_output = later_bench;
-    cause_at_source = λ device. absurd (memory_no_source cause is device);
-    cause_of_62 = λ device. absurd (memory_no_output cause is device);
-    quiet_source = λ early. absurd (late_not_early (sym (memory_late cause is) ∙ early));
-    quiet_output = λ early. absurd (late_not_early (sym (memory_late cause is) ∙ early));
-    failed_source = λ device. absurd (memory_no_source cause is device);
-    failed_output = λ device. absurd (memory_no_output cause is device);
-  }
+  no_room old new before after cause is = late_end old new before after cause (memory_late cause is)
+      (memory_no_source cause is) (λ device. absurd (memory_no_output cause is device))
+      (λ device. absurd (memory_no_output cause is device))
 
   -- a call that an output's device stopped
   pub stopped_at : {X : Type 0} (old new : S) (before after : B) (file : OutputFile)
@@ -247,44 +232,9 @@ module _ {S B : Type 0} (shelf : source.Ghosts S) (bench : output.Ghosts B) wher
       → shelf.failures old ≤ shelf.failures new → Rises (bench.failures before) (bench.failures after)
       → bench.failed_at after (name_of_output file)
       → KeepsStores shelf bench {X = X} old new before after (Err (fault.Output file))
-  stopped_at old new before after file same honest_shelf honest_bench later_shelf rises failed = record {
-    early = λ early. absurd (late_not_early early);
-    sources = same;
-    honest_shelf = honest_shelf;
-    honest_bench = honest_bench;
-    later_at_source = later_shelf;
-    later_at_output = rises.later;
-    cause_at_source = λ device. absurd (late_not_early (sym device));
-    cause_of_62 = λ _. rises;
-    quiet_source = λ early. absurd (late_not_early early);
-    quiet_output = λ early. absurd (late_not_early early);
-    failed_source = λ device. absurd (late_not_early (sym device));
-    failed_output = λ _. failed;
-  }
-
-  -- a call behind others that wrote and failed nowhere
-  pub behind_start : (X : Type 0) (old new : S) (before mid after : B) (result : Result X Fault)
-      → bench.honest mid ≡ bench.honest before → bench.failures before ≤ bench.failures mid
-      → IfErr result (λ fault. (refusal_of fault).late ≡ true)
-      → KeepsStores shelf bench {X = X} old new mid after result
-      → KeepsStores shelf bench {X = X} old new before after result
-  behind_start X old new before mid after (Ok x) same later late told = went_on old new before after x told.sources
-      told.honest_shelf (told.honest_bench ∙ same) told.later_at_source (omega (arith, later, told.later_at_output))
-  behind_start X old new before mid after (Err fault) same later late told = record {
-    early = λ early. absurd (late_not_early (sym late ∙ early));
-    sources = told.sources;
-    honest_shelf = told.honest_shelf;
-    honest_bench = told.honest_bench ∙ same;
-    later_at_source = told.later_at_source;
-    later_at_output = omega (arith, later, told.later_at_output);
-    cause_at_source = told.cause_at_source;
-    cause_of_62 = λ device. raised_behind (bench.failures before) (bench.failures mid) (bench.failures after) later
-        (told.cause_of_62 device);
-    quiet_source = told.quiet_source;
-    quiet_output = λ early. absurd (late_not_early (sym late ∙ early));
-    failed_source = told.failed_source;
-    failed_output = told.failed_output;
-  }
+  stopped_at old new before after file same honest_shelf honest_bench later_shelf rises failed =
+      late_end old new before after (fault.Output file) refl (λ device. late_not_early (sym device)) (λ _. rises)
+      (λ _. failed) same honest_shelf honest_bench later_shelf rises.later
 
   -- marks that aren't opened
   pub not_opened : (X Y : Type 0) (s : S) (before after : B) (of : MarkFault)

@@ -1,10 +1,11 @@
 -- What each call answers, and what it leaves of the sources and of the outputs.
-use Rattle.std.specs.Prelude.{◌≡◌, ◌≢◌, ◌≤◌, ◌==◌, ◌||◌, ◌*◌, ℕ, false, true, IsTrue, Option, None, List, Result, Ok, Err, Some, IfOk, IfErr, IsOk, IsErrAnd, is_some, OnOk, ◌++◌, codes, string_bytes}
+use Rattle.std.specs.Prelude.{◌≡◌, ◌≢◌, ◌≤◌, ◌==◌, ◌||◌, ◌*◌, ℕ, ⊤, false, true, IsTrue, Option, None, List, Result, Ok, Err, Some, IfOk, IfErr, IsOk, IsErrAnd, is_some, OnOk, ◌++◌, codes, string_bytes}
 use Rattle.devices.specs.declared.source.Shelf as source
 use Rattle.devices.specs.declared.bench.Bench as output
 use Rattle.devices.specs.Frame.{OnlyReads, OnlyWrites}
 use Rattle.devices.specs.Views.{output_view, source_view}
 use Rattle.job_terms.specs.Workers.{rounds}
+use Rattle.job_terms.specs.declared.BoardEvent.{BoardEvent}
 use Rattle.execution.specs.declared.fault.ExecutionFault.{ExecutionFault}
 use Rattle.job_terms.specs.declared.Progress.{Progress}
 use Rattle.work_terms.specs.Disk.{Files, HasCause, IsUntouched, LeavesOnly, Rises}
@@ -148,40 +149,64 @@ module _ {S B : Type 0} (shelf : source.Ghosts S) (bench : output.Ghosts B) wher
     pub failed_source : IfErr result (λ fault. IsSource fault → HoldsOfSource fault (shelf.failed_at shelf_new))
     pub failed_output : IfErr result (λ fault. IsOutput fault → HoldsOfOutput fault (bench.failed_at bench_new))
 
-  -- the list was rendered over these stores in jobs of this length, with this outcome
-  pub record IsRendering (jobs : JobLength) (list : List ℕ) (values : OptionValues) (shelf_old shelf_new : S)
-      (bench_old bench_new : B) (result : Result Rendered Fault) : Type 0 where
-    pub rendered : IsTrue (shelf.honest shelf_old) → IsTrue (bench.honest bench_old)
-        → IfOk result (IsRendered list values (shelf.stored shelf_old) (bench.stored bench_new))
-    pub durable : IsTrue (bench.honest bench_old)
-        → OnOk result (AreBothDurable (bench.stored bench_new) (bench.may_leave bench_new))
-    pub marked : IsTrue (shelf.honest shelf_old) → IsTrue (bench.honest bench_old)
-        → OnOk result (HasAllMarks list values (bench.stored bench_new marks_name))
-    pub any_moment : IsTrue (shelf.honest shelf_old) → IsTrue (bench.honest bench_old)
-        → NoneStarted (bench.may_leave bench_old)
+  -- What a call answers of the rendering of a list, and what it leaves. `IsFinished` says of what it reports that all is
+  -- done; `began` is what has to hold for that, `started` for what a crash leaves, and `known` for its refusals.
+  pub record IsAnswer {X : Type 0} (IsFinished Has : X → Type 0) (Says : X → Progress → Type 0) (list : List ℕ)
+      (values : OptionValues) (began started known : Type 0) (due : Option Refusal) (Own : List ℕ → Fault → Type 0)
+      (Came : Result Progress ExecutionFault → Type 0) (shelf_old shelf_new : S) (bench_old bench_new : B)
+      (result : Result X Fault) : Type 0 where
+    pub rendered : IsTrue (shelf.honest shelf_old) → IsTrue (bench.honest bench_old) → began
+        → IfOk result (λ told. IsFinished told → Has told)
+    pub durable : IsTrue (bench.honest bench_old) → IfOk result (λ told. IsFinished told
+        → AreBothDurable (bench.stored bench_new) (bench.may_leave bench_new))
+    pub all_marked : IsTrue (shelf.honest shelf_old) → IsTrue (bench.honest bench_old) → began
+        → IfOk result (λ told. IsFinished told → HasAllMarks list values (bench.stored bench_new marks_name))
+    pub any_moment : IsTrue (shelf.honest shelf_old) → IsTrue (bench.honest bench_old) → started
         → LeavesOnly bench.moment bench.left_since bench_old bench_new (IsLeftOf list values (shelf.stored shelf_old))
-    pub left : IsTrue (shelf.honest shelf_old) → IsTrue (bench.honest bench_old)
-        → NoneStarted (bench.may_leave bench_old)
+    pub left : IsTrue (shelf.honest shelf_old) → IsTrue (bench.honest bench_old) → started
         → IsLeftByRendering list values (shelf.stored shelf_old) (bench.may_leave bench_new)
-    pub report : IfOk result (Reports list values)
-    pub refusals : IsTrue (shelf.honest shelf_old)
-        → Answers refusal_of result (render_refusal list values (shelf.stored shelf_old))
+    pub outcome : IsTrue (shelf.honest shelf_old) → IsTrue (bench.honest bench_old) → began → HasBegun result
+        → (ended : Result Progress ExecutionFault) × AnswersAs rendering_fault Says result ended × Came ended
+    pub refusals : IsTrue (shelf.honest shelf_old) → known → Answers refusal_of result due
     pub bad_text : RefusesBadText list result
-    pub own : IfErr result (IsOfRendering list)
+    pub own : IfErr result (Own list)
     pub in_turn : IsTrue (shelf.honest shelf_old) → IfErr result (IsFirst list (shelf.stored shelf_old))
     pub named : IsTrue (bench.honest bench_old) → (n : List ℕ) → IsOther n
         → bench.stored bench_new n ≡ bench.stored bench_old n
+    pub stores : KeepsStores shelf_old shelf_new bench_old bench_new result
+
+  -- the list was rendered over these stores in jobs of this length, with this outcome
+  pub record IsRendering (jobs : JobLength) (list : List ℕ) (values : OptionValues) (shelf_old shelf_new : S)
+      (bench_old bench_new : B) (result : Result Rendered Fault) : Type 0 where
+    pub answer : IsAnswer (λ _. ⊤) (IsRendered list values (shelf.stored shelf_old) (bench.stored bench_new))
+        (λ _ progress. progress.finished ≡ true) list values ⊤ (NoneStarted (bench.may_leave bench_old)) ⊤
+        (render_refusal list values (shelf.stored shelf_old)) IsOfRendering
+        (RendersList jobs in_rounds list values (source_view shelf shelf_old) (source_view shelf shelf_new)
+        (output_view bench bench_old) (output_view bench bench_new)) shelf_old shelf_new bench_old bench_new result
+    pub report : IfOk result (Reports list values)
+
+  -- What a call answers of the consolidation of a list, and what it leaves, however far it came.
+  pub record IsMediaAnswer {X : Type 0} (Says : X → Progress → Type 0) (Own : List ℕ → Fault → Type 0)
+      (leave : Leaving) (list : List ℕ) (handle : ℕ) (asked : Option AskedReport) (events : ℕ → List BoardEvent)
+      (shelf_old shelf_new : S) (bench_old bench_new : B) (result : Result X Fault) : Type 0 where
+    pub refusals : IsTrue (shelf.honest shelf_old) → RefusesByWork leave list handle (shelf.stored shelf_old) result
+    pub bad_list : IsTrue (shelf.honest shelf_old) → RefusesBadList list (shelf.stored shelf_old) result
+    pub bad_text : RefusesBadText list result
+    pub own : IfErr result (Own list)
+    pub in_turn : IsTrue (shelf.honest shelf_old) → IfErr result (IsFirst list (shelf.stored shelf_old))
+    pub named : IsTrue (bench.honest bench_old) → (n : List ℕ) → IsElsewhere (is_some asked) 32767 n
+        → bench.stored bench_new n ≡ bench.stored bench_old n
     pub outcome : IsTrue (shelf.honest shelf_old) → IsTrue (bench.honest bench_old) → HasBegun result
-        → (ended : Result Progress ExecutionFault)
-        × AnswersAs rendering_fault (λ _ progress. progress.finished ≡ true) result ended
-        × RendersList jobs in_rounds list values (source_view shelf shelf_old) (source_view shelf shelf_new)
-        (output_view bench bench_old) (output_view bench bench_new) ended
+        → ConsolidatesList leave list handle asked events Says (source_view shelf shelf_old)
+        (source_view shelf shelf_new) (output_view bench bench_old) (output_view bench bench_new) result
     pub stores : KeepsStores shelf_old shelf_new bench_old bench_new result
 
   -- the list was consolidated over these stores by what passes leave of it, with the report that is asked for,
   -- with this outcome
   pub record IsConsolidation (leave : Leaving) (list : List ℕ) (handle : ℕ) (asked : Option AskedReport)
       (shelf_old shelf_new : S) (bench_old bench_new : B) (result : Result Written Fault) : Type 0 where
+    pub answer : IsMediaAnswer (λ _ progress. progress.finished ≡ true) (IsOfConsolidation (is_some asked)) leave list
+        handle asked (λ count. rounds (3 * count)) shelf_old shelf_new bench_old bench_new result
     pub same_sound : IsTrue (shelf.honest shelf_old) → IsTrue (bench.honest bench_old)
         → OnOk result (SoundsTheSame list (shelf.stored shelf_old) (bench.stored bench_new))
     pub written : IsTrue (shelf.honest shelf_old) → IsTrue (bench.honest bench_old)
@@ -190,24 +215,12 @@ module _ {S B : Type 0} (shelf : source.Ghosts S) (bench : output.Ghosts B) wher
     pub durable : IsTrue (bench.honest bench_old)
         → IfOk result (λ told. AreDurable (is_some asked) told.media (bench.stored bench_new) (bench.may_leave
         bench_new))
-    pub refusals : IsTrue (shelf.honest shelf_old) → RefusesByWork leave list handle (shelf.stored shelf_old) result
-    pub bad_list : IsTrue (shelf.honest shelf_old) → RefusesBadList list (shelf.stored shelf_old) result
-    pub bad_text : RefusesBadText list result
-    pub own : IfErr result (IsOfConsolidation (is_some asked) list)
-    pub in_turn : IsTrue (shelf.honest shelf_old) → IfErr result (IsFirst list (shelf.stored shelf_old))
-    pub named : IsTrue (bench.honest bench_old) → (n : List ℕ) → IsElsewhere (is_some asked) 32767 n
-        → bench.stored bench_new n ≡ bench.stored bench_old n
     pub list_last : IsTrue (bench.honest bench_old) → IfErr result (λ told. told ≢ fault.Output file.List
         → bench.stored bench_new (codes "consolidated.adl") ≡ bench.stored bench_old (codes "consolidated.adl"))
     -- the last file before the list
     pub report_last : IsTrue (bench.honest bench_old) → IfErr result (λ told. told ≢ fault.Output file.List
         → told ≢ fault.Output file.Report
         → bench.stored bench_new (codes "consolidated.json") ≡ bench.stored bench_old (codes "consolidated.json"))
-    pub outcome : IsTrue (shelf.honest shelf_old) → IsTrue (bench.honest bench_old) → HasBegun result
-        → ConsolidatesList leave list handle asked (λ count. rounds (3 * count))
-        (λ _ progress. progress.finished ≡ true) (source_view shelf shelf_old) (source_view shelf shelf_new)
-        (output_view bench bench_old) (output_view bench bench_new) result
-    pub stores : KeepsStores shelf_old shelf_new bench_old bench_new result
 
 -- the list was checked over these sources, with this outcome
 pub record IsChecking {S : Type 0} (shelf : source.Ghosts S) (list : List ℕ) (old new : S)

@@ -17,3 +17,7 @@ AnswersAs fault_for Reports (Ok answer) (Ok progress) = Reports answer progress
 AnswersAs fault_for Reports (Ok answer) (Err cause) = ⊥
 AnswersAs fault_for Reports (Err fault) (Ok progress) = ⊥
 AnswersAs fault_for Reports (Err fault) (Err cause) = fault ≡ fault_for cause
+
+-- all is done
+abbrev pub IsAllDone : Progress → Type 0
+IsAllDone progress = IsTrue progress.finished

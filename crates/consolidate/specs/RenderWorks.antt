@@ -1,5 +1,7 @@
 -- What the calls inside `render`, `resume` and the schedule of a rendering leave.
 use Rattle.std.specs.Prelude.{◌≡◌, ◌<◌, ℕ, ⊤, Bool, false, IsTrue, IfOk, Some, List, Result, length, slice_index_or}
+use Rattle.std.specs.List.{All}
+use Rattle.clipping.specs.declared.tally.Clips.{Clips}
 use Rattle.devices.specs.declared.source.Shelf as source
 use Rattle.devices.specs.declared.bench.Bench as output
 use Rattle.devices.specs.Views.{output_view, source_view}
@@ -12,16 +14,19 @@ use Rattle.execution.specs.declared.fault.ExecutionFault.{ExecutionFault}
 use Rattle.job_terms.specs.Workers.{Nothing, jobs_over}
 use Rattle.job_terms.specs.declared.BoardEvent.{BoardEvent}
 use Rattle.job_terms.specs.declared.Progress.{Progress}
+use Rattle.markfile.specs.Format.{marks_name}
 use Rattle.markfile.specs.Started.{NoneStarted}
 use Rattle.markfile.specs.declared.run.RunId.{RunId}
+use Rattle.rendering.specs.Clipping.{ClipsUnmarked}
+use Rattle.rendering.specs.Cut.{IsUniform}
 use Rattle.rendering.specs.Maker.{HasSoundJobs, IsMarkedWork, marks_of, plan_of}
-use Rattle.rendering.specs.Marked.{IsLeftByRun, IsOther, IsResumable, MarkedWork, full_marks}
-use Rattle.rendering.specs.Work.{done_before, work_of}
+use Rattle.rendering.specs.Marked.{HoldsMarked, IsLeftByRun, IsOther, IsResumable, MarkedWork, full_marks}
+use Rattle.rendering.specs.Work.{done_before, heard, work_of}
 use Rattle.workboard.specs.Indexed.{IsOrder}
 use Rattle.work_terms.specs.Disk.{Files, LeavesOnly}
 use Rattle.consolidate.specs.Commands.{KeepsStores}
 use Rattle.consolidate.specs.Marks.{AreBothDurable}
-use Rattle.consolidate.specs.Outcomes.{AnswersAs, HasBegun}
+use Rattle.consolidate.specs.Outcomes.{AnswersAs, HasBegun, IsAllDone}
 use Rattle.consolidate.specs.RenderOutcome.{IsRenderedWork, IsResumedWork, rendering_fault}
 use Rattle.consolidate.specs.declared.fault.Fault.{Fault}
 use Rattle.consolidate.specs.declared.fault.Fault.TheVariants as fault
@@ -67,17 +72,17 @@ StandsAsMarked marked sources stored outcomes = (done : ℕ → Bool)
     → IsRunning (marks_of marked sources) done outcomes
     × AreFilled (jobs_over (plan_of marked).jobs sources) ((plan_of marked).whole sources) done stored
 
-module _ {S B X : Type 0} (shelf : source.Ghosts S) (bench : output.Ghosts B) where
+module _ {S B : Type 0} (shelf : source.Ghosts S) (bench : output.Ghosts B) where
   -- What a call leaves of an output and its marks, where it reports that all is done and where it fails. `began` is what
   -- has to hold for its result, and `started` for what a crash leaves.
-  pub record DoesWork (IsFinished : X → Type 0) (Reports : X → Progress → Type 0) (m : Marking) (run : RunId)
-      (began started : Type 0) (Came : Result Progress ExecutionFault → Type 0) (shelf_old shelf_new : S)
-      (bench_old bench_new : B) (result : Result X Fault) : Type 0 where
+  pub record DoesWork (m : Marking) (run : RunId) (began started : Type 0)
+      (Came : Result Progress ExecutionFault → Type 0) (shelf_old shelf_new : S) (bench_old bench_new : B)
+      (result : Result Progress Fault) : Type 0 where
     pub finished : IsTrue (shelf.honest shelf_old) → IsTrue (bench.honest bench_old) → began
-        → IfOk result (λ told. IsFinished told → bench.stored bench_new m.name ≡ Some m.whole)
+        → IfOk result (λ told. IsAllDone told → bench.stored bench_new m.name ≡ Some m.whole)
     pub marked : IsTrue (shelf.honest shelf_old) → IsTrue (bench.honest bench_old) → began
-        → IfOk result (λ told. IsFinished told → bench.stored bench_new m.marks ≡ Some (full_marks run))
-    pub durable : IsTrue (bench.honest bench_old) → IfOk result (λ told. IsFinished told
+        → IfOk result (λ told. IsAllDone told → bench.stored bench_new m.marks ≡ Some (full_marks run))
+    pub durable : IsTrue (bench.honest bench_old) → IfOk result (λ told. IsAllDone told
         → AreBothDurable (bench.stored bench_new) (bench.may_leave bench_new))
     pub left : IsTrue (shelf.honest shelf_old) → IsTrue (bench.honest bench_old) → started
         → IsLeftByRun m (bench.may_leave bench_new)
@@ -86,19 +91,14 @@ module _ {S B X : Type 0} (shelf : source.Ghosts S) (bench : output.Ghosts B) wh
     pub named : IsTrue (bench.honest bench_old) → (n : List ℕ) → IsOther n
         → bench.stored bench_new n ≡ bench.stored bench_old n
     pub outcome : IsTrue (shelf.honest shelf_old) → IsTrue (bench.honest bench_old) → began → HasBegun result
-        → (ended : Result Progress ExecutionFault) × AnswersAs rendering_fault Reports result ended × Came ended
+        → (ended : Result Progress ExecutionFault) × AnswersAs rendering_fault (λ told progress. told ≡ progress) result ended
+        × Came ended
     pub stores : KeepsStores shelf bench shelf_old shelf_new bench_old bench_new result
 
--- all is done
-abbrev pub IsAllDone : Progress → Type 0
-IsAllDone progress = IsTrue progress.finished
-
-module _ {S B : Type 0} (shelf : source.Ghosts S) (bench : output.Ghosts B) where
   -- from a work of which nothing is begun
   abbrev pub BeginsWork : (ℕ → List BoardEvent) → MarkedWork → S → S → B → B → Result Progress Fault → Type 0
   BeginsWork events marked shelf_old shelf_new bench_old bench_new result =
-      DoesWork shelf bench IsAllDone (λ told progress. told ≡ progress) (marks_of marked (shelf.stored shelf_old))
-      marked.run ⊤ (NoneStarted (bench.may_leave bench_old))
+      DoesWork (marks_of marked (shelf.stored shelf_old)) marked.run ⊤ (NoneStarted (bench.may_leave bench_old))
       (IsRenderedWork events marked (source_view shelf shelf_old) (source_view shelf shelf_new)
       (output_view bench bench_old) (output_view bench bench_new))
       shelf_old shelf_new bench_old bench_new result
@@ -106,10 +106,23 @@ module _ {S B : Type 0} (shelf : source.Ghosts S) (bench : output.Ghosts B) wher
   -- from a work some of whose blocks were marked
   abbrev pub GoesOnWithWork : MarkedWork → S → S → B → B → Result Progress Fault → Type 0
   GoesOnWithWork marked shelf_old shelf_new bench_old bench_new result =
-      DoesWork shelf bench IsAllDone (λ told progress. told ≡ progress) (marks_of marked (shelf.stored shelf_old))
-      marked.run
+      DoesWork (marks_of marked (shelf.stored shelf_old)) marked.run
       (StandsAsMarked marked (shelf.stored shelf_old) (bench.stored bench_old) (bench.may_leave bench_old))
       (StandsAsMarked marked (shelf.stored shelf_old) (bench.stored bench_old) (bench.may_leave bench_old))
       (IsResumedWork marked (source_view shelf shelf_old) (source_view shelf shelf_new)
       (output_view bench bench_old) (output_view bench bench_new))
       shelf_old shelf_new bench_old bench_new result
+
+  -- at each moment the blocks stand that were marked
+  abbrev pub KeepsMarked : MarkedWork → S → B → B → Type 0
+  KeepsMarked marked sources bench_old bench_new = IsTrue (shelf.honest sources) → IsTrue (bench.honest bench_old)
+      → StandsAsMarked marked (shelf.stored sources) (bench.stored bench_old) (bench.may_leave bench_old)
+      → (marks : List ℕ) → bench.stored bench_old marks_name ≡ Some marks
+      → LeavesOnly bench.moment bench.left_since bench_old bench_new
+      (HoldsMarked (marks_of marked (shelf.stored sources)) marks)
+
+-- this is clipped of the blocks of a work that aren't marked
+abbrev pub ClipsWork : {S : Type 0} → source.Ghosts S → MarkedWork → S → Clips → Type 0
+ClipsWork shelf marked sources clips = IsTrue (shelf.honest sources) → (marks : List Bool)
+    → All (IsUniform marks) marked.work.stretches → ClipsUnmarked marks marked.work.planned.range
+    (heard marked.work.planned marked.work.sounds (shelf.stored sources)) clips

@@ -1,12 +1,10 @@
 -- What going on with a rendering answers, and what it leaves.
-use Rattle.std.specs.Prelude.{◌≡◌, ◌-◌, ℕ, true, IsTrue, Option, Some, List, Result, Ok, IfErr, IfOk, OnOk, codes}
+use Rattle.std.specs.Prelude.{◌≡◌, ◌-◌, ℕ, ⊤, true, IsTrue, Option, Some, List, Result, Ok, IfOk, codes}
 use Rattle.devices.specs.declared.source.Shelf as source
 use Rattle.devices.specs.declared.bench.Bench as output
 use Rattle.devices.specs.Views.{output_view, source_view}
-use Rattle.execution.specs.declared.fault.ExecutionFault.{ExecutionFault}
-use Rattle.job_terms.specs.declared.Progress.{Progress}
 use Rattle.work_terms.specs.Disk.{Files, LeavesOnly}
-use Rattle.work_terms.specs.Refusals.{Answers, Refusal}
+use Rattle.work_terms.specs.Refusals.{Refusal}
 use Rattle.list_terms.specs.Accepted.{OptionValues, first_fault, range_of}
 use Rattle.list_terms.specs.Binding.{Binding}
 use Rattle.list_terms.specs.Heard.{IsAccepted}
@@ -16,15 +14,13 @@ use Rattle.adlread.specs.Spells.{Spells}
 use Rattle.markfile.specs.Format.{marks_name}
 use Rattle.markfile.specs.Opened.{opened_of}
 use Rattle.markfile.specs.Started.{is_started}
-use Rattle.rendering.specs.Marked.{IsOther, run_of}
+use Rattle.rendering.specs.Marked.{run_of}
 use Rattle.rendering.specs.Rendering as rendering
 use Rattle.rendering.specs.declared.cutting.JobLength.{JobLength}
-use Rattle.consolidate.specs.Commands.{KeepsStores, RefusesBadText, all_notices, render_refusal}
-use Rattle.consolidate.specs.Fault.{refusal_of}
-use Rattle.consolidate.specs.Marks.{AreBothDurable, HasAllMarks, HoldsMarked, IsLeftByRendering, IsLeftOf, count_in, marks_refusal}
-use Rattle.consolidate.specs.Own.{IsFirst, IsOfResuming}
-use Rattle.consolidate.specs.Outcomes.{AnswersAs, HasBegun}
-use Rattle.consolidate.specs.RenderOutcome.{ResumesList, rendering_fault}
+use Rattle.consolidate.specs.Commands.{IsAnswer, all_notices, render_refusal}
+use Rattle.consolidate.specs.Marks.{HoldsMarked, IsLeftByRendering, count_in, marks_refusal}
+use Rattle.consolidate.specs.Own.{IsOfResuming}
+use Rattle.consolidate.specs.RenderOutcome.{ResumesList}
 use Rattle.consolidate.specs.declared.fault.Fault.{Fault}
 use Rattle.consolidate.specs.declared.resumed.Resumed.{Resumed}
 
@@ -50,40 +46,20 @@ module _ {S B : Type 0} (shelf : source.Ghosts S) (bench : output.Ghosts B) wher
   -- the rendering of the list was gone on with over these stores in jobs of this length, with this outcome
   pub record IsResuming (jobs : JobLength) (list : List ℕ) (values : OptionValues) (shelf_old shelf_new : S)
       (bench_old bench_new : B) (result : Result Resumed Fault) : Type 0 where
-    pub rendered : IsTrue (shelf.honest shelf_old) → IsTrue (bench.honest bench_old)
-        → IsLeft list values shelf_old bench_old
-        → IfOk result (IsResumed list values (shelf.stored shelf_old) (bench.stored bench_new))
-    pub durable : IsTrue (bench.honest bench_old)
-        → OnOk result (AreBothDurable (bench.stored bench_new) (bench.may_leave bench_new))
+    pub answer : IsAnswer shelf bench (λ _. ⊤)
+        (IsResumed list values (shelf.stored shelf_old) (bench.stored bench_new))
+        (λ _ progress. progress.finished ≡ true) list values (IsLeft list values shelf_old bench_old)
+        (IsLeft list values shelf_old bench_old) (IsTrue (bench.honest bench_old))
+        (resume_refusal list values (shelf.stored shelf_old) (bench.stored bench_old)) IsOfResuming
+        (ResumesList jobs list values (source_view shelf shelf_old) (source_view shelf shelf_new)
+        (output_view bench bench_old) (output_view bench bench_new)) shelf_old shelf_new bench_old bench_new result
     pub marked : IsTrue (bench.honest bench_old) → (project : ListProject) → text_value list ≡ Ok project
         → IfOk result (λ told. told.marked ≡ count_in (opened_of (run_of list (range_of project values))
         (bench.stored bench_old)))
-    pub all_marked : IsTrue (shelf.honest shelf_old) → IsTrue (bench.honest bench_old)
-        → IsLeft list values shelf_old bench_old
-        → OnOk result (HasAllMarks list values (bench.stored bench_new marks_name))
-    pub any_moment : IsTrue (shelf.honest shelf_old) → IsTrue (bench.honest bench_old)
-        → IsLeft list values shelf_old bench_old
-        → LeavesOnly bench.moment bench.left_since bench_old bench_new (IsLeftOf list values (shelf.stored shelf_old))
-    pub left : IsTrue (shelf.honest shelf_old) → IsTrue (bench.honest bench_old)
-        → IsLeft list values shelf_old bench_old → IsLeft list values shelf_old bench_new
     pub keeps_marked : IsTrue (shelf.honest shelf_old) → IsTrue (bench.honest bench_old)
         → IsLeft list values shelf_old bench_old
         → (marks : List ℕ) → bench.stored bench_old marks_name ≡ Some marks → is_started (Some marks) ≡ true
         → LeavesOnly bench.moment bench.left_since bench_old bench_new
         (HoldsMarked list values (shelf.stored shelf_old) marks)
-    pub outcome : IsTrue (shelf.honest shelf_old) → IsTrue (bench.honest bench_old)
-        → IsLeft list values shelf_old bench_old → HasBegun result
-        → (ended : Result Progress ExecutionFault)
-        × AnswersAs rendering_fault (λ _ progress. progress.finished ≡ true) result ended
-        × ResumesList jobs list values (source_view shelf shelf_old) (source_view shelf shelf_new)
-        (output_view bench bench_old) (output_view bench bench_new) ended
     pub report : (project : ListProject) → text_value list ≡ Ok project
         → IfOk result (λ told. told.frames ≡ (range_of project values).to - (range_of project values).from)
-    pub refusals : IsTrue (shelf.honest shelf_old) → IsTrue (bench.honest bench_old)
-        → Answers refusal_of result (resume_refusal list values (shelf.stored shelf_old) (bench.stored bench_old))
-    pub bad_text : RefusesBadText list result
-    pub own : IfErr result (IsOfResuming list)
-    pub in_turn : IsTrue (shelf.honest shelf_old) → IfErr result (IsFirst list (shelf.stored shelf_old))
-    pub named : IsTrue (bench.honest bench_old) → (n : List ℕ) → IsOther n
-        → bench.stored bench_new n ≡ bench.stored bench_old n
-    pub stores : KeepsStores shelf bench shelf_old shelf_new bench_old bench_new result

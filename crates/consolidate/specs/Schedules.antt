@@ -1,34 +1,28 @@
 -- What the events of any number of workers leave of a command.
-use Rattle.std.specs.Prelude.{◌≡◌, ◌≢◌, ℕ, false, IsTrue, IfErr, IfOk, None, List, Result, Ok, Err, codes}
+use Rattle.std.specs.Prelude.{◌≡◌, ◌≢◌, ℕ, ⊤, false, IsTrue, IfOk, Option, None, is_some, List, Result, Ok, Err, codes}
 use Rattle.devices.specs.declared.source.Shelf as source
 use Rattle.devices.specs.declared.bench.Bench as output
 use Rattle.devices.specs.Views.{output_view, source_view}
-use Rattle.execution.specs.declared.fault.ExecutionFault.{ExecutionFault}
-use Rattle.work_terms.specs.Disk.{Files, IsDurable, LeavesOnly}
-use Rattle.work_terms.specs.Refusals.{Answers}
+use Rattle.work_terms.specs.Disk.{Files, IsDurable}
 use Rattle.job_terms.specs.declared.BoardEvent.{BoardEvent}
 use Rattle.job_terms.specs.declared.Progress.{Progress}
 use Rattle.list_terms.specs.Accepted.{OptionValues}
 use Rattle.list_terms.specs.Binding.{Binding}
 use Rattle.list_terms.specs.Heard.{IsAccepted}
 use Rattle.list_terms.specs.Project.{ListProject}
-use Rattle.markfile.specs.Format.{marks_name}
 use Rattle.markfile.specs.Started.{NoneStarted}
-use Rattle.rendering.specs.Marked.{IsOther}
 use Rattle.rendering.specs.Rendering as rendering
 use Rattle.rendering.specs.declared.cutting.JobLength.{JobLength}
 use Rattle.passes.specs.Left.{Leaving}
+use Rattle.provenance.specs.Asked.{AskedReport}
 use Rattle.consolidation.specs.Consolidated as consolidation
-use Rattle.consolidation.specs.Consolidated.{AreDurable, IsElsewhere}
+use Rattle.consolidation.specs.Consolidated.{AreDurable}
 use Rattle.consolidation.specs.Work.{SoundsTheSame}
 use Rattle.consolidation.specs.declared.written.Written.{Written}
-use Rattle.consolidate.specs.Commands.{KeepsStores, RefusesBadList, RefusesBadText, RefusesByWork, render_refusal}
-use Rattle.consolidate.specs.Fault.{refusal_of}
-use Rattle.consolidate.specs.Marks.{AreBothDurable, HasAllMarks, IsLeftByRendering, IsLeftOf}
-use Rattle.consolidate.specs.MediaOutcome.{ConsolidatesList}
-use Rattle.consolidate.specs.Outcomes.{HasBegun, AnswersAs}
-use Rattle.consolidate.specs.Own.{IsFirst, IsOfConsolidationSchedule, IsOfRenderSchedule}
-use Rattle.consolidate.specs.RenderOutcome.{RendersList, rendering_fault}
+use Rattle.consolidate.specs.Commands.{IsAnswer, IsMediaAnswer, render_refusal}
+use Rattle.consolidate.specs.Outcomes.{IsAllDone}
+use Rattle.consolidate.specs.Own.{IsOfConsolidationSchedule, IsOfRenderSchedule}
+use Rattle.consolidate.specs.RenderOutcome.{RendersList}
 use Rattle.consolidate.specs.declared.fault.Fault.{Fault}
 use Rattle.consolidate.specs.declared.fault.Fault.TheVariants as fault
 use Rattle.consolidate.specs.declared.fault.OutputFile.TheVariants as file
@@ -42,10 +36,10 @@ pub record HasRendering (text : List ℕ) (values : OptionValues) (sources writt
 
 -- the media of a project are written and the list over them, no other file has changed, and a crash leaves them so
 pub record IsWrittenOut (leave : Leaving) (project : ListProject) (binding : Binding) (handle : ℕ)
-    (sources old new : Files) (may_leave : Files → Type 0) : Type 0 where
+    (asked : Option AskedReport) (sources old new : Files) (may_leave : Files → Type 0) : Type 0 where
   pub counts : Written
-  pub written : consolidation.IsConsolidated leave project binding handle None sources old new counts
-  pub durable : AreDurable false counts.media new may_leave
+  pub written : consolidation.IsConsolidated leave project binding handle asked sources old new counts
+  pub durable : AreDurable (is_some asked) counts.media new may_leave
 
 -- The list is accepted, the media of what passes leave of it are written and the list over them, which sounds as it does.
 pub record HasConsolidation (leave : Leaving) (text : List ℕ) (handle : ℕ) (sources old new : Files)
@@ -53,7 +47,7 @@ pub record HasConsolidation (leave : Leaving) (text : List ℕ) (handle : ℕ) (
   pub project : ListProject
   pub binding : Binding
   pub accepted : IsAccepted text sources project binding
-  pub out : IsWrittenOut leave project binding handle sources old new may_leave
+  pub out : IsWrittenOut leave project binding handle None sources old new may_leave
   pub same_sound : SoundsTheSame text sources new
 
 -- this holds of a call that didn't write the list: jobs were left, or it failed before
@@ -63,53 +57,24 @@ BeforeList (Err told) P = told ≢ fault.Output file.List → P
 
 module _ {S B : Type 0} (shelf : source.Ghosts S) (bench : output.Ghosts B) where
   -- the list was rendered by these events over these stores in jobs of this length, with this outcome
-  pub record IsRenderSchedule (jobs : JobLength) (list : List ℕ) (values : OptionValues) (events : List BoardEvent)
-      (shelf_old shelf_new : S) (bench_old bench_new : B) (result : Result Progress Fault) : Type 0 where
-    pub outcome : IsTrue (shelf.honest shelf_old) → IsTrue (bench.honest bench_old) → HasBegun result
-        → (ended : Result Progress ExecutionFault)
-        × AnswersAs rendering_fault (λ told progress. told ≡ progress) result ended
-        × RendersList jobs (λ _. events) list values (source_view shelf shelf_old) (source_view shelf shelf_new)
-        (output_view bench bench_old) (output_view bench bench_new) ended
-    pub finished : IsTrue (shelf.honest shelf_old) → IsTrue (bench.honest bench_old) → IfOk result (λ told.
-        IsTrue told.finished → HasRendering list values (shelf.stored shelf_old) (bench.stored bench_new))
-    pub durable : IsTrue (bench.honest bench_old) → IfOk result (λ told. IsTrue told.finished
-        → AreBothDurable (bench.stored bench_new) (bench.may_leave bench_new))
-    pub marked : IsTrue (shelf.honest shelf_old) → IsTrue (bench.honest bench_old) → IfOk result (λ told.
-        IsTrue told.finished → HasAllMarks list values (bench.stored bench_new marks_name))
-    pub any_moment : IsTrue (shelf.honest shelf_old) → IsTrue (bench.honest bench_old)
-        → NoneStarted (bench.may_leave bench_old)
-        → LeavesOnly bench.moment bench.left_since bench_old bench_new (IsLeftOf list values (shelf.stored shelf_old))
-    pub left : IsTrue (shelf.honest shelf_old) → IsTrue (bench.honest bench_old)
-        → NoneStarted (bench.may_leave bench_old)
-        → IsLeftByRendering list values (shelf.stored shelf_old) (bench.may_leave bench_new)
-    pub refusals : IsTrue (shelf.honest shelf_old)
-        → Answers refusal_of result (render_refusal list values (shelf.stored shelf_old))
-    pub bad_text : RefusesBadText list result
-    pub own : IfErr result (IsOfRenderSchedule list)
-    pub in_turn : IsTrue (shelf.honest shelf_old) → IfErr result (IsFirst list (shelf.stored shelf_old))
-    pub named : IsTrue (bench.honest bench_old) → (n : List ℕ) → IsOther n
-        → bench.stored bench_new n ≡ bench.stored bench_old n
-    pub stores : KeepsStores shelf bench shelf_old shelf_new bench_old bench_new result
+  abbrev pub IsRenderSchedule : JobLength → List ℕ → OptionValues → List BoardEvent → S → S → B → B
+      → Result Progress Fault → Type 0
+  IsRenderSchedule jobs list values events shelf_old shelf_new bench_old bench_new result = IsAnswer shelf bench IsAllDone
+      (λ _. HasRendering list values (shelf.stored shelf_old) (bench.stored bench_new))
+      (λ told progress. told ≡ progress) list values ⊤ (NoneStarted (bench.may_leave bench_old)) ⊤
+      (render_refusal list values (shelf.stored shelf_old)) IsOfRenderSchedule
+      (RendersList jobs (λ _. events) list values (source_view shelf shelf_old) (source_view shelf shelf_new)
+      (output_view bench bench_old) (output_view bench bench_new)) shelf_old shelf_new bench_old bench_new result
 
   -- the list was consolidated by these events over these stores by what passes leave of it, with this outcome
   pub record IsConsolidationSchedule (leave : Leaving) (list : List ℕ) (handle : ℕ) (events : List BoardEvent)
       (shelf_old shelf_new : S) (bench_old bench_new : B) (result : Result Progress Fault) : Type 0 where
-    pub outcome : IsTrue (shelf.honest shelf_old) → IsTrue (bench.honest bench_old) → HasBegun result
-        → ConsolidatesList leave list handle None (λ _. events) (λ answer progress. answer ≡ progress)
-        (source_view shelf shelf_old) (source_view shelf shelf_new) (output_view bench bench_old)
-        (output_view bench bench_new) result
+    pub answer : IsMediaAnswer shelf bench (λ answer progress. answer ≡ progress) IsOfConsolidationSchedule leave list
+        handle None (λ _. events) shelf_old shelf_new bench_old bench_new result
     pub finished : IsTrue (shelf.honest shelf_old) → IsTrue (bench.honest bench_old) → IfOk result (λ told.
         IsTrue told.finished → HasConsolidation leave list handle (shelf.stored shelf_old) (bench.stored bench_old)
         (bench.stored bench_new) (bench.may_leave bench_new))
     pub durable : IsTrue (bench.honest bench_old) → IfOk result (λ told. IsTrue told.finished
         → IsDurable (codes "consolidated.adl") (bench.stored bench_new) (bench.may_leave bench_new))
-    pub refusals : IsTrue (shelf.honest shelf_old) → RefusesByWork leave list handle (shelf.stored shelf_old) result
-    pub bad_list : IsTrue (shelf.honest shelf_old) → RefusesBadList list (shelf.stored shelf_old) result
-    pub bad_text : RefusesBadText list result
-    pub own : IfErr result (IsOfConsolidationSchedule list)
-    pub in_turn : IsTrue (shelf.honest shelf_old) → IfErr result (IsFirst list (shelf.stored shelf_old))
-    pub named : IsTrue (bench.honest bench_old) → (n : List ℕ) → IsElsewhere false 32767 n
-        → bench.stored bench_new n ≡ bench.stored bench_old n
     pub list_last : IsTrue (bench.honest bench_old) → BeforeList result
         (bench.stored bench_new (codes "consolidated.adl") ≡ bench.stored bench_old (codes "consolidated.adl"))
-    pub stores : KeepsStores shelf bench shelf_old shelf_new bench_old bench_new result

@@ -1,18 +1,11 @@
 // The jobs of a rendering whose blocks are marked.
-ghost use Rattle.std.specs.Prelude.{◌≡◌, Bool, IfErr, IfOk, IsTrue, List, OnOk, Some, true, ℕ};
-ghost use Rattle.std.specs.List.{All};
+ghost use Rattle.std.specs.Prelude.{IfErr, IfOk};
 ghost use Rattle.list_terms.specs.Steps.{ok_map};
-ghost use Rattle.work_terms.specs.Disk.{LeavesOnly};
-ghost use Rattle.markfile.specs.Format.{marks_name};
-ghost use Rattle.rendering.specs.Clipping.{ClipsUnmarked};
-ghost use Rattle.rendering.specs.Cut.{IsUniform};
-ghost use Rattle.rendering.specs.Maker.{marks_of};
-ghost use Rattle.rendering.specs.Marked.{HoldsMarked};
-ghost use Rattle.rendering.specs.Work.{heard};
 ghost use Rattle.consolidate.specs.Fault.{IsAlwaysDue};
+ghost use Rattle.consolidate.specs.Outcomes.{IsAllDone};
 ghost use Rattle.consolidate.specs.Own.{FailsAtRendering, FailsAtSchedule};
 ghost use Rattle.consolidate.specs.RenderOutcome.{in_rounds};
-ghost use Rattle.consolidate.specs.RenderWorks.{BeginsWork, GoesOnWithWork, IsAllDone, IsPrepared, IsSoundWork, IsTakenUp, IsUnbegun, StandsAsMarked};
+ghost use Rattle.consolidate.specs.RenderWorks.{BeginsWork, ClipsWork, GoesOnWithWork, IsPrepared, IsSoundWork, IsTakenUp, IsUnbegun, KeepsMarked};
 
 use crate::Fault;
 use crate::requested::Planned;
@@ -87,10 +80,7 @@ pub(crate) fn render_anew<S: Shelf, B: Bench, W: Watch>(
     requires { IsSoundWork planned.work }
     ensures does { BeginsWork S.Shelf B.Bench in_rounds planned.entry.work shelf.old shelf.new bench.old bench.new
         (ok_map (λ worked. worked.progress) result) }
-    ensures clips { IsTrue (S.honest shelf.old) → (marked : List Bool)
-        → All (IsUniform marked) planned.entry.work.work.stretches
-        → IfOk result (λ worked. ClipsUnmarked marked planned.entry.work.work.planned.range
-        (heard planned.entry.work.work.planned planned.entry.work.work.sounds (S.stored shelf.old)) worked.clips) }
+    ensures clips { IfOk result (λ worked. ClipsWork S.Shelf planned.entry.work shelf.old worked.clips) }
     ensures finished { IfOk result (λ worked. IsAllDone worked.progress) }
     ensures own { FailsAtRendering result }
     ensures due { IfErr result IsAlwaysDue }
@@ -144,15 +134,8 @@ pub(crate) fn go_on_marked<S: Shelf, B: Bench, W: Watch>(
     requires { IsSoundWork planned.work }
     ensures does { GoesOnWithWork S.Shelf B.Bench planned.entry.work shelf.old shelf.new bench.old bench.new
         (ok_map (λ worked. worked.progress) result) }
-    ensures keeps { IsTrue (S.honest shelf.old) → IsTrue (B.honest bench.old)
-        → StandsAsMarked planned.entry.work (S.stored shelf.old) (B.stored bench.old) (B.may_leave bench.old)
-        → (marks : List ℕ) → B.stored bench.old marks_name ≡ Some marks
-        → LeavesOnly B.moment B.left_since bench.old bench.new
-        (HoldsMarked (marks_of planned.entry.work (S.stored shelf.old)) marks) }
-    ensures clips { IsTrue (S.honest shelf.old) → (marked : List Bool)
-        → All (IsUniform marked) planned.entry.work.work.stretches
-        → IfOk result (λ worked. ClipsUnmarked marked planned.entry.work.work.planned.range
-        (heard planned.entry.work.work.planned planned.entry.work.work.sounds (S.stored shelf.old)) worked.clips) }
+    ensures keeps { KeepsMarked S.Shelf B.Bench planned.entry.work shelf.old bench.old bench.new }
+    ensures clips { IfOk result (λ worked. ClipsWork S.Shelf planned.entry.work shelf.old worked.clips) }
     ensures finished { IfOk result (λ worked. IsAllDone worked.progress) }
     ensures own { FailsAtRendering result }
     ensures due { IfErr result IsAlwaysDue }

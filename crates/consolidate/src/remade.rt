@@ -1,5 +1,5 @@
 // Consolidates a list by the events of any number of workers.
-ghost use Rattle.std.specs.Prelude.{◌≡◌, false};
+ghost use Rattle.std.specs.Prelude.{◌≡◌, None, false};
 ghost use Rattle.passes.specs.Left.{left_by};
 ghost use Rattle.passes.specs.Standard.{AreStandard};
 ghost use Rattle.sound_terms.specs.Passes.{standard_groups};
@@ -40,7 +40,7 @@ fn schedule_consolidation<S: Shelf, B: Bench>(
     bench: &mut B,
 ) -> Result<Progress, Fault>
     ensures { ConsolidatesByEvents S.Shelf B.Bench (left_by (λ pass. looking pass) (λ pass. gives pass) keeping.passes.items)
-        checked.project checked.bound keeping.handle (λ _. events.now) shelf.old shelf.new bench.old bench.new result }
+        checked.project checked.bound keeping.handle None (λ _. events.now) shelf.old shelf.new bench.old bench.new result }
 {
     let Keeping { handle, passes } = keeping;
     let choice = MediaChoice {

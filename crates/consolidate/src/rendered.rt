@@ -1,10 +1,7 @@
 // Renders a list to one sound file.
-ghost use Rattle.std.specs.Prelude.{◌≡◌, IfOk, IsTrue, [], true, ℕ, ℤ, ⊤};
-ghost use Rattle.devices.specs.Views.{output_view, source_view};
+ghost use Rattle.std.specs.Prelude.{IfOk, IsTrue, []};
 ghost use Rattle.work_terms.specs.Refusals.{Answers};
-ghost use Rattle.sound_terms.specs.Render.{ReadsBack, rendering_of};
 ghost use Rattle.list_terms.specs.Steps.{ok_map};
-ghost use Rattle.markfile.specs.Started.{NoneStarted};
 ghost use Rattle.rendering.specs.Rendering.{HasRange, HaveChannels, values_of};
 ghost use Rattle.rendering.specs.declared.cutting.JobLength.TheVariants.{OneBlock};
 ghost use Rattle.consolidate.specs.Clipping.{ClipsList, IsClipping};
@@ -12,8 +9,8 @@ ghost use Rattle.consolidate.specs.Commands.{IsRendering};
 ghost use Rattle.consolidate.specs.Fault.{refusal_of};
 ghost use Rattle.consolidate.specs.Own.{FailsAtRendering};
 ghost use Rattle.consolidate.specs.RenderOutcome.{in_rounds};
-ghost use Rattle.consolidate.specs.RenderWorks.{DoesWork};
-ghost use Rattle.consolidate.specs.Listed.{RendersListed, fault_of_range, marking_in, mix_in, range_in, run_in};
+ghost use Rattle.consolidate.specs.Outcomes.{IsAllDone};
+ghost use Rattle.consolidate.specs.Listed.{BeginsListed, ReadsBackListed, fault_of_range, mix_in, range_in};
 
 use crate::Fault;
 use crate::choice::{Clipping, RenderChoice};
@@ -21,6 +18,7 @@ use crate::marked::render_anew;
 use crate::opened::open;
 use crate::requested::{Listed, Planned};
 use devices::{Bench, Shelf, Unwatched, Watch};
+use job_terms::Progress;
 use list_terms::Notice;
 use opening::Opened;
 use rendering::{JobLength, Options, RenderingWork};
@@ -44,6 +42,7 @@ pub struct RenderedSound {
 /// The same of an opened project.
 #[derive(Clone, Copy)]
 struct Made {
+    progress: Progress,
     rendered: rendering::Rendered,
     clipping: Clipping,
 }
@@ -56,12 +55,10 @@ fn render_checked<S: Shelf, B: Bench, W: Watch>(
     bench: &mut B,
     watch: &mut W,
 ) -> Result<Made, Fault>
-    ensures does { DoesWork S.Shelf B.Bench (λ _. ⊤) (λ _ progress. progress.finished ≡ true)
-        (marking_in listed.entry (S.stored shelf.old)) (run_in listed.entry) ⊤ (NoneStarted (B.may_leave bench.old))
-        (RendersListed in_rounds listed.entry (source_view S.Shelf shelf.old) (source_view S.Shelf shelf.new)
-        (output_view B.Bench bench.old) (output_view B.Bench bench.new)) shelf.old shelf.new bench.old bench.new result }
-    ensures reads_back { IfOk result (λ _. (mix : ℕ → ℕ → ℤ)
-        → ReadsBack (range_in listed.entry) mix (rendering_of (range_in listed.entry) mix)) }
+    ensures does { BeginsListed S.Shelf B.Bench in_rounds listed.entry shelf.old shelf.new bench.old bench.new
+        (ok_map (λ made. made.progress) result) }
+    ensures finished { IfOk result (λ made. IsAllDone made.progress) }
+    ensures reads_back { IfOk result (λ _. ReadsBackListed listed.entry) }
     ensures report { IfOk result (λ made. HasRange made.rendered (range_in listed.entry)) }
     ensures clips { IsTrue (S.honest shelf.old) → IfOk result (λ made. IsClipping [] (range_in listed.entry)
         (mix_in listed.entry (S.stored shelf.old)) made.clipping) }
@@ -91,7 +88,11 @@ fn render_checked<S: Shelf, B: Bench, W: Watch>(
                 start,
                 channels: rendered.channels,
             };
-            return Ok(Made { rendered, clipping });
+            return Ok(Made {
+                progress: worked.progress,
+                rendered,
+                clipping,
+            });
         }
         Err(fault) => return Err(fault),
     }

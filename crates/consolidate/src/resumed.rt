@@ -1,25 +1,20 @@
 // Goes on with a rendering that was stopped.
-ghost use Rattle.std.specs.Prelude.{◌≡◌, ◌-◌, IfErr, IfOk, IsTrue, List, Some, true, ℕ, ℤ, ⊤};
-ghost use Rattle.devices.specs.Views.{output_view, source_view};
-ghost use Rattle.work_terms.specs.Disk.{LeavesOnly};
+ghost use Rattle.std.specs.Prelude.{◌≡◌, ◌-◌, IfErr, IfOk, IsTrue, List, ℕ};
 ghost use Rattle.work_terms.specs.Refusals.{Answers};
-ghost use Rattle.sound_terms.specs.Render.{ReadsBack, rendering_of};
 ghost use Rattle.list_terms.specs.Accepted.{first_fault};
 ghost use Rattle.list_terms.specs.Steps.{ok_map};
-ghost use Rattle.markfile.specs.Format.{marks_name};
 ghost use Rattle.markfile.specs.Opened.{opened_of};
-ghost use Rattle.markfile.specs.Started.{is_started};
 ghost use Rattle.rendering.specs.Clipping.{marked_in};
-ghost use Rattle.rendering.specs.Marked.{HoldsMarked, IsLeftByRun, run_of};
+ghost use Rattle.rendering.specs.Marked.{run_of};
 ghost use Rattle.rendering.specs.Rendering.{HaveChannels, values_of};
 ghost use Rattle.rendering.specs.declared.cutting.JobLength.TheVariants.{OneBlock};
 ghost use Rattle.consolidate.specs.Clipping.{ClipsList, IsClipping};
 ghost use Rattle.consolidate.specs.Fault.{refusal_of};
 ghost use Rattle.consolidate.specs.Marks.{count_in, fault_in};
 ghost use Rattle.consolidate.specs.Own.{IsOfResuming};
-ghost use Rattle.consolidate.specs.RenderWorks.{DoesWork};
+ghost use Rattle.consolidate.specs.Outcomes.{IsAllDone};
 ghost use Rattle.consolidate.specs.Resuming.{IsResuming};
-ghost use Rattle.consolidate.specs.Listed.{ResumesListed, fault_of_range, marking_in, marks_in, mix_in, range_in, run_in};
+ghost use Rattle.consolidate.specs.Listed.{GoesOnListed, KeepsListed, ReadsBackListed, fault_of_range, marks_in, mix_in, range_in};
 
 use crate::Fault;
 use crate::choice::{Clipping, RenderChoice};
@@ -27,6 +22,7 @@ use crate::marked::{go_on_marked, render_anew};
 use crate::opened::open;
 use crate::requested::{Listed, Planned};
 use devices::{Bench, Shelf, Unwatched, Watch};
+use job_terms::Progress;
 use list_terms::Notice;
 use opening::Opened;
 use rendering::{JobLength, Options, RenderingWork};
@@ -51,6 +47,7 @@ pub struct ResumedSound {
 /// How much was found, and what was clipped of the rest.
 #[derive(Clone, Copy)]
 struct Found {
+    progress: Progress,
     frames: u64,
     marked: u32,
     clipping: Clipping,
@@ -64,24 +61,16 @@ fn resume_checked<S: Shelf, B: Bench, W: Watch>(
     bench: &mut B,
     watch: &mut W,
 ) -> Result<Found, Fault>
-    ensures does { DoesWork S.Shelf B.Bench (λ _. ⊤) (λ _ progress. progress.finished ≡ true)
-        (marking_in listed.entry (S.stored shelf.old)) (run_in listed.entry)
-        (IsLeftByRun (marking_in listed.entry (S.stored shelf.old)) (B.may_leave bench.old))
-        (IsLeftByRun (marking_in listed.entry (S.stored shelf.old)) (B.may_leave bench.old))
-        (ResumesListed listed.entry (B.stored bench.old) (source_view S.Shelf shelf.old) (source_view S.Shelf shelf.new)
-        (output_view B.Bench bench.old) (output_view B.Bench bench.new)) shelf.old shelf.new bench.old bench.new result }
-    ensures reads_back { IfOk result (λ _. (mix : ℕ → ℕ → ℤ)
-        → ReadsBack (range_in listed.entry) mix (rendering_of (range_in listed.entry) mix)) }
+    ensures does { GoesOnListed S.Shelf B.Bench listed.entry shelf.old shelf.new bench.old bench.new
+        (ok_map (λ found. found.progress) result) }
+    ensures finished { IfOk result (λ found. IsAllDone found.progress) }
+    ensures reads_back { IfOk result (λ _. ReadsBackListed listed.entry) }
     ensures marked { IsTrue (B.honest bench.old)
         → IfOk result (λ found. found.marked ≡ count_in (marks_in listed.entry (B.stored bench.old))) }
     ensures clips { IsTrue (S.honest shelf.old) → IsTrue (B.honest bench.old) → IfOk result (λ found.
         IsClipping (marked_in (marks_in listed.entry (B.stored bench.old))) (range_in listed.entry)
         (mix_in listed.entry (S.stored shelf.old)) found.clipping) }
-    ensures keeps { IsTrue (S.honest shelf.old) → IsTrue (B.honest bench.old)
-        → IsLeftByRun (marking_in listed.entry (S.stored shelf.old)) (B.may_leave bench.old)
-        → (marks : List ℕ) → B.stored bench.old marks_name ≡ Some marks → is_started (Some marks) ≡ true
-        → LeavesOnly B.moment B.left_since bench.old bench.new
-        (HoldsMarked (marking_in listed.entry (S.stored shelf.old)) marks) }
+    ensures keeps { KeepsListed S.Shelf B.Bench listed.entry shelf.old bench.old bench.new }
     ensures report { IfOk result (λ found. found.frames ≡ (range_in listed.entry).to - (range_in listed.entry).from) }
     ensures refusals { IsTrue (B.honest bench.old) → Answers refusal_of result
         (first_fault (fault_of_range listed.entry) (fault_in (marks_in listed.entry (B.stored bench.old)))) }
@@ -118,6 +107,7 @@ fn resume_checked<S: Shelf, B: Bench, W: Watch>(
                     channels,
                 };
                 return Ok(Found {
+                    progress: worked.progress,
                     frames: rendered.frames,
                     marked: 0,
                     clipping,
@@ -134,6 +124,7 @@ fn resume_checked<S: Shelf, B: Bench, W: Watch>(
                     channels,
                 };
                 return Ok(Found {
+                    progress: worked.progress,
                     frames: rendered.frames,
                     marked,
                     clipping,

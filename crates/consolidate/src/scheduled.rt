@@ -1,15 +1,11 @@
 // Renders a list by the events of any number of workers.
-ghost use Rattle.std.specs.Prelude.{◌≡◌, IfOk, ℕ, ℤ, ⊤};
-ghost use Rattle.devices.specs.Views.{output_view, source_view};
+ghost use Rattle.std.specs.Prelude.{IfOk};
 ghost use Rattle.work_terms.specs.Refusals.{Answers};
-ghost use Rattle.sound_terms.specs.Render.{ReadsBack, rendering_of};
-ghost use Rattle.markfile.specs.Started.{NoneStarted};
 ghost use Rattle.rendering.specs.Rendering.{values_of};
 ghost use Rattle.consolidate.specs.Fault.{refusal_of};
 ghost use Rattle.consolidate.specs.Own.{FailsAtSchedule};
-ghost use Rattle.consolidate.specs.RenderWorks.{DoesWork, IsAllDone};
 ghost use Rattle.consolidate.specs.Schedules.{IsRenderSchedule};
-ghost use Rattle.consolidate.specs.Listed.{RendersListed, fault_of_range, marking_in, range_in, run_in};
+ghost use Rattle.consolidate.specs.Listed.{BeginsListed, ReadsBackListed, fault_of_range};
 
 use crate::Fault;
 use crate::choice::RenderChoice;
@@ -30,12 +26,9 @@ fn schedule_checked<S: Shelf, B: Bench>(
     shelf: &mut S,
     bench: &mut B,
 ) -> Result<Progress, Fault>
-    ensures does { DoesWork S.Shelf B.Bench IsAllDone (λ reported progress. reported ≡ progress)
-        (marking_in listed.entry (S.stored shelf.old)) (run_in listed.entry) ⊤ (NoneStarted (B.may_leave bench.old))
-        (RendersListed (λ _. events.now) listed.entry (source_view S.Shelf shelf.old) (source_view S.Shelf shelf.new)
-        (output_view B.Bench bench.old) (output_view B.Bench bench.new)) shelf.old shelf.new bench.old bench.new result }
-    ensures reads_back { IfOk result (λ _. (mix : ℕ → ℕ → ℤ)
-        → ReadsBack (range_in listed.entry) mix (rendering_of (range_in listed.entry) mix)) }
+    ensures does { BeginsListed S.Shelf B.Bench (λ _. events.now) listed.entry shelf.old shelf.new bench.old bench.new
+        result }
+    ensures reads_back { IfOk result (λ _. ReadsBackListed listed.entry) }
     ensures refusals { Answers refusal_of result (fault_of_range listed.entry) }
     ensures own { FailsAtSchedule result }
 {

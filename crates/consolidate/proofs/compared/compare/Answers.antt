@@ -1,4 +1,4 @@
-use Rattle.std.proofs.Common.{Bool, IsTrue, Ok, Err, sym, ◌∙◌, subst, arith, rules}
+use Rattle.std.proofs.Common.{Bool, IsTrue, Ok, Err, sym, subst, arith, rules}
 use Rattle.work_terms.specs.Disk.{Files}
 use Rattle.list_terms.specs.Heard.{project_fault, project_mix, sounds_of}
 use Rattle.list_terms.specs.Text.{text_value}
@@ -7,6 +7,7 @@ use Rattle.comparison.specs.Whole.{IsComparison}
 use Rattle.consolidate.proofs.Listed.{same_spelt}
 use Rattle.consolidate.proofs.Reported as reported
 use Rattle.consolidate.proofs.Reported.{answers_first, answers_range, answers_second, empty_alike, holds_first, holds_second, is_first, is_second, no_fault, some_compared, was_first, was_second}
+use Rattle.consolidate.proofs.Stores.{read_behind}
 use Rattle.consolidate.proofs.compared.compare.Goals as goal
 
 pub returns-in-Err-compare_projects : goal.returns-in-Err-compare_projects
@@ -23,12 +24,6 @@ returns-in-Err-compare_projects g c =
     let fault = c.in-Err-compare_projects.fault in
     let told = c.of_sums.result in
     let is = c.of_sums.ensures in
-    let opened = c.in-Ok.ensures.only_reads in
-    let stocked = c.in-Ok-open_list.ensures.only_reads in
-    let read = c.in-Err-compare_projects.ensures.first_read in
-    let seen = c.in-Err-compare_projects.ensures.second_read in
-    let quiet = opened.cause.left tt in
-    let still = stocked.cause.left tt in
     record {
       compared = λ honest sure. tt;
       first_refusals = λ honest. answers_first sounds others (project_fault text files)
@@ -48,38 +43,15 @@ returns-in-Err-compare_projects g c =
       second_own = reported.second_own sounds others other fault told is;
       first_in_turn = λ honest. reported.first_in_turn sounds others text files fault told is;
       second_in_turn = λ sure. reported.second_in_turn sounds others other stored fault told is;
-      first_read = record {
-        same = read.same ∙ opened.same;
-        honest_same = read.honest_same ∙ opened.honest_same;
-        cause = record {
-          later = omega (arith, read.cause.later, quiet);
-          left = λ none. read.cause.left (λ source. none (is_first sounds others fault told is source)) ∙ quiet;
-          rose = λ device few. omega (
-            arith,
-            quiet,
-            read.cause.rose (was_first sounds others fault told is device) (omega (arith, few, quiet)),
-          );
-        };
-        keeps = λ n failed. read.keeps n (opened.keeps n failed);
-        failed_there = λ device. holds_first sounds others (g.S.Shelf.failed_at c.compare_projects.new.first_shelf)
-            fault told is (read.failed_there (was_first sounds others fault told is device));
-      };
-      second_read = record {
-        same = seen.same ∙ stocked.same;
-        honest_same = seen.honest_same ∙ stocked.honest_same;
-        cause = record {
-          later = omega (arith, seen.cause.later, still);
-          left = λ none. seen.cause.left (λ source. none (is_second sounds others fault told is source)) ∙ still;
-          rose = λ device few. omega (
-            arith,
-            still,
-            seen.cause.rose (was_second sounds others fault told is device) (omega (arith, few, still)),
-          );
-        };
-        keeps = λ n failed. seen.keeps n (stocked.keeps n failed);
-        failed_there = λ device. holds_second sounds others (g.T.Shelf.failed_at c.compare_projects.new.second_shelf)
-            fault told is (seen.failed_there (was_second sounds others fault told is device));
-      };
+      first_read = read_behind g.S.Shelf _ _ _ c.in-Ok.ensures.only_reads c.in-Err-compare_projects.ensures.first_read
+          (λ none source. none (is_first sounds others fault told is source)) (was_first sounds others fault told is)
+          (λ there device. holds_first sounds others (g.S.Shelf.failed_at c.compare_projects.new.first_shelf) fault told
+          is (there (was_first sounds others fault told is device)));
+      second_read = read_behind g.T.Shelf _ _ _ c.in-Ok-open_list.ensures.only_reads
+          c.in-Err-compare_projects.ensures.second_read
+          (λ none source. none (is_second sounds others fault told is source)) (was_second sounds others fault told is)
+          (λ there device. holds_second sounds others (g.T.Shelf.failed_at c.compare_projects.new.second_shelf) fault told
+          is (there (was_second sounds others fault told is device)));
     }
 
 pub returns-in-Err-open_list : goal.returns-in-Err-open_list
@@ -125,10 +97,6 @@ returns-in-Ok-compare_projects g c =
     let comparison = c.in-Ok-compare_projects.comparison in
     let opened = c.in-Ok.ensures.only_reads in
     let stocked = c.in-Ok-open_list.ensures.only_reads in
-    let read = c.in-Ok-compare_projects.ensures.first_read in
-    let seen = c.in-Ok-compare_projects.ensures.second_read in
-    let quiet = opened.cause.left tt in
-    let still = stocked.cause.left tt in
     record {
       compared = λ honest sure. record {
         project = one.project;
@@ -169,26 +137,7 @@ returns-in-Ok-compare_projects g c =
       second_own = tt;
       first_in_turn = λ honest. tt;
       second_in_turn = λ sure. tt;
-      first_read = record {
-        same = read.same ∙ opened.same;
-        honest_same = read.honest_same ∙ opened.honest_same;
-        cause = record {
-          later = omega (arith, read.cause.later, quiet);
-          left = λ none. read.cause.left tt ∙ quiet;
-          rose = λ device few. absurd device;
-        };
-        keeps = λ n failed. read.keeps n (opened.keeps n failed);
-        failed_there = tt;
-      };
-      second_read = record {
-        same = seen.same ∙ stocked.same;
-        honest_same = seen.honest_same ∙ stocked.honest_same;
-        cause = record {
-          later = omega (arith, seen.cause.later, still);
-          left = λ none. seen.cause.left tt ∙ still;
-          rose = λ device few. absurd device;
-        };
-        keeps = λ n failed. seen.keeps n (stocked.keeps n failed);
-        failed_there = tt;
-      };
+      first_read = read_behind g.S.Shelf _ _ _ opened c.in-Ok-compare_projects.ensures.first_read (λ q. q) (λ d. d) (λ f. f);
+      second_read = read_behind g.T.Shelf _ _ _ stocked c.in-Ok-compare_projects.ensures.second_read (λ q. q) (λ d. d)
+          (λ f. f);
     }

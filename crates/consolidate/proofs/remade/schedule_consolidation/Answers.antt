@@ -1,4 +1,4 @@
-use Rattle.std.proofs.Common.{ℕ, List, Option, false, ap, length, refl, subst, sym}
+use Rattle.std.proofs.Common.{ℕ, List, Option, None, false, ap, length, refl, subst, sym}
 use Rattle.work_terms.specs.Refusals.{IsDue, Refusal}
 use Rattle.devices.specs.Views.{output_view, source_view}
 use Rattle.job_terms.specs.declared.BoardEvent.{BoardEvent}
@@ -12,6 +12,7 @@ use Rattle.consolidation.specs.declared.written.Written.{Written}
 use Rattle.consolidate.specs.Fault.{refusal_of}
 use Rattle.consolidate.specs.declared.fault.Fault.TheVariants as fault
 use Rattle.consolidate.proofs.MediaCalls.{answers_for, called, fresh}
+use Rattle.consolidate.proofs.MediaFaults.{of_events}
 use Rattle.consolidate.proofs.OfProject.{consolidates_events, refused_events}
 use Rattle.consolidate.proofs.Planned.{no_board, not_planned}
 use Rattle.consolidate.proofs.Told.{of_schedule}
@@ -23,7 +24,7 @@ returns-in-Err g c =
     refused_events g.S.Shelf g.B.Bench _ _ _ _ c.args.shelf.now c.plan.new.shelf c.args.bench.now
     c.of_consolidation.result (ap (λ (r : Refusal). r.late) is)
     (λ honest work is_work. subst (λ (r : Refusal). IsDue r (work_fault work)) (sym is)
-    (c.in-Err.ensures.refusals honest work is_work)) (λ (n : ℕ). c.args.events.now)
+    (c.in-Err.ensures.refusals honest work is_work)) None (λ (n : ℕ). c.args.events.now)
     (λ text. of_schedule text c.of_consolidation.result (c.of_consolidation.ensures.own false text))
     (not_planned g.S.Shelf g.B.Bench MediaPlan Progress (sounds_of c.args.checked.bound) c.args.shelf.now
     c.plan.new.shelf c.args.bench.now c.in-Err.fault c.of_consolidation.result
@@ -33,7 +34,7 @@ pub returns-in-Err-execution_of : goal.returns-in-Err-execution_of
 returns-in-Err-execution_of g c = rw c.in-Err-execution_of.ensures.memory
     (refused_events g.S.Shelf g.B.Bench _ _ _ _ c.args.shelf.now c.plan.new.shelf c.args.bench.now fault.BoardMemory refl
     (λ honest work is_work. subst (λ (due : Option Refusal). IsDue (refusal_of fault.BoardMemory) due)
-    (sym (c.in-Ok.ensures.refusals honest work is_work)) tt) (λ (n : ℕ). c.args.events.now) (λ text. tt)
+    (sym (c.in-Ok.ensures.refusals honest work is_work)) tt) None (λ (n : ℕ). c.args.events.now) (λ text. tt)
     (no_board g.S.Shelf g.B.Bench Progress c.args.shelf.now c.plan.new.shelf c.args.bench.now
     (g.met.B.Bench.only_now c.args.bench.now) c.in-Ok.ensures.only_reads))
 
@@ -53,13 +54,13 @@ returns g c =
     let ended = c.execute_events-ended.result in
     let board = c.execute_events-ended.new.self.board in
     let events : ℕ → List BoardEvent = λ n. c.args.events.now in
-    consolidates_events g.S.Shelf g.B.Bench leave c.args.checked.project c.args.checked.bound c.args.keeping.handle plan
+    consolidates_events g.S.Shelf g.B.Bench leave c.args.checked.project c.args.checked.bound c.args.keeping.handle None plan
     c.outcome-media.result c.args.shelf.now mid new before after board events _ ended planned.planned planned.there
     planned.fits planned.refusals planned.only_reads whole.value whole.names whole.same_sound whole.consolidated
     (called events plan started.work _ started.board board (hands_at started) (source_view g.S.Shelf mid)
     (source_view g.S.Shelf new) (output_view g.B.Bench before) (output_view g.B.Bench after) _ ended run.work run.board
     run.idle c.execute_events-ended.ensures.executed)
     (fresh plan started.board (source_view g.S.Shelf mid) (output_view g.B.Bench before) run.board run.undone)
-    c.answer_of.result
+    c.answer_of.result (λ of text. of_events text (length plan.runs) of)
     (answers_for Progress _ c.answer_of.result ended c.outcome-media.result.media (length plan.runs) false false
     (ap (λ (w : Written). w.media) whole.value) refl c.answer_of.ensures)
