@@ -4,6 +4,7 @@ use Rattle.std.specs.Prelude.{option_and_then, option_map, if◌then◌else◌}
 use Rattle.std.specs.List.{list_all, list_any}
 use Rattle.std.specs.Option.{option_map_or}
 use Rattle.std.specs.Str.{bytes_eq}
+use Rattle.std.proofs.lemmas.Bool.{and_parts}
 use Rattle.clap.specs.Words.{App, HasKind, IsAmong, Kinds, Row, Rule, Text, fault_of, first_of, first_value, is_simple, is_simple_and_free, kind_of, rows_of, subcommand_of, with_rule}
 use Rattle.clap.specs.declared.parser.matches.Found.{Found}
 use Rattle.clap.specs.declared.error.Error.{Error}
@@ -264,81 +265,73 @@ among-refused : (kinds : Kinds) (kind : ErrorKind) (named : Option Asked) → Is
 among-refused [] kind named bad = absurd bad
 among-refused (k ∷ ks) kind named among = refl
 
-neither-left : (x y : Bool) → (x || y) ≡ false → x ≡ false
-neither-left true y e = cc
-neither-left false y e = refl
-
-neither-right : (x y : Bool) → (x || y) ≡ false → y ≡ false
-neither-right true y e = cc
-neither-right false y e = e
+neither : (x y : Bool) → (x || y) ≡ false → (x ≡ false) × (y ≡ false)
+neither true y e = cc
+neither false y e = (refl, e)
 
 among-shown : (kinds : Kinds) (kind : ErrorKind) → IsAmong kind kinds → list_any is_shown kinds ≡ false
     → is_shown kind ≡ false
 among-shown [] kind bad none = absurd bad
-among-shown (k ∷ ks) kind (inl same) none = rw same (neither-left (is_shown k) (list_any is_shown ks) none)
+among-shown (k ∷ ks) kind (inl same) none = rw same (neither (is_shown k) (list_any is_shown ks) none).0
 among-shown (k ∷ ks) kind (inr among) none =
-    among-shown ks kind among (neither-right (is_shown k) (list_any is_shown ks) none)
-
--- an error other than out of memory comes where the words ask for nothing
-pub refused-by : (app : App) (words : List Text) (error : Error) → app ≡ adlcons_app
-    → HasKind (fault_of app words) error
-    → (kind_of error ≡ kind.OutOfMemory) ⊎ (request_of words ≡ None)
-refused-by app words error same (inl memory) = inl memory
-refused-by app words error same (inr among) =
-    inr (among-refused (words_fault words) (kind_of error) (named_by words)
-    (subst (IsAmong (kind_of error)) (fault_of-adlcons app words same) among))
-
--- where the words don't ask for help, the error isn't help
-pub mistaken-by : (app : App) (words : List Text) (error : Error) → app ≡ adlcons_app
-    → HasKind (fault_of app words) error
-    → asks_for_help words ≡ false → is_shown (kind_of error) ≡ false
-mistaken-by app words error same (inl memory) none = ap is_shown memory
-mistaken-by app words error same (inr among) none =
-    among-shown (words_fault words) (kind_of error)
-    (subst (IsAmong (kind_of error)) (fault_of-adlcons app words same) among) none
-
-both-left : (x y : Bool) → (x && y) ≡ true → x ≡ true
-both-left true y e = refl
-both-left false y e = cc
-
-both-right : (x y : Bool) → (x && y) ≡ true → y ≡ true
-both-right true y e = e
-both-right false y e = cc
+    among-shown ks kind among (neither (is_shown k) (list_any is_shown ks) none).1
 
 among-all_shown : (kinds : Kinds) (kind : ErrorKind) → IsAmong kind kinds → list_all is_shown kinds ≡ true
     → is_shown kind ≡ true
 among-all_shown [] kind bad all = absurd bad
-among-all_shown (k ∷ ks) kind (inl same) all = rw same (both-left (is_shown k) (list_all is_shown ks) all)
+among-all_shown (k ∷ ks) kind (inl same) all = rw same (and_parts (is_shown k) (list_all is_shown ks) all).0
 among-all_shown (k ∷ ks) kind (inr among) all =
-    among-all_shown ks kind among (both-right (is_shown k) (list_all is_shown ks) all)
+    among-all_shown ks kind among (and_parts (is_shown k) (list_all is_shown ks) all).1
 
 among-alone : (kinds : Kinds) (kind : ErrorKind) → IsAmong kind kinds → are_shown kinds ≡ true → is_shown kind ≡ true
 among-alone [] kind bad all = absurd bad
 among-alone (k ∷ ks) kind among all = among-all_shown (k ∷ ks) kind among all
 
--- where the words ask for help alone, the error is help
-pub shown-by : (app : App) (words : List Text) (error : Error) → app ≡ adlcons_app
-    → HasKind (fault_of app words) error
-    → asks_for_help_alone words ≡ true → (kind_of error ≡ kind.OutOfMemory) ⊎ (is_shown (kind_of error) ≡ true)
-shown-by app words error same (inl memory) alone = inl memory
-shown-by app words error same (inr among) alone =
-    inr (among-alone (words_fault words) (kind_of error)
-    (subst (IsAmong (kind_of error)) (fault_of-adlcons app words same) among) alone)
+module _ (app : App) (words : List Text) (same : app ≡ adlcons_app) where
+  module _ (error : Error) where
+    -- an error is of a kind that the words are at fault by, or it is out of memory
+    faulty : HasKind (fault_of app words) error → HasKind (words_fault words) error
+    faulty = subst (λ kinds. HasKind kinds error) (fault_of-adlcons app words same)
 
--- words without a fault don't
-pub helpless_alone-by : (app : App) (words : List Text) → app ≡ adlcons_app → fault_of app words ≡ []
-    → asks_for_help_alone words ≡ false
-helpless_alone-by app words same none = ap are_shown (sym (fault_of-adlcons app words same) ∙ none)
+    -- an error other than out of memory comes where the words ask for nothing
+    pub refused-by : HasKind (fault_of app words) error
+        → (kind_of error ≡ kind.OutOfMemory) ⊎ (request_of words ≡ None)
+    refused-by has = elim (faulty has) [
+      | inl memory ↦ inl memory
+      | inr among ↦ inr (among-refused (words_fault words) (kind_of error) (named_by words) among)
+    ]
 
--- matches without a fault are those of the words
-pub requested-by : (app : App) (words : List Text) (rows : Option (Text × List Row)) → app ≡ adlcons_app
-    → fault_of app words ≡ []
-    → rows ≡ subcommand_of app words → request_of words ≡ option_and_then asked rows
-requested-by app words rows same none read =
-    ap (λ (kinds : Kinds). unless_faulty kinds (named_by words)) (sym (fault_of-adlcons app words same) ∙ none)
-    ∙ sym (ap (option_and_then asked) read ∙ subcommand_of-adlcons app words same)
+    -- where the words don't ask for help, the error isn't help
+    pub mistaken-by : HasKind (fault_of app words) error → asks_for_help words ≡ false
+        → is_shown (kind_of error) ≡ false
+    mistaken-by has none = elim (faulty has) [
+      | inl memory ↦ ap is_shown memory
+      | inr among ↦ among-shown (words_fault words) (kind_of error) among none
+    ]
 
--- words without a fault ask for no help
-pub helpless-by : (app : App) (words : List Text) → app ≡ adlcons_app → fault_of app words ≡ []
-    → asks_for_help words ≡ false
-helpless-by app words same none = ap (list_any is_shown) (sym (fault_of-adlcons app words same) ∙ none)
+    -- where the words ask for help alone, the error is help
+    pub shown-by : HasKind (fault_of app words) error → asks_for_help_alone words ≡ true
+        → (kind_of error ≡ kind.OutOfMemory) ⊎ (is_shown (kind_of error) ≡ true)
+    shown-by has alone = elim (faulty has) [
+      | inl memory ↦ inl memory
+      | inr among ↦ inr (among-alone (words_fault words) (kind_of error) among alone)
+    ]
+
+  module _ (none : fault_of app words ≡ []) where
+    -- words without a fault have none as these words
+    faultless : words_fault words ≡ []
+    faultless = sym (fault_of-adlcons app words same) ∙ none
+
+    -- they ask for no help
+    pub helpless-by : asks_for_help words ≡ false
+    helpless-by = ap (list_any is_shown) faultless
+
+    pub helpless_alone-by : asks_for_help_alone words ≡ false
+    helpless_alone-by = ap are_shown faultless
+
+    -- matches without a fault are those of the words
+    pub requested-by : (rows : Option (Text × List Row)) → rows ≡ subcommand_of app words
+        → request_of words ≡ option_and_then asked rows
+    requested-by rows read =
+        ap (λ (kinds : Kinds). unless_faulty kinds (named_by words)) faultless
+        ∙ sym (ap (option_and_then asked) read ∙ subcommand_of-adlcons app words same)

@@ -2,10 +2,12 @@
 use Rattle.std.proofs.Common.{◌≡◌, ◌∙◌, ℕ, ◌+◌, ◌-◌, ◌<◌, ◌≤◌, Bool, ◌==◌, Option, Some, None, List, ◌++◌, length, take, drop, get_or, replicate, sym, ap, subst, inl, inr, arith}
 use Rattle.std.proofs.lemmas.Bool.{cases_lt}
 use Rattle.std.proofs.lemmas.List.{append_assoc, drop_at, ext_get_or, get_or-append_right, get_or-drop, get_or-replicate, get_or-take, get_or_append_left, length-append, length-drop, length-replicate, length-take, length-take-le, take_at}
-use Rattle.work_terms.specs.Disk.{Files, HasTornRange, IsTorn, IsWritten}
+use Rattle.work_terms.specs.Disk.{Files, HasTornRange, IsTorn, IsWritten, LeavesOnly}
+use Rattle.devices.specs.declared.bench.Bench.{Ghosts}
 use Rattle.markfile.specs.declared.run.RunId.{RunId}
 use Rattle.markfile.specs.Format.{AreMarksOf, is_marked, marks_name}
-use Rattle.markfile.specs.Started.{AreSet, IsAfter, LeavesMarks}
+use Rattle.markfile.specs.Started.{AreSet, IsAfter, Lasts, LeavesMarks}
+use Rattle.markfile.proofs.Moments.{weaker}
 use Rattle.markfile.proofs.Unstarted.{beside}
 
 some_same : (a b : List ℕ) → Some a ≡ Some b → a ≡ b
@@ -162,3 +164,14 @@ module _ (run : RunId) (from behind : ℕ) (order : from ≤ behind) (marks : Li
                 ∙ sym (set_beside.same i (λ _ below. absurd (omega (arith, late, below, order))))
           ]
         ]
+
+-- at each moment while they are set
+pub moments_set : {B : Type 0} (bench : Ghosts B) (run : RunId) (from behind : ℕ) → from ≤ behind → (marks : List ℕ)
+    → (old new : B) → Lasts bench run marks old
+    → LeavesOnly bench.moment bench.left_since old new
+    (IsAfter (bench.may_leave old) (IsTorn (44 + from) (behind - from)))
+    → LeavesOnly bench.moment bench.left_since old new (LeavesMarks run from behind marks (bench.may_leave old))
+moments_set bench run from behind order marks old new lasts =
+    weaker bench.moment bench.left_since old new (IsAfter (bench.may_leave old) (IsTorn (44 + from) (behind - from)))
+    (LeavesMarks run from behind marks (bench.may_leave old))
+    (while_set run from behind order marks lasts.ours (bench.may_leave old) lasts.kept)

@@ -1,11 +1,13 @@
 -- What a crash may leave of marks that are made.
-use Rattle.std.proofs.Common.{◌≡◌, ◌∙◌, ℕ, ◌<◌, Bool, true, false, ◌==◌, Option, Some, None, List, [], ◌∷◌, ◌++◌, length, take, get_or, replicate, sym, ap, subst, inl, inr, refl, arith}
+use Rattle.std.proofs.Common.{◌≡◌, ◌∙◌, ℕ, ◌<◌, Bool, true, false, ◌==◌, Option, Some, None, Result, Ok, Err, List, [], ◌∷◌, ◌++◌, length, take, drop, get_or, replicate, sym, ap, subst, inl, inr, refl, arith}
+use Rattle.std.specs.Prelude.{OnOk}
 use Rattle.std.proofs.lemmas.List.{get_or-take}
 use Rattle.std.proofs.lemmas.Bool.Decides.{nat_tests}
-use Rattle.work_terms.specs.Disk.{ChangesOnly, Files, HasTornEnd, HasTornRange, IsBeside, IsPending, IsTorn, IsTornBehind, end_of}
+use Rattle.work_terms.specs.Disk.{ChangesOnly, Files, HasTornEnd, HasTornRange, IsBeside, IsDurable, IsPending, IsTorn, IsTornBehind, IsWritten, end_of}
+use Rattle.devices.specs.declared.bench.Bench.{Ghosts}
 use Rattle.markfile.specs.declared.run.RunId.{RunId}
 use Rattle.markfile.specs.Format.{fresh_marks, head_of, marks_name}
-use Rattle.markfile.specs.Started.{IsAfter, LeavesStart, LeavesUnstarted, NoneStarted, is_started}
+use Rattle.markfile.specs.Started.{Holds, IsAfter, LeavesStart, LeavesUnstarted, NoneStarted, is_started}
 
 some_same : (a b : List ℕ) → Some a ≡ Some b → a ≡ b
 some_same a b e = cc
@@ -121,3 +123,22 @@ opened run rest o mid whole before lasts c after = record {
       let torn = subst (λ f. HasTornRange 0 1 f t.0) (some_same x (0 ∷ rest) e) t.2 in
       let is = torn_gate rest t.0 torn (sym (ap is_started t.1) ∙ started) in
       t.1 ∙ ap (λ bytes. Some bytes) (is ∙ ap (λ bytes. 1 ∷ bytes) whole)
+
+-- the gate is written over
+pub has_opened : (rest : List ℕ) (old new : Option (List ℕ)) → old ≡ Some (0 ∷ rest) → IsWritten 0 (1 ∷ []) old new
+    → new ≡ Some (1 ∷ rest)
+has_opened rest old new was change =
+    change.written
+    ∙ ap (λ (file : List ℕ). Some (1 ∷ drop 1 file)) (some_same change.file (0 ∷ rest) (sym change.there ∙ was))
+
+-- ---- what is synced
+
+-- marks that are read and durable are held
+pub holds : {B X E P : Type 0} (bench : Ghosts B) (marks : List ℕ) (now : B) (result : Result X E)
+    → (P → bench.stored now marks_name ≡ Some marks) → OnOk result P
+    → OnOk result (IsDurable marks_name (bench.stored now) (bench.may_leave now)) → OnOk result (Holds bench marks now)
+holds bench marks now (Ok done) reads change durable = record {
+  reads = reads change;
+  lasts = λ c left. durable c left ∙ reads change;
+}
+holds bench marks now (Err fault) reads change durable = tt

@@ -26,10 +26,7 @@ fn shut<B: Bench>(bench: &mut B) -> Result<(), DeviceFault>
         Ok(()) => {}
         Err(fault) => return Err(fault),
     }
-    match append_synced(bench, &[SHUT]) {
-        Ok(()) => return Ok(()),
-        Err(fault) => return Err(fault),
-    }
+    append_synced(bench, &[SHUT])
 }
 
 /// Makes the file with a gate that is shut, and these bytes behind it.
@@ -46,10 +43,7 @@ fn lay<B: Bench>(bench: &mut B, rest: &[u8]) -> Result<(), DeviceFault>
         Ok(()) => {}
         Err(fault) => return Err(fault),
     }
-    match append_synced(bench, rest) {
-        Ok(()) => return Ok(()),
-        Err(fault) => return Err(fault),
-    }
+    append_synced(bench, rest)
 }
 
 /// Makes the file of these marks. The gate is opened last, once all that stands behind it is on the disk, so a crash
@@ -69,10 +63,7 @@ pub fn start_fresh<B: Bench>(bench: &mut B, fresh: &FreshMarks) -> Result<(), De
         Ok(()) => {}
         Err(fault) => return Err(fault),
     }
-    match write_synced(bench, 0, &[OPEN]) {
-        Ok(()) => return Ok(()),
-        Err(fault) => return Err(fault),
-    }
+    write_synced(bench, 0, &[OPEN])
 }
 
 /// Makes the file of new marks of this run, none of them set. `Memory` where no memory was left for them: nothing is

@@ -1,6 +1,6 @@
 // Changes of the marks, each synced before it is told as done.
 ghost use Rattle.std.specs.Prelude.{◌≡◌, ◌≢◌, IsTrue, List, OnOk, Some, ⊤, [], ◌++◌, ℕ, length};
-ghost use Rattle.work_terms.specs.Disk.{Changes, Files, IsAppended, IsDurable, IsPending, IsTorn, IsTornBehind, IsWritten, LeavesOnly, end_of};
+ghost use Rattle.work_terms.specs.Disk.{Changes, Files, IsDurable, IsPending, IsTorn, IsTornBehind, IsWritten, LeavesOnly, end_of};
 ghost use Rattle.devices.specs.Frame.{OnlyWrites};
 ghost use Rattle.markfile.specs.Format.{marks_name};
 ghost use Rattle.markfile.specs.Started.{IsAfter};
@@ -23,10 +23,7 @@ pub fn create_synced<B: Bench>(bench: &mut B) -> Result<(), DeviceFault>
         Ok(()) => {}
         Err(fault) => return Err(fault),
     }
-    match bench.sync(MARKS) {
-        Ok(()) => return Ok(()),
-        Err(fault) => return Err(fault),
-    }
+    bench.sync(MARKS)
 }
 
 /// Adds the bytes at the end, and syncs the file.
@@ -46,10 +43,7 @@ pub fn append_synced<B: Bench>(bench: &mut B, bytes: &[u8]) -> Result<(), Device
         Ok(()) => {}
         Err(fault) => return Err(fault),
     }
-    match bench.sync(MARKS) {
-        Ok(()) => return Ok(()),
-        Err(fault) => return Err(fault),
-    }
+    bench.sync(MARKS)
 }
 
 /// Writes the bytes over those from `at` on, and syncs the file.
@@ -69,8 +63,5 @@ pub fn write_synced<B: Bench>(bench: &mut B, at: u64, bytes: &[u8]) -> Result<()
         Ok(()) => {}
         Err(fault) => return Err(fault),
     }
-    match bench.sync(MARKS) {
-        Ok(()) => return Ok(()),
-        Err(fault) => return Err(fault),
-    }
+    bench.sync(MARKS)
 }

@@ -1,15 +1,17 @@
 -- Samples added to sums, some of them more.
-use Rattle.std.proofs.Common.{◌≡◌, ℕ, zero, suc, ◌+◌, ◌*◌, ◌/◌, ◌<◌, ◌≤◌, List, [], ◌∷◌, ◌++◌, All, length, take, drop, set, get_or, refl, sym, ap, subst, ◌∙◌, arith}
+use Rattle.std.proofs.Common.{◌≡◌, ℕ, zero, suc, ◌+◌, ◌-◌, ◌*◌, ◌/◌, ◌<◌, ◌≤◌, List, [], ◌∷◌, ◌++◌, All, length, take, drop, set, get_or, refl, sym, ap, subst, ◌∙◌, arith}
 use Rattle.std.specs.Prelude.{ℤ, pos, ◌+ℤ◌}
-use Rattle.std.proofs.lemmas.Int.{ints}
+use Rattle.std.proofs.lemmas.Int.{ints, to_z-of_z}
 use mir.Syntax.{w32}
-use mir.Val.{SFits}
+use mir.Val.{SFits, of_z, to_z}
 use borrow.Rule.Slice.PartMut.{put_mid}
 use Rattle.std.proofs.lemmas.List.{drop-drop, get_or-drop, get_or-take, length-drop, length-take-le}
+use Rattle.sound_terms.specs.declared.Depth.{Depth}
+use Rattle.sound_terms.specs.Depth.{bits_of}
 use Rattle.sound_terms.specs.Waves.{sample_of}
 use Rattle.pcm.specs.Samples.{samples_in, summed, FitsDepth}
-use Rattle.pcm.specs.Laws.{length-samples_in, get_or-samples_in, length-summed, get_or-summed}
-use Rattle.pcm.proofs.Steps.{samples_in-take}
+use Rattle.pcm.specs.Laws.{length-samples_in, get_or-samples_in, length-summed, get_or-summed, samples_in_more}
+use Rattle.pcm.proofs.Steps.{FitWords, all_four, narrow, next_inside, next_read, next_words, samples_in-take, words}
 
 -- where no sums are left, nothing is added
 pub summed_none : (sums : List ℤ) → summed sums [] ≡ sums
@@ -65,12 +67,7 @@ get_or-summed_behind (sum ∷ sums) (sample ∷ samples) (suc k) d behind =
 pub four_summed : (sums : List ℤ) (a b c d : ℤ) → length sums ≡ 4
     → (get_or sums 0 (pos 0) +ℤ a) ∷ (get_or sums 1 (pos 0) +ℤ b) ∷ (get_or sums 2 (pos 0) +ℤ c)
     ∷ (get_or sums 3 (pos 0) +ℤ d) ∷ [] ≡ summed sums (a ∷ b ∷ c ∷ d ∷ [])
-four_summed [] a b c d long = absurd (omega arith)
-four_summed (w ∷ []) a b c d long = absurd (omega arith)
-four_summed (w ∷ x ∷ []) a b c d long = absurd (omega arith)
-four_summed (w ∷ x ∷ y ∷ []) a b c d long = absurd (omega arith)
-four_summed (w ∷ x ∷ y ∷ z ∷ []) a b c d long = refl
-four_summed (w ∷ x ∷ y ∷ z ∷ v ∷ sums) a b c d long = absurd (omega arith)
+four_summed sums a b c d long = ap (λ (l : List ℤ). summed l (a ∷ b ∷ c ∷ d ∷ [])) (all_four sums long)
 
 -- each sum fits with its sample
 pub room_at : (sums samples : List ℤ) (k : ℕ) → All (FitsDepth 32) (summed sums samples) → k < length sums
@@ -79,6 +76,14 @@ room_at sums samples k room inside near =
     let fits = room k (pos 0) (rw (length-summed sums samples) inside) in
     let same = get_or-summed sums samples k (pos 0) inside near in
     omega (arith, ints, subst (FitsDepth 32) same fits)
+
+-- so do both as words of 32 bits
+pub words_fit : (sums samples : List ℤ) (k : ℕ) → All (FitsDepth 32) (summed sums samples)
+    → SFits w32 (get_or sums k (pos 0)) → SFits w32 (get_or samples k (pos 0)) → k < length sums → k < length samples
+    → SFits w32 (to_z w32 (of_z w32 (get_or sums k (pos 0))) +ℤ to_z w32 (of_z w32 (get_or samples k (pos 0))))
+words_fit sums samples k room sum sample inside near =
+    rw (to_z-of_z w32 (get_or sums k (pos 0)) sum, to_z-of_z w32 (get_or samples k (pos 0)) sample)
+    (room_at sums samples k room inside near)
 
 module _ (depth n : ℕ) (bytes : List ℕ) (sums : List ℤ)
     (room : All (FitsDepth 32) (summed sums (samples_in depth (length sums) bytes))) where
@@ -115,3 +120,53 @@ module _ (depth n : ℕ) (bytes : List ℕ) (sums : List ℤ)
       let sum : get_or part k d ≡ get_or old (n + k) d = get_or-take 4 (drop n old) k d near ∙ get_or-drop n old k d in
       rw (get_or-summed part four k d (omega arith) (omega arith), sum, sample)
       (room_behind (n + k) d (omega arith) (omega arith))
+
+  -- the next one is added as a word of 32 bits
+  module _ (now : List ℤ) (sample : ℤ) (sum_fits : SFits w32 (get_or now n (pos 0))) (sample_fits : SFits w32 sample)
+      (inside : n < length sums) (so_far : now ≡ summed sums (samples_in depth n bytes))
+      (read : sample ≡ sample_of depth (drop (n * (depth / 8)) bytes)) where
+    pub one_fits : SFits w32 (to_z w32 (of_z w32 (get_or now n (pos 0))) +ℤ to_z w32 (of_z w32 sample))
+    one_fits =
+        let fits = room_behind n (pos 0) (omega arith) inside in
+        rw (to_z-of_z w32 (get_or now n (pos 0)) sum_fits, to_z-of_z w32 sample sample_fits, read, so_far)
+        (omega (arith, ints, fits))
+
+    pub one_added : set now n (to_z w32 (of_z w32 (to_z w32 (of_z w32 (get_or now n (pos 0))) +ℤ to_z w32 (of_z w32 sample))))
+        ≡ summed sums (samples_in depth (n + 1) bytes)
+    one_added =
+        rw (
+          to_z-of_z w32 _ one_fits,
+          to_z-of_z w32 (get_or now n (pos 0)) sum_fits,
+          to_z-of_z w32 sample sample_fits,
+          read,
+          so_far,
+        )
+        (summed_more n sums (samples_in depth n bytes) (sample_of depth (drop (n * (depth / 8)) bytes))
+        (length-samples_in depth n bytes) inside ∙ ap (summed sums) (sym (samples_in_more depth n bytes)))
+
+-- the next four are added as words of 32 bits
+module _ (depth : Depth) (done width : ℕ) (bytes : List ℕ) (four : List ℤ) (wide : width ≡ bits_of depth / 8)
+    (read : four ≡ samples_in (bits_of depth) 4 (take 16 (drop (done * width) bytes))) (fit : FitWords four)
+    (sums now : List ℤ) (each : length bytes ≡ length sums * (bits_of depth / 8))
+    (left : 16 ≤ length bytes - done * width) (so_far : now ≡ summed sums (samples_in (bits_of depth) done bytes)) where
+  count : done + 4 - done ≡ 4
+  count = omega arith
+
+  pub four_inside : done + 4 ≤ length sums
+  four_inside = next_inside depth done width bytes four wide read fit (length sums) each left
+
+  pub four_fit : All (FitsDepth 32) (summed sums (samples_in (bits_of depth) (length sums) bytes))
+      → All (FitsDepth 32) (summed (take (done + 4 - done) (drop done now)) (words four))
+  four_fit room =
+      rw (count, so_far)
+      (room_four (bits_of depth) done bytes sums room (words four) (narrow depth done width bytes four wide read fit)
+      (next_words depth done width bytes four wide read fit) four_inside)
+
+  pub four_added : (new : List ℤ) → new ≡ summed (take (done + 4 - done) (drop done now)) (words four)
+      → put_mid done (done + 4 - done) now new ≡ summed sums (samples_in (bits_of depth) (done + 4) bytes)
+  four_added new added =
+      let before = samples_in (bits_of depth) done bytes in
+      let same : new ≡ summed (take 4 (drop done (summed sums before))) (words four) = added ∙ rw (count, so_far) refl in
+      rw (count, same, so_far)
+      (summed_behind done 4 sums before (words four) (length-samples_in (bits_of depth) done bytes) (omega arith) four_inside
+      ∙ ap (summed sums) (next_read depth done width bytes four wide read fit))

@@ -1,18 +1,20 @@
 -- One sample more is read, or written.
-use Rattle.std.proofs.Common.{◌≡◌, ◌⊎◌, inl, inr, ℕ, zero, suc, ◌+◌, ◌-◌, ◌*◌, ◌/◌, ◌^◌, ◌<◌, ◌≤◌, List, [], ◌++◌, All, length, take, drop, set, get_or, refl, sym, ap, ◌∙◌, arith, length-append}
+use Rattle.std.proofs.Common.{◌≡◌, ◌⊎◌, inl, inr, ℕ, zero, suc, ◌+◌, ◌-◌, ◌*◌, ◌/◌, ◌^◌, ◌<◌, ◌≤◌, List, [], ◌∷◌, ◌++◌, All, length, take, drop, set, get_or, refl, sym, ap, ◌∙◌, arith, length-append}
 use Rattle.std.specs.Prelude.{ℤ, pos}
-use Rattle.std.specs.Int.{w16, cast_signed}
+use Rattle.std.specs.Int.{w16, w32, cast_signed}
 use Rattle.std.specs.List.{flat_map}
 use Rattle.std.proofs.Math.Nat.{mul-le-mul_right}
 use Rattle.std.proofs.lemmas.Bool.{cases_lt}
 use Rattle.std.proofs.lemmas.Bool.Decides.{nat_tests}
-use Rattle.std.proofs.lemmas.Int.{ints}
+use Rattle.std.proofs.lemmas.Int.{ints, to_z-of_z}
 use Rattle.std.proofs.lemmas.List.{append_assoc, append-nil, drop-drop, drop-take, length-take-le, take_all, take_at, take_more, take_more_set}
 use Rattle.std.proofs.lemmas.List.Concat.{flat_map-append}
 use borrow.Rule.Slice.PartMut.{post_of, put_mid}
+use mir.Val.{SFits, of_z, to_z}
 use Rattle.byteorder.specs.Endian.{twos_complement}
 use Rattle.sound_terms.specs.declared.Depth.{Depth}
 use Rattle.sound_terms.specs.Depth.{bits_of}
+use Rattle.sound_terms.specs.Laws.{bits_bounded}
 use Rattle.sound_terms.specs.Waves.{sample_bytes, sample_of}
 use Rattle.pcm.specs.Samples.{samples_in, FitsDepth}
 use Rattle.pcm.specs.Laws.{AreBytes, all_fit, bytes_again, length-sample_bytes, sample_of-take, samples_again, samples_in_more}
@@ -59,42 +61,85 @@ samples_in-take depth (suc m) k bytes room =
       samples_in-take depth m (k - w) (drop w bytes) (omega arith),
     ) refl
 
--- four samples more, of sixteen bytes
-pub four_read : (depth n : ℕ) (bytes : List ℕ) (before : List ℤ) → depth / 8 ≤ 4
-    → before ≡ samples_in depth n bytes
-    → before ++ samples_in depth 4 (take 16 (drop (n * (depth / 8)) bytes)) ≡ samples_in depth (n + 4) bytes
-four_read depth n bytes before narrow read =
-    rw (read, samples_in-take depth 4 16 (drop (n * (depth / 8)) bytes) (omega arith))
-    (sym (samples_in-append depth n 4 bytes))
+-- four samples, each in a word of 32 bits
+abbrev pub words : List ℤ → List ℤ
+words samples = to_z w32 (of_z w32 (get_or samples 0 (pos 0))) ∷ to_z w32 (of_z w32 (get_or samples 1 (pos 0)))
+    ∷ to_z w32 (of_z w32 (get_or samples 2 (pos 0))) ∷ to_z w32 (of_z w32 (get_or samples 3 (pos 0))) ∷ []
 
--- where sixteen bytes are left, so are four samples
-pub four_left : (done n w k : ℕ) → w ≤ 4 → k ≡ n * w → 16 ≤ k - done * w → done + 4 ≤ n
-four_left done n w k narrow whole left = by_count (cases_lt n (done + 4)) where
-  by_count : (n < done + 4) ⊎ (done + 4 ≤ n) → done + 4 ≤ n
-  by_count (inl few) =
-      let most : n * w ≤ (done + 3) * w = mul-le-mul_right w (omega arith) in
-      absurd (omega (arith, narrow, whole, left, most))
-  by_count (inr enough) = enough
+abbrev pub FitWords : List ℤ → Type 0
+FitWords samples = SFits w32 (get_or samples 0 (pos 0)) × SFits w32 (get_or samples 1 (pos 0))
+    × SFits w32 (get_or samples 2 (pos 0)) × SFits w32 (get_or samples 3 (pos 0))
 
--- the word is written over the bytes from its place on, k of them
-pub one_written : (depth i k : ℕ) (samples : List ℤ) (bytes new behind : List ℕ) → i < length samples
-    → i * (depth / 8) ≤ length bytes
-    → new ≡ sample_bytes depth (get_or samples i (pos 0)) ++ behind
+-- a list of four
+abbrev pub first_four : List ℤ → List ℤ
+first_four samples = get_or samples 0 (pos 0) ∷ get_or samples 1 (pos 0) ∷ get_or samples 2 (pos 0)
+    ∷ get_or samples 3 (pos 0) ∷ []
+
+pub all_four : (samples : List ℤ) → length samples ≡ 4 → first_four samples ≡ samples
+all_four [] long = absurd (omega arith)
+all_four (a ∷ []) long = absurd (omega arith)
+all_four (a ∷ b ∷ []) long = absurd (omega arith)
+all_four (a ∷ b ∷ c ∷ []) long = absurd (omega arith)
+all_four (a ∷ b ∷ c ∷ d ∷ []) long = refl
+all_four (a ∷ b ∷ c ∷ d ∷ e ∷ rest) long = absurd (omega arith)
+
+pub words_again : (samples : List ℤ) → FitWords samples → words samples ≡ first_four samples
+words_again samples fit =
+    rw (
+      to_z-of_z w32 (get_or samples 0 (pos 0)) fit.0,
+      to_z-of_z w32 (get_or samples 1 (pos 0)) fit.1,
+      to_z-of_z w32 (get_or samples 2 (pos 0)) fit.2,
+      to_z-of_z w32 (get_or samples 3 (pos 0)) fit.3,
+    ) refl
+
+-- four samples more, of sixteen bytes that stand behind so many samples
+module _ (depth : Depth) (done width : ℕ) (bytes : List ℕ) (four : List ℤ) (wide : width ≡ bits_of depth / 8)
+    (read : four ≡ samples_in (bits_of depth) 4 (take 16 (drop (done * width) bytes))) (fit : FitWords four) where
+  pub narrow : bits_of depth / 8 ≤ 4
+  narrow = omega (arith, bits_bounded depth)
+
+  pub next_words : words four ≡ samples_in (bits_of depth) 4 (take 16 (drop (done * (bits_of depth / 8)) bytes))
+  next_words = words_again four fit ∙ ap first_four (rw wide at read)
+
+  pub next_read : samples_in (bits_of depth) done bytes ++ words four ≡ samples_in (bits_of depth) (done + 4) bytes
+  next_read =
+      rw (next_words, samples_in-take (bits_of depth) 4 16 (drop (done * (bits_of depth / 8)) bytes) (omega (arith, narrow)))
+      (sym (samples_in-append (bits_of depth) done 4 bytes))
+
+  -- where sixteen bytes are left, so are four samples
+  pub next_inside : (n : ℕ) → length bytes ≡ n * (bits_of depth / 8) → 16 ≤ length bytes - done * width → done + 4 ≤ n
+  next_inside n whole left = by_count (cases_lt n (done + 4)) where
+    by_count : (n < done + 4) ⊎ (done + 4 ≤ n) → done + 4 ≤ n
+    by_count (inl few) =
+        let most : n * (bits_of depth / 8) ≤ (done + 3) * (bits_of depth / 8) =
+        mul-le-mul_right (bits_of depth / 8) (omega arith) in
+        absurd (omega (arith, narrow, whole, rw wide at left, most))
+    by_count (inr enough) = enough
+
+-- the word is written over the bytes from its place on
+pub one_written : (depth i : ℕ) (samples : List ℤ) (bytes new : List ℕ) → SFits w32 (get_or samples i (pos 0))
+    → i < length samples → i * (depth / 8) ≤ length bytes
+    → new ≡ sample_bytes depth (to_z w32 (of_z w32 (get_or samples i (pos 0))))
+    ++ drop (depth / 8) (take (length bytes - i * (depth / 8)) (drop (i * (depth / 8)) bytes))
     → take (i * (depth / 8)) bytes ≡ flat_map (sample_bytes depth) (take i samples)
-    → take ((i + 1) * (depth / 8)) (put_mid (i * (depth / 8)) k bytes new)
+    → take ((i + 1) * (depth / 8)) (put_mid (i * (depth / 8)) (length bytes - i * (depth / 8)) bytes new)
     ≡ flat_map (sample_bytes depth) (take (i + 1) samples)
-one_written depth i k samples bytes new behind below room written before =
+one_written depth i samples bytes new wide below room written before =
+    let k = length bytes - i * (depth / 8) in
+    let behind = drop (depth / 8) (take k (drop (i * (depth / 8)) bytes)) in
     let front = take (i * (depth / 8)) bytes in
-    let word = sample_bytes depth (get_or samples i (pos 0)) in
+    let sample = get_or samples i (pos 0) in
+    let word = sample_bytes depth sample in
     let rest = post_of (i * (depth / 8)) k bytes in
+    let own : new ≡ word ++ behind =
+    written ∙ ap (λ (z : ℤ). sample_bytes depth z ++ behind) (to_z-of_z w32 sample wide) in
     let regroup : front ++ (new ++ rest) ≡ (front ++ word) ++ (behind ++ rest) =
-    ap (λ (l : List ℕ). front ++ (l ++ rest)) written
+    ap (λ (l : List ℕ). front ++ (l ++ rest)) own
     ∙ ap (λ (l : List ℕ). front ++ l) (append_assoc word behind rest)
     ∙ sym (append_assoc front word (behind ++ rest)) in
     let whole : length (front ++ word) ≡ (i + 1) * (depth / 8) =
     length-append front word
-    ∙ rw (length-take-le (i * (depth / 8)) bytes room, length-sample_bytes depth (get_or samples i (pos 0)))
-    (omega arith) in
+    ∙ rw (length-take-le (i * (depth / 8)) bytes room, length-sample_bytes depth sample) (omega arith) in
     rw (
       regroup,
       take_at (front ++ word) (behind ++ rest) ((i + 1) * (depth / 8)) whole,
@@ -116,15 +161,9 @@ module _ (depth : Depth) (n : ℕ) (bytes : List ℕ) (samples : List ℤ) (smal
   pub read_again : length bytes ≡ n * (bits_of depth / 8) → flat_map (sample_bytes (bits_of depth)) samples ≡ bytes
   read_again long = rw whole (bytes_again depth n bytes small long)
 
--- samples of which all bytes were written are read again
-pub written_again : (depth : Depth) (n : ℕ) (samples : List ℤ) (bytes : List ℕ)
-    → All (FitsDepth (bits_of depth)) samples
-    → length bytes ≤ n * (bits_of depth / 8) → length samples ≤ n
-    → take (n * (bits_of depth / 8)) bytes ≡ flat_map (sample_bytes (bits_of depth)) (take n samples)
+-- samples whose bytes were written are read again
+pub written_again : (depth : Depth) (samples : List ℤ) (bytes : List ℕ)
+    → bytes ≡ flat_map (sample_bytes (bits_of depth)) samples → All (FitsDepth (bits_of depth)) samples
     → samples_in (bits_of depth) (length samples) bytes ≡ samples
-written_again depth n samples bytes fit long count written =
-    let all : bytes ≡ flat_map (sample_bytes (bits_of depth)) samples ++ [] =
-    sym (take_all (n * (bits_of depth / 8)) bytes long) ∙ written
-    ∙ ap (flat_map (sample_bytes (bits_of depth))) (take_all n samples count)
-    ∙ sym (append-nil (flat_map (sample_bytes (bits_of depth)) samples)) in
-    rw all (samples_again depth samples [] fit)
+written_again depth samples bytes written fit =
+    rw (written ∙ sym (append-nil (flat_map (sample_bytes (bits_of depth)) samples))) (samples_again depth samples [] fit)

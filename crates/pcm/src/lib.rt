@@ -101,8 +101,7 @@ fn add_at(depth: Depth, bytes: &[u8], sums: &mut [i32])
 
 fn pack_sixteen(samples: &[i32], bytes: &mut [u8])
     requires { length bytes.old ≡ length samples.now * 2 }
-    ensures bytes { bytes.new ≡ flat_map (sample_bytes 16) samples.now }
-    ensures again { All (FitsDepth 16) samples.now → samples_in 16 (length samples.now) bytes.new ≡ samples.now }
+    ensures { bytes.new ≡ flat_map (sample_bytes 16) samples.now }
 {
     for (i, sample) in samples.iter().enumerate() {
         write_sixteen(&mut bytes[i * 2..], *sample);
@@ -111,8 +110,7 @@ fn pack_sixteen(samples: &[i32], bytes: &mut [u8])
 
 fn pack_twenty_four(samples: &[i32], bytes: &mut [u8])
     requires { length bytes.old ≡ length samples.now * 3 }
-    ensures bytes { bytes.new ≡ flat_map (sample_bytes 24) samples.now }
-    ensures again { All (FitsDepth 24) samples.now → samples_in 24 (length samples.now) bytes.new ≡ samples.now }
+    ensures { bytes.new ≡ flat_map (sample_bytes 24) samples.now }
 {
     let done = pack_lanes(samples, bytes);
     for i in done..samples.len() {
@@ -122,8 +120,7 @@ fn pack_twenty_four(samples: &[i32], bytes: &mut [u8])
 
 fn pack_thirty_two(samples: &[i32], bytes: &mut [u8])
     requires { length bytes.old ≡ length samples.now * 4 }
-    ensures bytes { bytes.new ≡ flat_map (sample_bytes 32) samples.now }
-    ensures again { All (FitsDepth 32) samples.now → samples_in 32 (length samples.now) bytes.new ≡ samples.now }
+    ensures { bytes.new ≡ flat_map (sample_bytes 32) samples.now }
 {
     for (i, sample) in samples.iter().enumerate() {
         write_thirty_two(&mut bytes[i * 4..], *sample);

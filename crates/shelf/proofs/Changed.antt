@@ -3,9 +3,12 @@ use Rattle.std.proofs.Common.{◌≡◌, ◌≢◌, ◌∙◌, ℕ, ◌+◌, ◌
 use Rattle.std.proofs.lemmas.Bool.{le-leb}
 use Rattle.std.proofs.lemmas.Option.{none-some}
 use Rattle.std.proofs.lemmas.List.{append-nil, drop_all, length-take, take_all}
-use Rattle.work_terms.specs.Disk.{Changes, Files, Follows, IsAppended, IsGrown, IsTornBehind, IsWritten, end_of}
+use Rattle.std.specs.Prelude.{true, ⊤}
+use Rattle.work_terms.specs.Disk.{Changes, Files, Follows, HasCause, HasWritten, IsAppended, IsGrown, IsTornBehind, IsWritten, end_of}
+use Rattle.shelf.specs.declared.memory.bench.MemoryBench.{MemoryBench}
 use Rattle.shelf.specs.declared.memory.call.Kind.TheVariants.{Append, Write, Sync}
 use Rattle.shelf.specs.History.{Note, History, noted, placed, with_bytes, done, read_of, step, MayLeave}
+use Rattle.shelf.specs.Memory.{bench_failures, bench_files, bench_history}
 use Rattle.shelf.specs.Crashes.{IsChange, HasSynced, changes_noted, does_by, has_changed, has_synced, stays_by}
 
 -- a file that has a length is there
@@ -52,6 +55,22 @@ steps note old new change = record { here = here change; others = others note ol
     here (inr more) = subst (λ (x : Option (List ℕ)). step note (read_of old note.name) x)
         (sym (made note old new (read_of old note.name) more refl))
         (does_by note.kind note (read_of old note.name))
+
+-- a call on a bench leaves all files alone but the one that it names, whatever comes of it
+pub only_writes : (note : Note) (old new : MemoryBench) {quiet device failed : Type 0}
+    → IsChange note (bench_history old) (bench_history new)
+    → HasCause (bench_failures old) (bench_failures new) quiet device → failed
+    → HasWritten bench_files (λ _. true) bench_failures (λ _ _. ⊤) (λ bench. MayLeave (bench_history bench))
+    (λ n. n ≢ note.name) old new quiet device failed
+only_writes note old new change cause failed =
+    let changed = has_changed note (bench_history old) (bench_history new) change in record {
+      others = λ honest. changed.others;
+      durable = λ honest. changed.durable;
+      honest_same = refl;
+      cause = cause;
+      keeps = λ n was. was;
+      failed_there = failed;
+    }
 
 module _ (name bytes : List ℕ) (at : ℕ) (old new : History)
     (there : Some at ≡ option_map (λ (file : List ℕ). length file) (read_of old name)) where

@@ -75,14 +75,10 @@ pub own_index : (project : ListProject) (sources : List Source) (place : ℕ) (s
     → sources ≡ project.sources → list_all is_source sources ≡ true → slice_get sources place ≡ Some source
     → IsNamedAs source named → (named.fault ≡ Media media.Memory) ⊎ (is_used project.events source.number ≡ true)
     → IsOfProject project (at_index source.number named)
+unfolding source_at
 own_index project sources place source named listed whole there name = by_fault named.fault refl where
   at : IsSourceAt project place source.number
-  at = record {
-    source = source;
-    there = ap (λ l. slice_get l place) (sym listed) ∙ there;
-    number_is = refl;
-    file = names_file sources place source whole there;
-  }
+  at = source_at project sources place source listed whole there
 
   by_fault : (fault : SourceFault) → named.fault ≡ fault
       → (named.fault ≡ Media media.Memory) ⊎ (is_used project.events source.number ≡ true)

@@ -1,5 +1,5 @@
 -- Opened files by their paths and sounds, and the place of each by its name.
-use Rattle.std.proofs.Common.{◌≡◌, ◌∙◌, ℕ, zero, suc, Bool, true, false, cond, List, [], ◌∷◌, ◌++◌, length, map, None, Some, Global, refl, sym, ap, arith, bytes_eq, string_bytes, length-append}
+use Rattle.std.proofs.Common.{◌≡◌, ◌∙◌, ℕ, zero, suc, ◌<◌, Bool, true, false, cond, List, [], ◌∷◌, ◌++◌, length, map, None, Some, Global, get_or, refl, sym, ap, arith, bytes_eq, string_bytes, length-append}
 use Rattle.std.specs.BTreeMap as tree
 use Rattle.std.specs.BTreeMap.{BTreeMap, get_by_text}
 use Rattle.std.specs.Cmp.Lexicographic.{slice_cmp}
@@ -8,6 +8,7 @@ use Rattle.std.specs.Option.{option_or}
 use Rattle.std.specs.Ordering.{nat_cmp}
 use Rattle.std.specs.String.{string_cmp}
 use Rattle.std.specs.declared.string.String.{String}
+use Rattle.std.proofs.lemmas.Option.{slice_get_read}
 use Rattle.std.proofs.lemmas.Slice.Eq.{bytes_eq-Decides}
 use Rattle.std.proofs.lemmas.Map.Text.{btree_map_updates_text}
 use Rattle.sound_terms.specs.Sounds.{SoundFacts}
@@ -51,6 +52,31 @@ opened_at (p ∷ paths) (s ∷ sounds) zero file together there =
     (ap (λ (f : OpenedFile). Some f.path) same, ap (λ (f : OpenedFile). Some f.facts) same)
 opened_at (p ∷ paths) (s ∷ sounds) (suc place) file together there =
     opened_at paths sounds place file (omega (arith, together)) there
+
+-- a place in the list of files is one in both of its parts
+module _ {paths : List (List ℕ)} {sounds : List SoundFacts} {places : BTreeMap (String Global) ℕ} {files : List OpenedFile}
+    (placed : ArePlaced paths sounds places) (view : opened_of paths sounds ≡ files) (place : ℕ)
+    (within : place < length files) where
+  pub sound_within : place < length sounds
+  sound_within = omega (arith, length-opened_of paths sounds, ap length view, within)
+
+  pub path_within : place < length paths
+  path_within = omega (arith, sound_within, placed.together)
+
+  -- what is read there is of the file
+  module _ (file : OpenedFile) (there : slice_get files place ≡ Some file) where
+    both_at : (slice_get paths place ≡ Some file.path) × (slice_get sounds place ≡ Some file.facts)
+    both_at = opened_at paths sounds place file placed.together (ap (λ l. slice_get l place) view ∙ there)
+
+    pub sound_read : (sound : SoundFacts) → sound ≡ get_or sounds place sound → sound ≡ file.facts
+    sound_read sound read =
+        let own = slice_get_read sounds (length sounds) place sound refl sound_within read in
+        let both = both_at in cc
+
+    pub path_read : (path : List ℕ) → path ≡ get_or paths place path → path ≡ file.path
+    path_read path read =
+        let own = slice_get_read paths (length paths) place path refl path_within read in
+        let both = both_at in cc
 
 -- the name of the file at a place, by the facts of the files
 pub named_at : (files : List OpenedFile) (place : ℕ) (name : List ℕ) (facts : SoundFacts)

@@ -87,10 +87,11 @@ without_home place (first ∷ indexes) file none i index there =
           absurd (cc)
       by_first false e later (suc i) there = later tt (sym (rw e refl) ∙ none) i there
 
-home_later : (place : ℕ) (first : BoundIndex) (indexes : List BoundIndex) (file : ℕ) (home : Home)
-    → nat_eq first.file file ≡ false
+-- a later index is the home, whose base isn't above the first's where they are of one file
+home_behind : (place : ℕ) (first : BoundIndex) (indexes : List BoundIndex) (file : ℕ) (home : Home)
+    → (first.file ≡ file → home.base ≤ first.base)
     → IsHome (place + 1) indexes file home → IsHome place (first ∷ indexes) file home
-home_later place first indexes file home other is = record {
+home_behind place first indexes file home first_above is = record {
   at = suc is.at;
   index = is.index;
   there = is.there;
@@ -100,10 +101,17 @@ home_later place first indexes file home other is = record {
 } where
   by_place : (i : ℕ) (index : BoundIndex) → slice_get (first ∷ indexes) i ≡ Some index → index.file ≡ file
       → home.base ≤ index.base
-  by_place zero index there of_file = let one : first ≡ index = cc in
-      let h : nat_eq first.file file ≡ true = eq-eqb first.file file (ap (λ (x : BoundIndex). x.file) one ∙ of_file) in
-      absurd (cc)
+  by_place zero index there of_file =
+      let one : first ≡ index = cc in
+      subst (λ (x : BoundIndex). home.base ≤ x.base) one (first_above (ap (λ (x : BoundIndex). x.file) one ∙ of_file))
   by_place (suc i) index there of_file = is.least i index there of_file
+
+home_later : (place : ℕ) (first : BoundIndex) (indexes : List BoundIndex) (file : ℕ) (home : Home)
+    → nat_eq first.file file ≡ false
+    → IsHome (place + 1) indexes file home → IsHome place (first ∷ indexes) file home
+home_later place first indexes file home other =
+    home_behind place first indexes file home
+    (λ same. let h : nat_eq first.file file ≡ true = eq-eqb first.file file same in absurd (cc))
 
 -- the first index is the home
 home_first : (place : ℕ) (first : BoundIndex) (indexes : List BoundIndex) (file : ℕ) → first.file ≡ file
@@ -126,19 +134,8 @@ home_first place first indexes file mine least = record {
 home_second : (place : ℕ) (first : BoundIndex) (indexes : List BoundIndex) (file : ℕ) (home : Home)
     → nat_le first.base home.base ≡ false
     → IsHome (place + 1) indexes file home → IsHome place (first ∷ indexes) file home
-home_second place first indexes file home less is = record {
-  at = suc is.at;
-  index = is.index;
-  there = is.there;
-  of_file = is.of_file;
-  told = is.told ∙ ap (λ n. home_at n is.index) (omega arith);
-  least = by_place;
-} where
-  by_place : (i : ℕ) (index : BoundIndex) → slice_get (first ∷ indexes) i ≡ Some index → index.file ≡ file
-      → home.base ≤ index.base
-  by_place zero index there of_file = let one : first.base ≡ index.base = let same : first ≡ index = cc in
-      ap (λ (x : BoundIndex). x.base) same in grind (arith, nat_tests, less, one)
-  by_place (suc i) index there of_file = is.least i index there of_file
+home_second place first indexes file home less =
+    home_behind place first indexes file home (λ same. grind (arith, nat_tests, less))
 
 pub home_is : (place : ℕ) (indexes : List BoundIndex) (file : ℕ) (home : Home)
     → home_from place indexes file ≡ Some home → IsHome place indexes file home

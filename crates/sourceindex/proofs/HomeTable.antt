@@ -1,5 +1,5 @@
 -- The table of homes as it is made.
-use Rattle.std.proofs.Common.{◌≡◌, ◌∙◌, ℕ, suc, ◌+◌, ◌<◌, ◌≤◌, Bool, true, false, nat_eq, List, [], ◌∷◌, ◌++◌, length, map, get_or, set, Option, None, Some, refl, sym, ap, arith, unwrap_or, add-zero, zero-add, eqb-true, get_or-set_same, get_or-set_other, length-set}
+use Rattle.std.proofs.Common.{◌≡◌, ◌∙◌, ℕ, suc, ◌+◌, ◌<◌, ◌≤◌, Bool, true, false, nat_eq, List, [], ◌∷◌, ◌++◌, length, map, take, take-suc, add-one, length-take-le, get_or, set, Option, None, Some, refl, sym, ap, arith, unwrap_or, add-zero, zero-add, eqb-true, get_or-set_same, get_or-set_other, length-set}
 use Rattle.std.proofs.lemmas.Bool.Decides.{nat_tests}
 use Rattle.sound_terms.specs.declared.BoundIndex.{BoundIndex}
 use Rattle.sound_terms.specs.declared.piece.Home.{Home}
@@ -7,6 +7,15 @@ use Rattle.list_terms.specs.Binding.{OpenedFile}
 use Rattle.list_terms.specs.BoundHomes.{home_at, home_from, homes_from, no_home}
 use Rattle.sourceindex.specs.Homes.{AreLeast, least_so_far}
 use Rattle.sourceindex.proofs.HomeLaws.{home_from-push}
+
+-- an index of the list, and those before it
+abbrev pub index_in : List BoundIndex → ℕ → BoundIndex
+index_in indexes i = get_or indexes i (record { number = 0; file = 0; base = 0; addressable = 0 })
+
+pub one_index : (indexes : List BoundIndex) (i : ℕ) → i < length indexes
+    → (length (take i indexes) ≡ i) × (take (i + 1) indexes ≡ take i indexes ++ index_in indexes i ∷ [])
+one_index indexes i below =
+    (length-take-le i indexes (omega arith), ap (λ n. take n indexes) (add-one i) ∙ take-suc indexes i _ below)
 
 -- the home of a file that an index isn't of stays
 pub other_file : (before : List BoundIndex) (index : BoundIndex) (file : ℕ) → nat_eq index.file file ≡ false

@@ -6,3 +6,4 @@ pub mod BoundLaws
 pub mod InTurn
 pub mod OneSource
 pub mod Faults
+pub mod RefusedSource

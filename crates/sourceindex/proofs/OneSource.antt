@@ -1,6 +1,8 @@
 -- One more source: the file that it names is opened already, or is opened for it.
-use Rattle.std.proofs.Common.{◌≡◌, ◌∙◌, ℕ, zero, suc, ◌<◌, Bool, true, false, bytes_eq, List, [], ◌∷◌, ◌++◌, length, Option, None, Some, Result, Ok, Err, MatchBool, refl, sym, ap, arith, ltb, ltb-true, option_map, unwrap_or}
+use Rattle.std.proofs.Common.{◌≡◌, ◌∙◌, ℕ, zero, suc, ◌<◌, Bool, true, false, not, bytes_eq, List, [], ◌∷◌, ◌++◌, length, Option, None, Some, Result, Ok, Err, MatchBool, refl, sym, ap, arith, ltb, ltb-true, option_map, unwrap_or}
 use Rattle.std.specs.List.{position, position_or_len, slice_get}
+use Rattle.std.proofs.lemmas.Bool.{not-false, not-true}
+use Rattle.sound_terms.specs.declared.BoundIndex.{BoundIndex}
 use Rattle.sound_terms.specs.Sounds.{SoundFacts}
 use Rattle.sound_terms.specs.SoundFiles.{sound_of}
 use Rattle.sound_terms.specs.SoundFault as sound
@@ -8,6 +10,7 @@ use Rattle.sound_terms.specs.declared.SoundFault.{SoundFault}
 use Rattle.sound_terms.specs.declared.SoundFault.TheVariants.{NotWave, NoFormat, NoData, Truncated, BadFormat, BadDs64, WrongRate}
 use Rattle.work_terms.specs.Disk.{Files}
 use Rattle.work_terms.specs.Refusals.{Index, is_excused}
+use Rattle.list_terms.specs.declared.Notice.{Notice}
 use Rattle.list_terms.specs.Names.{Place, place_of_url}
 use Rattle.list_terms.specs.Project.{Source}
 use Rattle.list_terms.specs.Binding.{Binding, OpenedFile, file_named, with_index, with_known_file}
@@ -40,20 +43,33 @@ pub found_file : (name : List ℕ) (files : List OpenedFile) (place : ℕ) → f
 found_file name files place found =
     element_at files place (found_within (λ (f : OpenedFile). bytes_eq f.facts.name name) files place found)
 
--- another path names the file
-pub known_refused : (binding : Binding) (source : Source) (place : Place) (file : ℕ) (opened : OpenedFile)
-    → slice_get binding.files file ≡ Some opened
-    → bytes_eq opened.path place.path ≡ false
-    → with_known_file binding source place file (slice_get binding.files file)
-    ≡ Err (record { number = 30; location = Index source.number; late = false })
-known_refused binding source place file opened there other = rw (there, other) refl
+-- the file that the place names is opened already
+module _ (binding : Binding) (source : Source) (place : Place) (file : ℕ)
+    (found : file_named place.name binding.files ≡ Some file) where
+  opened : (o : OpenedFile) × (slice_get binding.files file ≡ Some o)
+  opened = found_file place.name binding.files file found
 
-pub known_added : (binding : Binding) (source : Source) (place : Place) (file : ℕ) (opened : OpenedFile)
-    → slice_get binding.files file ≡ Some opened
-    → bytes_eq opened.path place.path ≡ true
-    → with_known_file binding source place file (slice_get binding.files file)
-    ≡ Ok (with_index binding source file opened.facts false binding.files)
-known_added binding source place file opened there same = rw (there, same) refl
+  -- its own path and that of the place, as they were read
+  module _ (own other : List ℕ)
+      (own_is : (o : OpenedFile) → slice_get binding.files file ≡ Some o → own ≡ o.path) (other_is : other ≡ place.path) where
+    same_test : bytes_eq own other ≡ bytes_eq opened.0.path place.path
+    same_test = ap (λ (p : List ℕ). bytes_eq p other) (own_is opened.0 opened.1) ∙ ap (bytes_eq opened.0.path) other_is
+
+    -- another path names the file
+    pub known_refused : not (bytes_eq own other) ≡ true
+        → with_known_file binding source place file (slice_get binding.files file)
+        ≡ Err (record { number = 30; location = Index source.number; late = false })
+    known_refused told =
+        let apart : bytes_eq opened.0.path place.path ≡ false = sym same_test ∙ not-true (bytes_eq own other) told in
+        rw (opened.1, apart) refl
+
+    pub known_added : not (bytes_eq own other) ≡ false → (new : Binding)
+        → ((o : OpenedFile) → slice_get binding.files file ≡ Some o
+        → new ≡ with_index binding source file o.facts false binding.files)
+        → with_known_file binding source place file (slice_get binding.files file) ≡ Ok new
+    known_added told new added =
+        let same : bytes_eq opened.0.path place.path ≡ true = sym same_test ∙ not-false (bytes_eq own other) told in
+        rw (opened.1, same) (ap Ok (sym (added opened.0 opened.1)))
 
 same_number : (fault : SoundFault) → sound.number_of fault ≡ number_of (media_fault fault)
 same_number NotWave = refl
@@ -114,6 +130,10 @@ pub new_added : (files : Files) (binding : Binding) (source : Source) (place : P
     (binding.files ++ record { path = place.path; facts = facts } ∷ []))
 new_added files binding source place facts opened = let under =
     accepted_under place.name (files place.name) facts opened in rw under refl
+
+-- a binding of these parts
+abbrev pub bound_parts : List OpenedFile → List BoundIndex → List Notice → Binding
+bound_parts files indexes notices = record { files = files; indexes = indexes; notices = notices }
 
 -- the index is added behind the new file
 pub pushed_new : (binding new : Binding) (files : List OpenedFile) (opened : OpenedFile) (file : ℕ) (source : Source)

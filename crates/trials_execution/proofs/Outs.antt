@@ -3,7 +3,7 @@ use Rattle.std.proofs.Common.{◌≡◌, ◌≢◌, ◌∙◌, ℕ, ◌+◌, ◌
 use Rattle.std.specs.Prelude.{⊤}
 use Rattle.std.proofs.lemmas.Bool.{cases_lt}
 use Rattle.std.proofs.lemmas.List.{get_or-replicate, get_or_past}
-use Rattle.work_terms.specs.Disk.{Changes, Files, HasRead, HasWritten, IsAppended, IsCreated, IsDurable}
+use Rattle.work_terms.specs.Disk.{Changes, Files, HasCause, HasRead, HasWritten, IsAppended, IsCreated, IsDurable}
 use Rattle.job_terms.specs.Workers.{jobs_over}
 use Rattle.devices.specs.declared.bench.Bench as bench
 use Rattle.execution.specs.Plan.{AreBlank, IsForeign, IsLast, IsOwn, OfJob, OfMarks, Stays}
@@ -43,6 +43,15 @@ pub list-durable : (files : Files) (may_leave : Files → Type 0) (i : ℕ) → 
 list-durable files may_leave i last durable = subst (λ (k : ℕ). IsDurable (plan_of.output k) files may_leave)
     (sym (last-one i last)) durable
 
+-- the same cause, where fewer answers are quiet and fewer tell a device fault
+caused : {before now : ℕ} {quiet device quiet' device' : Type 0} → (quiet' → quiet) → (device' → device)
+    → HasCause before now quiet device → HasCause before now quiet' device'
+caused is_quiet is_device cause = record {
+  later = cause.later;
+  left = λ x. cause.left (is_quiet x);
+  rose = λ x. cause.rose (is_device x);
+}
+
 module _ {B : Type 0} (g : bench.Ghosts B) where
   -- fewer files stay
   pub wider : (P Q : List ℕ → Type 0) → ((n : List ℕ) → Q n → P n) → {old new : B} {q d f q' d' f' : Type 0}
@@ -53,11 +62,7 @@ module _ {B : Type 0} (g : bench.Ghosts B) where
     others = λ honest n s. h.others honest n (inside n s);
     durable = λ honest n s. h.durable honest n (inside n s);
     honest_same = h.honest_same;
-    cause = record {
-      later = h.cause.later;
-      left = λ x. h.cause.left (quiet x);
-      rose = λ x. h.cause.rose (device x);
-    };
+    cause = caused quiet device h.cause;
     keeps = h.keeps;
     failed_there = failed;
   }
@@ -90,14 +95,20 @@ module _ {B : Type 0} (g : bench.Ghosts B) where
     others = λ honest n s. ap (λ (files : Files). files n) h.same;
     durable = λ honest n s x c at. x c (crash c at) ∙ sym (ap (λ (files : Files). files n) h.same);
     honest_same = h.honest_same;
-    cause = record {
-      later = h.cause.later;
-      left = λ x. h.cause.left (quiet x);
-      rose = λ x. h.cause.rose (device x);
-    };
+    cause = caused quiet device h.cause;
     keeps = h.keeps;
     failed_there = failed;
   }
+
+  -- what the work owns stays where "list" alone is written behind a call that only reads
+  pub own-stays : {old mid new : B} {q d f q' d' f' : Type 0}
+      → HasRead g.stored g.honest g.failures g.failed_at old mid q d f
+      → HasWritten g.stored g.honest g.failures g.failed_at g.may_leave (λ n. n ≢ codes "list") mid new q' d' f'
+      → IsTrue (g.honest old) → (n : List ℕ) → IsOwn plan_of n → g.stored new n ≡ g.stored old n
+  own-stays read written honest n own =
+      written.others (subst IsTrue (sym read.honest_same) honest) n
+      (subst (λ (name : List ℕ). name ≢ codes "list") (sym (own-out n own)) out-list)
+      ∙ ap (λ (files : Files). files n) read.same
 
 -- created, and then 64 zeros after nothing
 pub blank-out : (old mid new sources : Files) → Changes IsCreated (codes "out") old mid

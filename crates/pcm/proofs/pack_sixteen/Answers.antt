@@ -1,26 +1,8 @@
-use Rattle.std.proofs.Common.{◌≡◌, ◌*◌, ◌-◌, ◌++◌, ◌∙◌, ap, arith, drop, get_or, length, rules, take}
-use Rattle.std.specs.Prelude.{ℤ, pos}
-use Rattle.std.specs.Int.{w32}
-use Rattle.std.proofs.lemmas.Int.{to_z-of_z}
-use mir.Val.{SFits}
-use Rattle.sound_terms.specs.declared.Depth.TheVariants.{Sixteen}
-use Rattle.sound_terms.specs.Waves.{sample_bytes}
-use Rattle.pcm.proofs.Steps.{one_written, written_again}
+use Rattle.std.proofs.Common.{arith, rules}
+use Rattle.pcm.proofs.Steps.{one_written}
 use Rattle.pcm.proofs.pack_sixteen.Goals as goal
 
 pub loop-i-preserved : goal.loop-i-preserved
 loop-i-preserved c =
-    let i = c.loop-i.i in
-    let room = length c.loop-i.bytes - i * 2 in
-    let behind = drop 2 (take room (drop (i * 2) c.loop-i.bytes)) in
-    let sample = get_or c.args.samples.now i (pos 0) in
-    let wide : SFits w32 sample = search rules in
-    let word : c.write_sixteen.new.bytes ≡ sample_bytes 16 sample ++ behind =
-    c.write_sixteen.ensures ∙ ap (λ (z : ℤ). sample_bytes 16 z ++ behind) (to_z-of_z w32 sample wide) in
-    one_written 16 i room c.args.samples.now c.loop-i.bytes c.write_sixteen.new.bytes behind
-    (omega arith) (omega arith) word c.loop-i.invariant
-
-pub returns-clause-again : goal.returns-clause-again
-returns-clause-again c = λ fit.
-    written_again Sixteen c.loop-i.i c.args.samples.now c.loop-i.bytes fit (omega arith) (omega arith)
-    c.loop-i.invariant
+    one_written 16 c.loop-i.i c.args.samples.now c.loop-i.bytes c.write_sixteen.new.bytes (search rules)
+    (omega arith) (omega arith) c.write_sixteen.ensures c.loop-i.invariant

@@ -1,32 +1,36 @@
-use Rattle.std.proofs.Common.{◌∙◌, Option, List, false, ap, codes, inr, sym}
+use Rattle.std.proofs.Common.{◌≡◌, ◌∙◌, Option, List, false, ap, codes, inr, rules, sym}
 use Rattle.std.specs.Option.{option_map_or}
 use Rattle.std.proofs.lemmas.Result.{err_from_is_err_and}
-use Rattle.clap.specs.Words.{Row, Text, subcommand_rows_of}
+use Rattle.clap.specs.Words.{App, Row, Text, subcommand_of, subcommand_rows_of}
 use Rattle.clap.specs.Walk.{texts}
-use Rattle.commandline.specs.CommandLine.{is_flagged}
+use Rattle.commandline.specs.CommandLine.{adlcons_app, has_flag, is_flagged}
 use Rattle.commandline.proofs.CommandLineLaws.{helpless-by, is_free-adlcons, helpless_alone-by, is_simple-adlcons, mistaken-by, refused-by, shown-by, requested-by, has_flag-adlcons}
 use Rattle.commandline.proofs.request.parse.Goals as goal
 
-pub returns-in_err-matches-clause-refused : goal.returns-in_err-matches-clause-refused
-returns-in_err-matches-clause-refused c =
-    let p = err_from_is_err_and c.from_residual-in_err-matches.result c.from_residual-in_err-matches.ensures.1 in
-    let app = c.in_ok-command.ensures in
-    rw (p.1, p.2) (refused-by _ (texts c.args.words.now) c.in_err-matches.field-0.0 app
-    (c.in_err-matches.ensures.kinds (is_free-adlcons _ app)))
+-- a flag in the matches is one of the words
+flag_is : (id : Text) (app : App) (words : List Text) (rows : Option (Text × List Row)) → app ≡ adlcons_app
+    → rows ≡ subcommand_of app words → option_map_or (is_flagged id) rows false ≡ has_flag id words
+flag_is id app words rows same read =
+    ap (λ (found : Option (Text × List Row)). option_map_or (is_flagged id) found false) read
+    ∙ has_flag-adlcons id app words same
 
-pub returns-in_err-matches-clause-mistake : goal.returns-in_err-matches-clause-mistake
-returns-in_err-matches-clause-mistake c =
-    let p = err_from_is_err_and c.from_residual-in_err-matches.result c.from_residual-in_err-matches.ensures.1 in
+pub returns-in_err-matches : goal.returns-in_err-matches
+returns-in_err-matches c =
+    let words = texts c.args.words.now in
+    let error = c.in_err-matches.field-0.0 in
     let app = c.in_ok-command.ensures in
-    rw (p.1, p.2) (mistaken-by _ (texts c.args.words.now) c.in_err-matches.field-0.0 app
-    (c.in_err-matches.ensures.kinds (is_free-adlcons _ app)))
-
-pub returns-in_err-matches-clause-help : goal.returns-in_err-matches-clause-help
-returns-in_err-matches-clause-help c =
+    let kinds = c.in_err-matches.ensures.kinds (is_free-adlcons _ app) in
     let p = err_from_is_err_and c.from_residual-in_err-matches.result c.from_residual-in_err-matches.ensures.1 in
-    let app = c.in_ok-command.ensures in
-    rw (p.1, p.2) (shown-by _ (texts c.args.words.now) c.in_err-matches.field-0.0 app
-    (c.in_err-matches.ensures.kinds (is_free-adlcons _ app)))
+    rw (p.1, p.2) (record {
+      read = search rules;
+      all = search rules;
+      search = search rules;
+      verify = search rules;
+      no_help = search rules;
+      refused = refused-by _ words app error kinds;
+      mistake = mistaken-by _ words app error kinds;
+      help = shown-by _ words app error kinds;
+    })
 
 pub returns-clause-help : goal.returns-clause-help
 returns-clause-help c = λ alone.
@@ -34,45 +38,27 @@ returns-clause-help c = λ alone.
     let none = helpless_alone-by _ (texts c.args.words.now) app (c.in_ok-matches.ensures.kinds (is_free-adlcons _ app)) in
     absurd (cc)
 
-pub returns-in-Some-clause-read : goal.returns-in-Some-clause-read
-returns-in-Some-clause-read c =
-    let app = c.in_ok-command.ensures in
-    requested-by _ (texts c.args.words.now) (subcommand_rows_of c.in_ok-matches.matches) app
-    (c.in_ok-matches.ensures.kinds (is_free-adlcons _ app))
-    (c.in_ok-matches.ensures.ok.2 (is_simple-adlcons _ app)).1 ∙ sym c.in-Some.ensures
-
 pub returns-clause-refused : goal.returns-clause-refused
 returns-clause-refused c =
     let app = c.in_ok-command.ensures in
-    inr (requested-by _ (texts c.args.words.now) (subcommand_rows_of c.in_ok-matches.matches) app
-    (c.in_ok-matches.ensures.kinds (is_free-adlcons _ app))
+    inr (requested-by _ (texts c.args.words.now) app (c.in_ok-matches.ensures.kinds (is_free-adlcons _ app))
+    (subcommand_rows_of c.in_ok-matches.matches)
     (c.in_ok-matches.ensures.ok.2 (is_simple-adlcons _ app)).1 ∙ sym c.in-None.ensures)
 
-pub returns-in-Some-clause-no_help : goal.returns-in-Some-clause-no_help
-returns-in-Some-clause-no_help c =
+pub returns-in-Some : goal.returns-in-Some
+returns-in-Some c =
+    let words = texts c.args.words.now in
     let app = c.in_ok-command.ensures in
-    helpless-by _ (texts c.args.words.now) app (c.in_ok-matches.ensures.kinds (is_free-adlcons _ app))
-
-pub returns-in-Some-clause-all : goal.returns-in-Some-clause-all
-returns-in-Some-clause-all c =
-    let app = c.in_ok-command.ensures in
-    c.asks_for.ensures
-    ∙ ap (λ (rows : Option (Text × List Row)). option_map_or (is_flagged (codes "all")) rows false)
-    (c.in_ok-matches.ensures.ok.2 (is_simple-adlcons _ app)).1
-    ∙ has_flag-adlcons (codes "all") _ (texts c.args.words.now) app
-
-pub returns-in-Some-clause-search : goal.returns-in-Some-clause-search
-returns-in-Some-clause-search c =
-    let app = c.in_ok-command.ensures in
-    c.asks_for-in-Some.ensures
-    ∙ ap (λ (rows : Option (Text × List Row)). option_map_or (is_flagged (codes "search")) rows false)
-    (c.in_ok-matches.ensures.ok.2 (is_simple-adlcons _ app)).1
-    ∙ has_flag-adlcons (codes "search") _ (texts c.args.words.now) app
-
-pub returns-in-Some-clause-verify : goal.returns-in-Some-clause-verify
-returns-in-Some-clause-verify c =
-    let app = c.in_ok-command.ensures in
-    c.asks_for-in-Some-2.ensures
-    ∙ ap (λ (rows : Option (Text × List Row)). option_map_or (is_flagged (codes "verify")) rows false)
-    (c.in_ok-matches.ensures.ok.2 (is_simple-adlcons _ app)).1
-    ∙ has_flag-adlcons (codes "verify") _ (texts c.args.words.now) app
+    let none = c.in_ok-matches.ensures.kinds (is_free-adlcons _ app) in
+    let rows = subcommand_rows_of c.in_ok-matches.matches in
+    let read = (c.in_ok-matches.ensures.ok.2 (is_simple-adlcons _ app)).1 in
+    record {
+      read = requested-by _ words app none rows read ∙ sym c.in-Some.ensures;
+      all = c.asks_for.ensures ∙ flag_is (codes "all") _ words rows app read;
+      search = c.asks_for-in-Some.ensures ∙ flag_is (codes "search") _ words rows app read;
+      verify = c.asks_for-in-Some-2.ensures ∙ flag_is (codes "verify") _ words rows app read;
+      no_help = helpless-by _ words app none;
+      refused = search rules;
+      mistake = search rules;
+      help = search rules;
+    }

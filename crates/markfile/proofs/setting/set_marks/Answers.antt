@@ -1,9 +1,5 @@
-use Rattle.std.proofs.Common.{◌-◌, ◌+◌}
-use Rattle.work_terms.specs.Disk.{IsTorn}
 use Rattle.markfile.specs.Format.{marks_name}
-use Rattle.markfile.specs.Started.{IsAfter, LeavesMarks}
-use Rattle.markfile.proofs.Moments.{weaker}
-use Rattle.markfile.proofs.Torn.{are_set, set_beside, set_last, while_set, with_set}
+use Rattle.markfile.proofs.Torn.{are_set, moments_set, set_beside, set_last, while_set, with_set}
 use Rattle.markfile.proofs.setting.set_marks.Goals as goal
 
 pub returns-in-Ok-clause-marked : goal.returns-in-Ok-clause-marked
@@ -26,12 +22,8 @@ returns-in-Ok-clause-marked g c honest run marks lasts fits =
 
 pub returns-in-Ok-clause-any_moment : goal.returns-in-Ok-clause-any_moment
 returns-in-Ok-clause-any_moment g c honest run marks lasts =
-    let o = g.B.Bench.may_leave c.args.bench.now in
-    let from = c.args.from in
-    let behind = c.args.end in
-    weaker g.B.Bench.moment g.B.Bench.left_since c.args.bench.now c.write_ones.new.bench
-    (IsAfter o (IsTorn (44 + from) (behind - from))) (LeavesMarks run from behind marks o)
-    (while_set run from behind c.requires.order marks lasts.ours o lasts.kept) c.in-Ok.ensures.moments
+    moments_set g.B.Bench run c.args.from c.args.end c.requires.order marks c.args.bench.now c.write_ones.new.bench lasts
+    c.in-Ok.ensures.moments
 
 pub returns-in-Ok-clause-crash : goal.returns-in-Ok-clause-crash
 returns-in-Ok-clause-crash g c honest run marks lasts x left =
@@ -40,12 +32,8 @@ returns-in-Ok-clause-crash g c honest run marks lasts x left =
 
 pub returns-in-Err-clause-any_moment : goal.returns-in-Err-clause-any_moment
 returns-in-Err-clause-any_moment g c honest run marks lasts =
-    let o = g.B.Bench.may_leave c.args.bench.now in
-    let from = c.args.from in
-    let behind = c.args.end in
-    weaker g.B.Bench.moment g.B.Bench.left_since c.args.bench.now c.write_ones.new.bench
-    (IsAfter o (IsTorn (44 + from) (behind - from))) (LeavesMarks run from behind marks o)
-    (while_set run from behind c.requires.order marks lasts.ours o lasts.kept) c.in-Err.ensures.moments
+    moments_set g.B.Bench run c.args.from c.args.end c.requires.order marks c.args.bench.now c.write_ones.new.bench lasts
+    c.in-Err.ensures.moments
 
 pub returns-in-Err-clause-crash : goal.returns-in-Err-clause-crash
 returns-in-Err-clause-crash g c honest run marks lasts x left =

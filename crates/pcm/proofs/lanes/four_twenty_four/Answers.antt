@@ -1,5 +1,5 @@
-use Rattle.std.proofs.Common.{◌≡◌, ℕ, ◌+◌, ◌*◌, ◌^◌, ◌<◌, drop, get_or, refl, ap, ◌∙◌, arith}
-use Rattle.std.proofs.lemmas.List.{get_or-drop}
+use Rattle.std.proofs.Common.{◌≡◌, ℕ, List, ◌+◌, ◌*◌, ◌^◌, ◌<◌, drop, get_or, refl, ap, ◌∙◌, arith}
+use Rattle.std.proofs.lemmas.List.{drop-drop, get_or-drop}
 use Rattle.std.proofs.lemmas.Simd.{Each1-get_or}
 use mir.Syntax.{w8}
 use mir.Val.{Fits}
@@ -22,30 +22,14 @@ returns c =
     + 4294967296 * (256 * (b6 + 256 * (b7 + 256 * (b8 + 256 * 0)))
     + 4294967296 * (256 * (b9 + 256 * (b10 + 256 * (b11 + 256 * 0))) + 4294967296 * 0))) =
     λ b0 b1 b2 b3 b4 b5 b6 b7 b8 b9 b10 b11. omega arith in
-    let second : little_number 3 (drop 3 bytes) ≡ three 3 =
-    rw (get_or-drop 3 bytes 0 0, get_or-drop 3 bytes 1 0, get_or-drop 3 bytes 2 0) refl in
-    let third : little_number 3 (drop 3 (drop 3 bytes)) ≡ three 6 =
-    rw (
-      get_or-drop 3 (drop 3 bytes) 0 0,
-      get_or-drop 3 (drop 3 bytes) 1 0,
-      get_or-drop 3 (drop 3 bytes) 2 0,
-      get_or-drop 3 bytes 3 0,
-      get_or-drop 3 bytes 4 0,
-      get_or-drop 3 bytes 5 0,
-    ) refl in
+    let at : (k : ℕ) → little_number 3 (drop k bytes) ≡ three k = λ k.
+    let front : k + 0 ≡ k = omega arith in
+    rw (get_or-drop k bytes 0 0, get_or-drop k bytes 1 0, get_or-drop k bytes 2 0, front) refl in
+    let third : little_number 3 (drop 3 (drop 3 bytes)) ≡ three 6 = ap (little_number 3) (drop-drop 3 3 bytes) ∙ at 6 in
     let fourth : little_number 3 (drop 3 (drop 3 (drop 3 bytes))) ≡ three 9 =
-    rw (
-      get_or-drop 3 (drop 3 (drop 3 bytes)) 0 0,
-      get_or-drop 3 (drop 3 (drop 3 bytes)) 1 0,
-      get_or-drop 3 (drop 3 (drop 3 bytes)) 2 0,
-      get_or-drop 3 (drop 3 bytes) 3 0,
-      get_or-drop 3 (drop 3 bytes) 4 0,
-      get_or-drop 3 (drop 3 bytes) 5 0,
-      get_or-drop 3 bytes 6 0,
-      get_or-drop 3 bytes 7 0,
-      get_or-drop 3 bytes 8 0,
-    ) refl in
+    ap (λ (l : List ℕ). little_number 3 (drop 3 l)) (drop-drop 3 3 bytes) ∙ ap (little_number 3) (drop-drop 3 6 bytes)
+    ∙ at 9 in
     ap four_shifted (same _ _ _ _ _ _ _ _ _ _ _ _)
     ∙ four_are (three 0) (three 3) (three 6) (three 9) (fits 0 (omega arith)) (fits 3 (omega arith))
     (fits 6 (omega arith)) (fits 9 (omega arith))
-    ∙ rw (second, third, fourth) refl
+    ∙ rw (at 3, third, fourth) refl

@@ -1,75 +1,38 @@
-use Rattle.std.proofs.Common.{◌≡◌, ◌∙◌, ◌+◌, ◌∷◌, ◌++◌, [], IsTrue, MatchBool, Some, Err, add-one, ap, drop, drop-cons, length, refl, rules, subst, sym, take, take-append-drop, take-suc}
-use Rattle.std.specs.List.{list_all, slice_get}
-use Rattle.std.proofs.lemmas.Option.{slice_get_read}
-use Rattle.work_terms.specs.Refusals.{is_excused}
+use Rattle.std.proofs.Common.{◌≡◌, ◌∙◌, ◌+◌, ◌∷◌, ◌++◌, [], IsTrue, add-one, ap, rules, subst, sym, take, take-suc}
+use Rattle.std.specs.List.{list_all}
 use Rattle.list_terms.specs.Project.{Source}
 use Rattle.list_terms.specs.WholeProject.{is_source}
-use Rattle.list_terms.specs.Bound.{binding_of}
-use Rattle.sourceindex.specs.declared.fault.BindFault.{BindFault}
-use Rattle.sourceindex.specs.Fault.{at_index, refusal_of, refusal_of_source}
-use Rattle.sourceindex.specs.Own.{ComesFirst, IsOfProject}
-use Rattle.sourceindex.proofs.Faults.{due_refusal, first_index, own_index, read_on, source_at}
-use Rattle.sourceindex.proofs.InTurn.{one_more, refused_at}
+use Rattle.sourceindex.specs.Fault.{at_index}
+use Rattle.sourceindex.proofs.Faults.{read_on}
+use Rattle.sourceindex.proofs.InTurn.{one_more}
+use Rattle.sourceindex.proofs.RefusedSource.{first_there, owned_there, refused_there}
 use Rattle.sourceindex.proofs.binding.bind.Goals as goal
 
 pub returns-in-Err-clause-exact : goal.returns-in-Err-clause-exact
 returns-in-Err-clause-exact g c = λ honest.
-    let files = g.S.Shelf.stored c.args.shelf.now in
-    let project = c.args.project.now in
-    let sources = c.as_slice-sources.result.now in
-    let listed = c.as_slice-sources.ensures.sources ∙ c.sources.ensures.sources in
-    let place = c.loop-source.source-index in
-    let source : Source = c.source-item.result in
-    let there : slice_get sources place ≡ Some source =
-    slice_get_read sources (length sources) place source refl c.loop-source-test.true c.source-item.is in
-    let here : drop place sources ≡ source ∷ drop (place + 1) sources =
-    rw (add-one, c.source-item.is) (drop-cons sources place source c.loop-source-test.true) in
-    let cut : project.sources ≡ take place sources ++ source ∷ drop (place + 1) sources =
-    sym listed ∙ sym (take-append-drop place sources) ∙ ap (λ rest. take place sources ++ rest) here in
-    let fault : c.of_index.result ≡ at_index source.number c.in-Err.fault =
-    c.of_index.ensures ∙ ap (λ n. at_index n c.in-Err.fault) c.number.ensures in
     let read = c.loop-source.invariant.read in
     let told = c.in-Err.ensures.taken (subst IsTrue (sym read.honest_same) honest) in
-    subst (λ (f : BindFault). MatchBool (is_excused (refusal_of f).number) (Unit {0})
-    (binding_of project files ≡ Err (refusal_of f))) (sym fault)
-    (due_refusal source c.in-Err.fault (binding_of project files) c.in-Err.ensures.named
-    (refused_at project files c.loop-source.binder (take place sources) (drop (place + 1) sources) source
-    (refusal_of_source source c.in-Err.fault.fault) cut
-    (c.loop-source.invariant.so_far honest) (rw (read.same, c.new-used.ensures, c.events.ensures.events) at told)))
+    refused_there c.args.project.now c.as_slice-sources.result.now c.loop-source.source-index c.source-item.result c.in-Err.fault
+    c.of_index.result (c.as_slice-sources.ensures.sources ∙ c.sources.ensures.sources) c.source-item.is c.loop-source-test.true
+    (c.of_index.ensures ∙ ap (λ n. at_index n c.in-Err.fault) c.number.ensures) c.in-Err.ensures.named
+    (g.S.Shelf.stored c.args.shelf.now) c.loop-source.binder (c.loop-source.invariant.so_far honest)
+    (rw (read.same, c.new-used.ensures, c.events.ensures.events) at told)
 
 pub returns-in-Err-clause-own : goal.returns-in-Err-clause-own
 returns-in-Err-clause-own g c =
-    let project = c.args.project.now in
-    let sources = c.as_slice-sources.result.now in
-    let listed = c.as_slice-sources.ensures.sources ∙ c.sources.ensures.sources in
-    let place = c.loop-source.source-index in
-    let source : Source = c.source-item.result in
-    let there : slice_get sources place ≡ Some source =
-    slice_get_read sources (length sources) place source refl c.loop-source-test.true c.source-item.is in
-    let fault : c.of_index.result ≡ at_index source.number c.in-Err.fault =
-    c.of_index.ensures ∙ ap (λ n. at_index n c.in-Err.fault) c.number.ensures in
     let whole = subst (λ l. IsTrue (list_all is_source l)) (sym c.as_slice-sources.ensures.sources) c.sources.ensures.whole in
-    let used = rw (c.new-used.ensures, c.events.ensures.events) at c.in-Err.ensures.used in
-    subst (IsOfProject project) (sym fault)
-    (own_index project sources place source c.in-Err.fault listed whole there c.in-Err.ensures.named used)
+    owned_there c.args.project.now c.as_slice-sources.result.now c.loop-source.source-index c.source-item.result c.in-Err.fault
+    c.of_index.result (c.as_slice-sources.ensures.sources ∙ c.sources.ensures.sources) c.source-item.is c.loop-source-test.true
+    (c.of_index.ensures ∙ ap (λ n. at_index n c.in-Err.fault) c.number.ensures) c.in-Err.ensures.named
+    whole (rw (c.new-used.ensures, c.events.ensures.events) at c.in-Err.ensures.used)
 
 pub returns-in-Err-clause-in_turn : goal.returns-in-Err-clause-in_turn
 returns-in-Err-clause-in_turn g c = λ honest.
-    let files = g.S.Shelf.stored c.args.shelf.now in
-    let project = c.args.project.now in
-    let sources = c.as_slice-sources.result.now in
-    let listed = c.as_slice-sources.ensures.sources ∙ c.sources.ensures.sources in
-    let place = c.loop-source.source-index in
-    let source : Source = c.source-item.result in
-    let there : slice_get sources place ≡ Some source =
-    slice_get_read sources (length sources) place source refl c.loop-source-test.true c.source-item.is in
-    let fault : c.of_index.result ≡ at_index source.number c.in-Err.fault =
-    c.of_index.ensures ∙ ap (λ n. at_index n c.in-Err.fault) c.number.ensures in
     let whole = subst (λ l. IsTrue (list_all is_source l)) (sym c.as_slice-sources.ensures.sources) c.sources.ensures.whole in
-    let bound = rw listed at (c.loop-source.invariant.so_far honest) in
-    subst (ComesFirst project files) (sym fault)
-    (first_index project files place source c.in-Err.fault c.loop-source.binder
-    (source_at project sources place source listed whole there) bound)
+    first_there c.args.project.now c.as_slice-sources.result.now c.loop-source.source-index c.source-item.result c.in-Err.fault
+    c.of_index.result (c.as_slice-sources.ensures.sources ∙ c.sources.ensures.sources) c.source-item.is c.loop-source-test.true
+    (c.of_index.ensures ∙ ap (λ n. at_index n c.in-Err.fault) c.number.ensures) c.in-Err.ensures.named
+    whole (g.S.Shelf.stored c.args.shelf.now) c.loop-source.binder (c.loop-source.invariant.so_far honest)
 
 pub returns-in-Err-clause-only_reads : goal.returns-in-Err-clause-only_reads
 returns-in-Err-clause-only_reads g c =

@@ -1,9 +1,8 @@
-use Rattle.std.proofs.Common.{◌≡◌, ◌∙◌, ◌+◌, ◌<◌, ◌∷◌, ◌++◌, [], ap, take, length, arith, add-one, take-suc, length-take-le, get_or, None, refl, length-set}
-use Rattle.sound_terms.specs.declared.BoundIndex.{BoundIndex}
+use Rattle.std.proofs.Common.{◌≡◌, ◌∙◌, ◌<◌, take, length, arith, get_or, None, refl, length-set}
 use Rattle.list_terms.specs.BoundHomes.{home_at}
 use Rattle.sourceindex.specs.Homes.{least_so_far}
 use Rattle.sourceindex.proofs.Places.{read_as}
-use Rattle.sourceindex.proofs.HomeTable.{least_put, least_skipped}
+use Rattle.sourceindex.proofs.HomeTable.{index_in, least_put, least_skipped, one_index}
 use Rattle.sourceindex.proofs.homes.least_homes.Goals as goal
 use Rattle.sourceindex.proofs.homes.least_homes.Goals.{then-file-len, else-file-len}
 
@@ -12,11 +11,9 @@ loop-i-preserved c =
     let indexes = c.args.indexes.now in
     let i = c.loop-i.i in
     let homes = c.loop-i.homes.items in
-    let index : BoundIndex = get_or indexes i (record { number = 0; file = 0; base = 0; addressable = 0 }) in
+    let index = index_in indexes i in
     let before = take i indexes in
-    let many : length before ≡ i = length-take-le i indexes (omega (arith, c.loop-i-test.true)) in
-    let here : take (i + 1) indexes ≡ before ++ index ∷ [] =
-    ap (λ n. take n indexes) (add-one i) ∙ take-suc indexes i _ c.loop-i-test.true in
+    let (many, here) = one_index indexes i c.loop-i-test.true in
     elim c.if-file-len.branch [
       | then-file-len w ↦
           let inside : index.file < length homes = omega (arith, w.if-file-len.true, c.len.ensures) in

@@ -1,5 +1,4 @@
-use Rattle.std.proofs.lemmas.Bool.{not-false, not-true}
-use Rattle.std.proofs.Common.{◌≡◌, ◌∙◌, true, false, not, Ok, bytes_eq, sym, subst, ap}
+use Rattle.std.proofs.Common.{◌∙◌, false, sym, subst, ap}
 use Rattle.std.specs.List.{slice_get}
 use Rattle.list_terms.specs.Binding.{Binding}
 use Rattle.list_terms.specs.BoundHomes.{IsBinding}
@@ -9,26 +8,15 @@ use Rattle.sourceindex.proofs.binder.Binder.add_known.Goals as goal
 
 pub returns-then-ne-clause-added : goal.returns-then-ne-clause-added
 returns-then-ne-clause-added c =
-    let self = c.args.self.now in
-    let place = c.args.location.now in
-    let opened = found_file place.name self.files c.args.file c.requires.opened in
-    let path =
-    c.path.ensures opened.0 (ap (λ (b : Binding). slice_get b.files c.args.file) c.self.view_is ∙ opened.1) in
-    let told : not (bytes_eq c.path.result.now c.path-2.result.now) ≡ true = sym c.ne.ensures ∙ c.if-ne.true in
-    known_refused self c.args.source.now place c.args.file opened.0 opened.1
-    (not-true (bytes_eq opened.0.path place.path) (rw (path, c.path-2.ensures) at told))
+    known_refused c.args.self.now c.args.source.now c.args.location.now c.args.file c.requires.opened c.path.result.now _
+    (λ o is. c.path.ensures o (ap (λ (b : Binding). slice_get b.files c.args.file) c.self.view_is ∙ is)) c.path-2.ensures
+    (sym c.ne.ensures ∙ c.if-ne.true)
 
 pub returns-clause-added : goal.returns-clause-added
 returns-clause-added c =
-    let self = c.args.self.now in
-    let place = c.args.location.now in
-    let opened = found_file place.name self.files c.args.file c.requires.opened in
-    let path =
-    c.path.ensures opened.0 (ap (λ (b : Binding). slice_get b.files c.args.file) c.self.view_is ∙ opened.1) in
-    let told : not (bytes_eq c.path.result.now c.path-2.result.now) ≡ false = sym c.ne.ensures ∙ c.if-ne.false in
-    known_added self c.args.source.now place c.args.file opened.0 opened.1
-    (not-false (bytes_eq opened.0.path place.path) (rw (path, c.path-2.ensures) at told))
-    ∙ ap Ok (sym (c.in_ok-push_index.ensures opened.0 opened.1))
+    known_added c.args.self.now c.args.source.now c.args.location.now c.args.file c.requires.opened c.path.result.now _
+    (λ o is. c.path.ensures o (ap (λ (b : Binding). slice_get b.files c.args.file) c.self.view_is ∙ is)) c.path-2.ensures
+    (sym c.ne.ensures ∙ c.if-ne.false) c.push_index.new.self c.in_ok-push_index.ensures
 
 pub returns-clause-sound : goal.returns-clause-sound
 returns-clause-sound c = λ is.

@@ -4,7 +4,7 @@ use Rattle.list_terms.specs.Binding.{Binding, OpenedFile, file_named, with_index
 use Rattle.list_terms.specs.Bound.{bound_to_new}
 use Rattle.list_terms.specs.BoundHomes.{IsBinding}
 use Rattle.sourceindex.proofs.BoundLaws.{new_index}
-use Rattle.sourceindex.proofs.OneSource.{new_added, new_refused, pushed_new}
+use Rattle.sourceindex.proofs.OneSource.{bound_parts, new_added, new_refused, pushed_new}
 use Rattle.sourceindex.proofs.binder.Binder.add_new.Goals as goal
 
 pub returns-in_err-sound-clause-added : goal.returns-in_err-sound-clause-added
@@ -22,12 +22,7 @@ returns-clause-added g c = λ honest.
     let source = c.args.source.now in
     let place = c.args.location.now in
     let sound = c.in_ok-sound.sound in
-    let before : Binding =
-    record {
-      files = c.self.inside.files;
-      indexes = c.self.inside.indexes;
-      notices = c.self.inside.notices.items;
-    } in
+    let before = bound_parts c.self.inside.files c.self.inside.indexes c.self.inside.notices.items in
     let path = c.in_ok-path.ensures ∙ c.path.ensures in
     let opened : OpenedFile = record { path = c.in_ok-path.path; facts = sound } in
     let added = pushed_new before c.push_index.new.self c.push.new.self opened c.in_ok-file.file source
@@ -42,12 +37,7 @@ returns-clause-added g c = λ honest.
 pub returns-clause-sound : goal.returns-clause-sound
 returns-clause-sound g c = λ is.
     let sound = c.in_ok-sound.sound in
-    let before : Binding =
-    record {
-      files = c.self.inside.files;
-      indexes = c.self.inside.indexes;
-      notices = c.self.inside.notices.items;
-    } in
+    let before = bound_parts c.self.inside.files c.self.inside.indexes c.self.inside.notices.items in
     let opened : OpenedFile = record { path = c.in_ok-path.path; facts = sound } in
     let added = pushed_new before c.push_index.new.self c.push.new.self opened c.in_ok-file.file c.args.source.now
     c.in_ok-file.ensures.pushed c.in_ok-file.ensures.position c.in_ok-push_index.ensures in

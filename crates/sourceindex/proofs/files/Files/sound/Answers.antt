@@ -1,31 +1,10 @@
-use Rattle.std.proofs.Common.{◌≡◌, ◌∙◌, ◌<◌, Some, arith, length, refl, ap}
-use Rattle.std.specs.List.{slice_get}
-use Rattle.std.proofs.lemmas.Option.{slice_get_read}
-use Rattle.sourceindex.proofs.FilePlaces.{length-opened_of, opened_at}
+use Rattle.std.proofs.Common.{arith}
+use Rattle.sourceindex.proofs.FilePlaces.{sound_read, sound_within}
 use Rattle.sourceindex.proofs.files.Files.sound.Goals as goal
 
 pub index-requires : goal.index-requires
-index-requires c =
-    let many = length-opened_of c.self.inside.paths.items c.self.inside.sounds.items in
-    let view = ap length c.self.view_is in
-    omega (
-      arith,
-      c.requires,
-      many,
-      view,
-      c.self.invariant.together,
-      c.self.inside.paths.ok.0,
-      c.self.inside.sounds.ok.0,
-    )
+index-requires c = omega (arith, sound_within c.self.invariant c.self.view_is c.args.position c.requires, c.self.inside.sounds.ok.0)
 
 pub returns : goal.returns
 returns c = λ file there.
-    let sounds = c.self.inside.sounds.items in
-    let many = length-opened_of c.self.inside.paths.items sounds in
-    let view = ap length c.self.view_is in
-    let below : c.args.position < length sounds = omega (arith, c.requires, many, view) in
-    let at = opened_at c.self.inside.paths.items sounds c.args.position file c.self.invariant.together
-    (ap (λ l. slice_get l c.args.position) c.self.view_is ∙ there) in
-    let read : slice_get sounds c.args.position ≡ Some c.index.result.now =
-    slice_get_read sounds (length sounds) c.args.position c.index.result.now refl below c.index.ensures in
-    cc
+    sound_read c.self.invariant c.self.view_is c.args.position c.requires file there c.index.result.now c.index.ensures

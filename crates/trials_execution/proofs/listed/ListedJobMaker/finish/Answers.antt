@@ -1,8 +1,7 @@
-use Rattle.std.proofs.Common.{◌≢◌, ◌∙◌, ℕ, List, IsTrue, codes, sym, ap, subst, arith, rules}
-use Rattle.work_terms.specs.Disk.{Files}
+use Rattle.std.proofs.Common.{◌≢◌, IsTrue, codes, sym, subst, arith, rules}
 use Rattle.execution.specs.Plan.{IsForeign}
 use Rattle.trials_execution.specs.Listed.{plan_of}
-use Rattle.trials_execution.proofs.Outs.{both, list-durable, list-there, no-list, no-more, out-list, own-out, read-only, wider}
+use Rattle.trials_execution.proofs.Outs.{both, list-durable, list-there, no-list, no-more, out-list, own-stays, read-only, wider}
 use Rattle.trials_execution.proofs.listed.ListedJobMaker.finish.Goals as goal
 
 pub returns-in-Err-clause-only_writes : goal.returns-in-Err-clause-only_writes
@@ -24,10 +23,7 @@ returns-in-Err-write_list-clause-only_writes g c = both g.B.Bench (IsForeign pla
 
 pub returns-in-Ok-write_list-clause-finishes : goal.returns-in-Ok-write_list-clause-finishes
 returns-in-Ok-write_list-clause-finishes g c = record {
-  stays = λ honest n own. c.in-Ok-write_list.ensures.only_writes.others
-      (subst IsTrue (sym c.in-Ok.ensures.only_reads.honest_same) honest) n
-      (subst (λ (name : List ℕ). name ≢ codes "list") (sym (own-out n own)) out-list)
-      ∙ ap (λ (files : Files). files n) c.in-Ok.ensures.only_reads.same;
+  stays = own-stays g.B.Bench c.in-Ok.ensures.only_reads c.in-Ok-write_list.ensures.only_writes;
   last = λ honest sources hold i last. list-there (g.B.Bench.stored c.write_list.new.bench) sources i last
       (c.in-Ok-write_list.ensures.written (subst IsTrue (sym c.in-Ok.ensures.only_reads.honest_same) honest));
   in_order = search rules;
@@ -45,10 +41,7 @@ returns-in-Ok-write_list-clause-finishes g c = record {
 
 pub returns-in-Err-write_list-clause-finishes : goal.returns-in-Err-write_list-clause-finishes
 returns-in-Err-write_list-clause-finishes g c = record {
-  stays = λ honest n own. c.in-Err-write_list.ensures.only_writes.others
-      (subst IsTrue (sym c.in-Ok.ensures.only_reads.honest_same) honest) n
-      (subst (λ (name : List ℕ). name ≢ codes "list") (sym (own-out n own)) out-list)
-      ∙ ap (λ (files : Files). files n) c.in-Ok.ensures.only_reads.same;
+  stays = own-stays g.B.Bench c.in-Ok.ensures.only_reads c.in-Err-write_list.ensures.only_writes;
   last = search rules;
   in_order = λ honest i last after. absurd (no-more i last after);
   durable = search rules;
