@@ -136,6 +136,21 @@ fn adds_at_each_place(
     Ok(())
 }
 
+/// The first channel of the file, the one that it is added to, and how many there are: both, or one to the other.
+fn channels_of(way: usize) -> (u8, u8, u8)
+    ensures first { 1 ≤ result.0 }
+    ensures dest { 1 ≤ result.1 }
+    ensures width { 1 ≤ result.2 }
+    ensures last { result.1 + result.2 ≤ 3 }
+    ensures source { result.0 + result.2 ≤ 3 }
+{
+    match way {
+        0 => (1, 1, 2),
+        1 => (1, 2, 1),
+        _ => (2, 1, 1),
+    }
+}
+
 /// On one channel and on both, in a block of this depth.
 fn adds_on_all(
     rt: &impl Abort,
@@ -153,53 +168,39 @@ fn adds_on_all(
     }
     let mut machine = Machine::new(alloc, FRAMES as u32, 2)?;
     let mut program = Program::with_room(alloc, 4)?;
-    let channels = [(1, 1, 2), (1, 2, 1), (2, 1, 1)];
-    adds_at_each_place(
-        rt,
-        &mut machine,
-        &mut program,
-        &sounds,
-        &mut shelf,
-        depth,
-        shown,
-        channels[0],
-    )?;
-    adds_at_each_place(
-        rt,
-        &mut machine,
-        &mut program,
-        &sounds,
-        &mut shelf,
-        depth,
-        shown,
-        channels[1],
-    )?;
-    adds_at_each_place(
-        rt,
-        &mut machine,
-        &mut program,
-        &sounds,
-        &mut shelf,
-        depth,
-        shown,
-        channels[2],
-    )
+    for way in 0..3 {
+        adds_at_each_place(
+            rt,
+            &mut machine,
+            &mut program,
+            &sounds,
+            &mut shelf,
+            depth,
+            shown,
+            channels_of(way),
+        )?;
+    }
+    Ok(())
+}
+
+/// In a block of each depth.
+fn adds_at_all_depths(rt: &impl Abort, alloc: Global, depth: Depth, width: u8) -> Result<(), Fail>
+    requires { width ≤ 4 }
+{
+    for shown in [Depth::Sixteen, Depth::TwentyFour, Depth::ThirtyTwo] {
+        adds_on_all(rt, alloc, depth, width, shown)?;
+    }
+    Ok(())
 }
 
 #[test]
 fn adds_sixteen_bits(rt: HostRuntime) -> Result<(), Fail> {
-    for shown in [Depth::Sixteen, Depth::TwentyFour, Depth::ThirtyTwo] {
-        adds_on_all(&rt, rt.alloc(), Depth::Sixteen, 2, shown)?;
-    }
-    Ok(())
+    adds_at_all_depths(&rt, rt.alloc(), Depth::Sixteen, 2)
 }
 
 #[test]
 fn adds_twenty_four_bits(rt: HostRuntime) -> Result<(), Fail> {
-    for shown in [Depth::Sixteen, Depth::TwentyFour, Depth::ThirtyTwo] {
-        adds_on_all(&rt, rt.alloc(), Depth::TwentyFour, 3, shown)?;
-    }
-    Ok(())
+    adds_at_all_depths(&rt, rt.alloc(), Depth::TwentyFour, 3)
 }
 
 #[test]

@@ -73,7 +73,7 @@ pub(crate) fn intervals(rt: &HostRuntime, event: &Event) -> Result<Intervals, Fa
 }
 
 /// The first two frames of an in-fade of four.
-const RAMP: Piece = Piece {
+pub(crate) const RAMP: Piece = Piece {
     start: 0,
     length: 2,
     frame: 0,

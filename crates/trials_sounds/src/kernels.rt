@@ -90,58 +90,54 @@ fn adds_to_zero(rt: &impl Abort, depth: Depth, bytes: &[u8], sums: &mut [i32])
     }
 }
 
-#[test]
-fn sixteen_bits_at_every_length(rt: HostRuntime) {
+/// How many bytes so many samples have.
+fn size_of(depth: Depth, count: usize) -> usize
+    requires { count ≤ 67 }
+    ensures whole { result ≡ count * (bits_of depth / 8) }
+    ensures few { result ≤ 268 }
+{
+    match depth {
+        Depth::Sixteen => count * 2,
+        Depth::TwentyFour => count * 3,
+        Depth::ThirtyTwo => count * 4,
+    }
+}
+
+/// Samples of this depth, each of so many bytes, at every length.
+fn at_every_length(rt: &impl Abort, depth: Depth, width: usize)
+    requires some { 0 < width }
+    requires few { width ≤ 4 }
+{
     for offset in 0..OFFSETS {
-        let source = source_of(Depth::Sixteen, 2, offset);
+        let source = source_of(depth, width, offset);
         for count in 0..LONGEST + 1 {
-            let bytes = &source[offset..offset + count * 2];
+            let size = size_of(depth, count);
+            let bytes = &source[offset..offset + size];
             reads_and_writes(
-                &rt,
-                Depth::Sixteen,
+                rt,
+                depth,
                 bytes,
                 &mut [0; LONGEST][..count],
-                &mut [0; ROOM][..count * 2],
+                &mut [0; ROOM][..size],
             );
-            adds_to_zero(&rt, Depth::Sixteen, bytes, &mut [0; LONGEST][..count]);
+            adds_to_zero(rt, depth, bytes, &mut [0; LONGEST][..count]);
         }
     }
+}
+
+#[test]
+fn sixteen_bits_at_every_length(rt: HostRuntime) {
+    at_every_length(&rt, Depth::Sixteen, 2);
 }
 
 #[test]
 fn twenty_four_bits_at_every_length(rt: HostRuntime) {
-    for offset in 0..OFFSETS {
-        let source = source_of(Depth::TwentyFour, 3, offset);
-        for count in 0..LONGEST + 1 {
-            let bytes = &source[offset..offset + count * 3];
-            reads_and_writes(
-                &rt,
-                Depth::TwentyFour,
-                bytes,
-                &mut [0; LONGEST][..count],
-                &mut [0; ROOM][..count * 3],
-            );
-            adds_to_zero(&rt, Depth::TwentyFour, bytes, &mut [0; LONGEST][..count]);
-        }
-    }
+    at_every_length(&rt, Depth::TwentyFour, 3);
 }
 
 #[test]
 fn thirty_two_bits_at_every_length(rt: HostRuntime) {
-    for offset in 0..OFFSETS {
-        let source = source_of(Depth::ThirtyTwo, 4, offset);
-        for count in 0..LONGEST + 1 {
-            let bytes = &source[offset..offset + count * 4];
-            reads_and_writes(
-                &rt,
-                Depth::ThirtyTwo,
-                bytes,
-                &mut [0; LONGEST][..count],
-                &mut [0; ROOM][..count * 4],
-            );
-            adds_to_zero(&rt, Depth::ThirtyTwo, bytes, &mut [0; LONGEST][..count]);
-        }
-    }
+    at_every_length(&rt, Depth::ThirtyTwo, 4);
 }
 
 /// So many samples are silent, and none of them alone may sound.

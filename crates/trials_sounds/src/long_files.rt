@@ -2,8 +2,8 @@
 use shelf::ZeroShelf;
 use std::alloc::Global;
 use std::test::Fail;
+use trials_projects::media::head;
 use wavread::{Depth, open};
-use wavwrite::{Bext, SoundInfo, header};
 
 /// The most frames of one channel and 16 bits that RIFF can tell, without a CodingHistory.
 const MOST_OF_RIFF: u64 = 2_147_483_306;
@@ -16,21 +16,9 @@ const RF64_HEAD: [u8; 56] = [
     0x7f, 0, 0, 0, 0, 0, 0, 0, 0, 0x62, 0x65, 0x78, 0x74, 0x5a, 2, 0, 0,
 ];
 
-/// The head of a mono file of 16 bits with an empty `bext`.
-fn head_of(alloc: Global, frames: u64) -> Result<Vec<u8>, Fail> {
-    let bext = Bext {
-        text: [0; 338],
-        time_reference: 0,
-    };
-    let info = SoundInfo::new(1, Depth::Sixteen, frames, bext, Vec::new(alloc)).ok_or(
-        "no such info",
-    )?;
-    Ok(header(alloc, &info)?)
-}
-
 /// A shelf with this file, whose samples are zero.
 fn silent(alloc: Global, frames: u64) -> Result<ZeroShelf, Fail> {
-    let head = head_of(alloc, frames)?;
+    let head = head(alloc, 1, frames)?;
     let samples = frames.saturating_mul(2);
     let length = samples.saturating_add(head.len() as u64);
     Ok(ZeroShelf::new(String::from_str(alloc, "A.wav")?, head, length))
@@ -51,7 +39,7 @@ fn opened(alloc: Global, frames: u64) -> Result<(u8, Depth, u64), Fail> {
 
 /// How the head of this file begins and ends.
 fn has_head(alloc: Global, frames: u64, first: &[u8], last: &[u8]) -> Result<bool, Fail> {
-    let head = head_of(alloc, frames)?;
+    let head = head(alloc, 1, frames)?;
     Ok((head.len() == 690) & head.starts_with(first) & head.ends_with(last))
 }
 

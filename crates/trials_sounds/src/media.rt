@@ -7,24 +7,14 @@ use sourceindex::{Bound, bind};
 use std::alloc::Global;
 use std::process::Abort;
 use std::test::Fail;
+use trials_projects::lists::list;
 use wavwrite::{Bext, Depth, SoundInfo, fits};
 
-/// A list that plays a file.
-const LIST: &str = "<ADL>
-<SEQUENCE>
-(SEQ_SAMPLE_RATE) S48000
-(SEQ_FRAME_RATE) 25
-</SEQUENCE>
-<SOURCE_INDEX>
-(Index) 1 (F) \"URL:file://localhost/A.wav\" _ 00.00.00.00/0000 _
-</SOURCE_INDEX>
-<EVENT_LIST>
-(Entry) 1 (Cut) I 1 1 1 00.00.00.00/0000 01.00.00.00/0000 01.00.00.00/0010
-</EVENT_LIST>
-</ADL>
+/// An entry that plays a file.
+const ENTRY: &str = "(Entry) 1 (Cut) I 1 1 1 00.00.00.00/0000 01.00.00.00/0000 01.00.00.00/0010
 ";
 
-/// Its runs, of which the second has five frames from the third on.
+/// Runs of the file, of which the second has five frames from the third on.
 const RUNS: [Run; 2] = [
     Run {
         file: 0,
@@ -58,7 +48,8 @@ fn source(alloc: Global) -> Result<MemoryShelf, Fail> {
 
 /// What the list is bound to.
 fn bound_list(alloc: Global) -> Result<Bound, Fail> {
-    let project = read(alloc, LIST.as_bytes())?;
+    let text = list(alloc, ENTRY)?;
+    let project = read(alloc, text.as_bytes())?;
     let mut shelf = source(alloc)?;
     Ok(bind(alloc, &project, &mut shelf)?)
 }

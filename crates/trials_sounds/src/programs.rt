@@ -1,7 +1,8 @@
 // Programs of blocks, each made for its block and filled over that of another.
 ghost use Rattle.std.specs.Prelude.{◌≡◌, ◌+◌, ◌≤◌, length};
 
-use groups::{Group, Intervals, Piece, Shape};
+use crate::intervals::RAMP;
+use groups::{Group, Intervals, Piece};
 use renderplan::{Depth, Instruction, Plan, Program, Stretch};
 use sampletime::SampleTime;
 use std::alloc::Global;
@@ -12,11 +13,7 @@ const OVER_THE_END: Piece = Piece {
     start: 4094,
     length: 4,
     frame: 7,
-    file: 0,
-    first: 1,
-    dest: 1,
-    width: 1,
-    shape: Shape::Rise { offset: 0, den: 4 },
+    ..RAMP
 };
 
 /// Its samples of the first block.

@@ -3,51 +3,25 @@ ghost use Rattle.std.specs.Prelude.{◌≤◌};
 ghost use Rattle.sound_terms.specs.Groups.{IsPiece};
 
 use groups::{Group, Intervals, Piece, Shape};
-use shelf::{MemoryShelf, Shelf, ShelfFault, Watch};
+use shelf::{MemoryShelf, Watch};
 use silence::silent_of;
 use std::alloc::Global;
 use std::test::Fail;
+use trials_projects::recorded::Recorded;
 use wavread::open;
 
-/// A shelf that counts the bytes that are read.
-#[derive(Drop)]
-struct Counted {
-    shelf: MemoryShelf,
-    bytes: u64,
-}
-
-impl Shelf for Counted {
-    ghost stored = { λ it. ⟦<MemoryShelf as Shelf>⟧.stored it.shelf };
-
-    ghost honest = { λ it. ⟦<MemoryShelf as Shelf>⟧.honest it.shelf };
-
-    ghost failures = { λ it. ⟦<MemoryShelf as Shelf>⟧.failures it.shelf };
-
-    ghost failed_at = { λ it. ⟦<MemoryShelf as Shelf>⟧.failed_at it.shelf };
-
-    fn length(&mut self, name: &str) -> Result<u64, ShelfFault> {
-        self.shelf.length(name)
-    }
-
-    fn read_at(&mut self, name: &str, at: u64, buffer: &mut [u8]) -> Result<(), ShelfFault> {
-        self.bytes = self.bytes.saturating_add(buffer.len() as u64);
-        self.shelf.read_at(name, at, buffer)
-    }
-}
-
 /// A mono file of 16 bits with 10,000 frames, all of them zero but the one of this number.
-fn file(alloc: Global, sounding: usize) -> Result<Counted, Fail> {
+fn file(alloc: Global, sounding: usize) -> Result<Recorded, Fail> {
     let mut file = b"RIFF\x44\x4e\0\0WAVE\
         fmt \x10\0\0\0\x01\0\x01\0\x80\xbb\0\0\0\x77\x01\0\x02\0\x10\0data\x20\x4e\0\0"
         .to_vec(alloc)?;
+    let head = file.len() as u64;
     for frame in 0..10_000 {
         let sample: i16 = if frame == sounding { 100 } else { 0 };
         file.extend_from_slice(&sample.to_le_bytes())?;
     }
-    Ok(Counted {
-        shelf: MemoryShelf::new(alloc).with_file("A.wav", &file)?,
-        bytes: 0,
-    })
+    let shelf = MemoryShelf::new(alloc).with_file("A.wav", &file)?;
+    Ok(Recorded::new(shelf, head))
 }
 
 /// So many frames from this one on, at this time.
@@ -114,10 +88,9 @@ fn asked(
     let alloc = rt.alloc();
     let mut shelf = file(alloc, sounding)?;
     let sounds = [open(alloc, &mut shelf, "A.wav")?];
-    shelf.bytes = 0;
     let intervals = ten(alloc, apart)?;
     let silent = silent_of(alloc, &intervals, &sounds, &mut shelf, watch)?;
-    Ok((silent, shelf.bytes))
+    Ok((silent, shelf.bytes()))
 }
 
 /// Which frame sounds, how far apart the pieces are, whether they are silent, and how many bytes are read of them.

@@ -120,6 +120,7 @@ fn a_bench_goes_on_after_a_crash(rt: HostRuntime) -> Result<(), Fail> {
 }
 
 /// An output that is stopped.
+#[derive(Clone, Copy)]
 struct Stop {
     /// The calls before, which go well.
     before: &'static [Call],
@@ -152,6 +153,28 @@ const LAID_OUT: [Call; 3] = [
     Call::Zeros("A.wav", 5000),
 ];
 
+/// An append is stopped behind its first byte, and none is kept.
+const IN_APPEND: Stop = Stop {
+    before: &[],
+    at: 3,
+    part: 1,
+    behind: &APPENDED,
+    files: (Some(&[1, 2, 3]), None),
+    kept: 0,
+    left: (Some(&[1, 2, 0]), None),
+};
+
+/// The creation of a file is stopped once it is there, and is kept.
+const IN_CREATE: Stop = Stop {
+    before: &[],
+    at: 0,
+    part: 1,
+    behind: &[Call::Create("A.wav")],
+    files: (Some(&[]), None),
+    kept: 1,
+    left: (Some(&[]), None),
+};
+
 const STOPS: [Stop; 8] = [
     Stop {
         before: &[],
@@ -163,59 +186,30 @@ const STOPS: [Stop; 8] = [
         left: (Some(&[1, 0, 0]), None),
     },
     Stop {
-        before: &[],
-        at: 3,
         part: 0,
-        behind: &APPENDED,
         files: (Some(&[1, 2]), None),
-        kept: 0,
         left: (Some(&[1, 2]), None),
+        ..IN_APPEND
     },
+    IN_APPEND,
     Stop {
-        before: &[],
-        at: 3,
-        part: 1,
-        behind: &APPENDED,
-        files: (Some(&[1, 2, 3]), None),
-        kept: 0,
-        left: (Some(&[1, 2, 0]), None),
-    },
-    Stop {
-        before: &[],
-        at: 3,
         part: 9,
-        behind: &APPENDED,
         files: (Some(&[1, 2, 3, 4]), None),
-        kept: 0,
         left: (Some(&[1, 2, 0, 0]), None),
+        ..IN_APPEND
     },
     Stop {
-        before: &[],
-        at: 0,
         part: 0,
-        behind: &[Call::Create("A.wav")],
         files: (None, None),
-        kept: 1,
         left: (None, None),
+        ..IN_CREATE
     },
     Stop {
-        before: &[],
-        at: 0,
-        part: 1,
-        behind: &[Call::Create("A.wav")],
-        files: (Some(&[]), None),
         kept: 0,
         left: (None, None),
+        ..IN_CREATE
     },
-    Stop {
-        before: &[],
-        at: 0,
-        part: 1,
-        behind: &[Call::Create("A.wav")],
-        files: (Some(&[]), None),
-        kept: 1,
-        left: (Some(&[]), None),
-    },
+    IN_CREATE,
     Stop {
         before: &WORKED,
         at: 0,

@@ -1,0 +1,35 @@
+// Lists over the file `A.wav`.
+use std::alloc::{AllocError, Global};
+
+/// The file, which begins at midnight.
+const SOURCE: &str = "(Index) 1 (F) \"URL:file://localhost/A.wav\" _ 00.00.00.00/0000 _
+";
+
+/// An entry of the 12 frames of a stereo file, with both fades of four.
+pub const FADED: &str =
+    "(Entry) 1 (Cut) I 1 1~2 1~2 00.00.00.00/0000 00.00.00.00/0000 00.00.00.00/0012
+(Infade) 00.00.00.00/0004 LIN
+(Outfade) 00.00.00.00/0004 LIN
+";
+
+/// The list with these lines as its sources and its entries.
+pub fn list_of(alloc: Global, sources: &str, entries: &str) -> Result<String, AllocError> {
+    format!(in alloc;
+        "<ADL>
+<SEQUENCE>
+(SEQ_SAMPLE_RATE) S48000
+(SEQ_FRAME_RATE) 25
+</SEQUENCE>
+<SOURCE_INDEX>
+{sources}</SOURCE_INDEX>
+<EVENT_LIST>
+{entries}</EVENT_LIST>
+</ADL>
+"
+    )
+}
+
+/// The list with these entries over the file.
+pub fn list(alloc: Global, entries: &str) -> Result<String, AllocError> {
+    list_of(alloc, SOURCE, entries)
+}
