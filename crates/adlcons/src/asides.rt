@@ -15,20 +15,20 @@ const MOST_NAMES: usize = 1_048_576;
 
 /// What is told of a list over the folder of its media.
 #[derive(Clone, Copy)]
-pub struct FolderAsides<'a, R> {
-    rt: &'a R,
-    media: &'a str,
+pub struct FolderAsides<'r, 'm, R> {
+    rt: &'r R,
+    media: &'m str,
     manner: Manner,
 }
 
-impl<'a, R> FolderAsides<'a, R> {
+impl<'r, 'm, R> FolderAsides<'r, 'm, R> {
     /// What is told of a refusal over this folder, in this manner: all that is at fault, or a few faults.
-    pub fn new(rt: &'a R, media: &'a str, manner: Manner) -> Self {
+    pub fn new(rt: &'r R, media: &'m str, manner: Manner) -> Self {
         FolderAsides { rt, media, manner }
     }
 }
 
-impl<R: Files + AllocGlobal + Clone + Drop> FolderAsides<'_, R>
+impl<R: Files + AllocGlobal + Clone + Drop> FolderAsides<'_, '_, R>
 where
     R::File: FileExt,
 {
@@ -89,7 +89,7 @@ where
     }
 }
 
-impl<R: Files + AllocGlobal + Clone + Drop> Asides for FolderAsides<'_, R>
+impl<R: Files + AllocGlobal + Clone + Drop> Asides for FolderAsides<'_, '_, R>
 where
     R::File: FileExt,
 {

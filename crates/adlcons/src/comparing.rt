@@ -9,11 +9,12 @@ ghost use Rattle.adlcons.specs.Openings.{ComparesFolders, IsListUnread, IsOneUnr
 
 use crate::asides::FolderAsides;
 use crate::folders::{tell_all_further, tell_unlisted, unlisted_reason};
-use crate::media::{Manner, report_found};
+use crate::media::report_found;
 use crate::meter::{Progress, WorkMeter};
 use crate::reading::{ReadFault, read_list};
+use crate::session::Session;
 use crate::sources::ShownShelf;
-use answers::{MISTAKE, REFUSED, answer_compare};
+use answers::{AsidesOfTwo, BothLists, MISTAKE, REFUSED, Terminal, answer_compare};
 use commandline::{BothPlaces, Selected};
 use console::{Console, ListOfTwo, put_in_list, put_refusal};
 use explanations::NamedList;
@@ -43,13 +44,11 @@ where
 /// Compares these lists over these folders at what the words choose, and answers the status. What kept it from a list is
 /// printed.
 pub fn compare_folders<R, O: Console, E: Console, L: Progress>(
-    rt: &R,
+    session: &Session<'_, R, L>,
     places: BothPlaces<'_>,
     selected: Selected<'_>,
-    manner: Manner,
     out: &mut O,
     err: &mut E,
-    line: &L,
 ) -> u8
 where
     R: Files + Input + AllocGlobal + Clone + Drop,
@@ -63,7 +62,7 @@ where
         × NamesBadTime E.Console err.old err.new (selection_of (rate_of list) (selected_of selected.entry)) }
     ensures two { result ≡ 2 → out.new ≡ out.old }
 {
-    match try_compare(rt, places, selected, manner, out, err, line) {
+    match try_compare(session, places, selected, out, err) {
         Ok(status) => status,
         Err(unread) => keep_one_unread(unread, places, out, err),
     }
@@ -113,14 +112,12 @@ fn path_of<'a>(list: ListOfTwo, places: BothPlaces<'a>) -> &'a str
 }
 
 /// Compares these lists, where both can be read: the first one is read first.
-fn try_compare<'a, R, O: Console, E: Console, L: Progress>(
-    rt: &'a R,
-    places: BothPlaces<'a>,
+fn try_compare<R, O: Console, E: Console, L: Progress>(
+    session: &Session<'_, R, L>,
+    places: BothPlaces<'_>,
     selected: Selected<'_>,
-    manner: Manner,
     out: &mut O,
     err: &mut E,
-    line: &L,
 ) -> Result<u8, Unread>
 where
     R: Files + Input + AllocGlobal + Clone + Drop,
@@ -135,66 +132,72 @@ where
     ensures two { IfOk result (λ status. status ≡ 2 → out.new ≡ out.old) }
     ensures nothing { OnErr result (out.new ≡ out.old) }
 {
-    let mut first = open_one(
-        rt,
-        ListOfTwo::First,
-        places.list,
-        places.media,
-        manner,
-        line,
-    )?;
-    let mut second = open_one(
-        rt,
+    let first = open_one(session, ListOfTwo::First, places.list, places.media)?;
+    let second = open_one(
+        session,
         ListOfTwo::Second,
         places.other_list,
         places.other_media,
-        manner,
-        line,
     )?;
-    let (first, second) = (&mut first, &mut second);
-    let asides = FolderAsides::new(rt, places.media, manner);
-    let other_asides = FolderAsides::new(rt, places.other_media, manner);
+    let OpenedList {
+        text,
+        mut shelf,
+        unlisted,
+    } = first;
+    let OpenedList {
+        text: other_text,
+        shelf: mut other_shelf,
+        unlisted: other_unlisted,
+    } = second;
+    let (rt, manner) = (session.rt, session.manner);
+    let lists = BothLists {
+        first: &text,
+        second: &other_text,
+    };
+    let asides = AsidesOfTwo {
+        first: FolderAsides::new(rt, places.media, manner),
+        second: FolderAsides::new(rt, places.other_media, manner),
+    };
+    let mut terminal = Terminal {
+        out,
+        err,
+        meter: WorkMeter::new(session.line),
+        asides,
+    };
     let status = answer_compare(
         rt.alloc(),
         selected,
-        &first.text,
-        &second.text,
-        &mut first.shelf,
-        &mut second.shelf,
-        out,
-        err,
-        &mut WorkMeter::new(line),
-        &asides,
-        &other_asides,
+        lists,
+        &mut shelf,
+        &mut other_shelf,
+        &mut terminal,
     );
     if status == MISTAKE {
         return Ok(status);
     }
     if status == REFUSED && manner.tells_all {
-        report_further(rt, places, &first.text, &second.text, manner, err);
+        report_further(session, places, lists, err);
     }
-    report_found(first.shelf.sources(), manner, err);
-    report_found(second.shelf.sources(), manner, err);
-    tell_unlisted(places.media, first.unlisted, err);
-    tell_unlisted(places.other_media, second.unlisted, err);
+    report_found(shelf.sources(), manner, err);
+    report_found(other_shelf.sources(), manner, err);
+    tell_unlisted(places.media, unlisted, err);
+    tell_unlisted(places.other_media, other_unlisted, err);
     Ok(status)
 }
 
 /// Opens one of two lists over this folder.
 fn open_one<'a, R, L: Progress>(
-    rt: &R,
+    session: &Session<'a, R, L>,
     list: ListOfTwo,
     path: &str,
     media: &str,
-    manner: Manner,
-    line: &'a L,
 ) -> Result<OpenedList<'a, R, L>, Unread>
 where
     R: Files + Input + AllocGlobal + Clone + Drop,
     R::File: FileExt,
     ensures { IfOk result (λ opened. opened.shelf.folder ≡ folder_named media.now) }
 {
-    match open_list(rt, path, media, manner, line) {
+    match open_list(session, path, media) {
         Ok(opened) => Ok(opened),
         Err(fault) => Err(Unread { list, fault }),
     }
@@ -202,20 +205,18 @@ where
 
 /// Opens a list over this folder.
 pub fn open_list<'a, R, L: Progress>(
-    rt: &R,
+    session: &Session<'a, R, L>,
     path: &str,
     media: &str,
-    manner: Manner,
-    line: &'a L,
 ) -> Result<OpenedList<'a, R, L>, ReadFault>
 where
     R: Files + Input + AllocGlobal + Clone + Drop,
     R::File: FileExt,
     ensures { IfOk result (λ opened. opened.shelf.folder ≡ folder_named media.now) }
 {
-    let text = read_list(rt, path)?;
-    let shelf = ShownShelf::open(rt, media, manner, line)?;
-    let unlisted = unlisted_reason(rt, media);
+    let text = read_list(session.rt, path)?;
+    let shelf = ShownShelf::open(session, media)?;
+    let unlisted = unlisted_reason(session.rt, media);
     Ok(OpenedList {
         text,
         shelf,
@@ -224,19 +225,18 @@ where
 }
 
 /// Prints the further faults of the first list that has one.
-fn report_further<R, E: Console>(
-    rt: &R,
+fn report_further<R, E: Console, L: Progress>(
+    session: &Session<'_, R, L>,
     places: BothPlaces<'_>,
-    list: &[u8],
-    other: &[u8],
-    manner: Manner,
+    lists: BothLists<'_>,
     err: &mut E,
 )
 where
     R: Files + Input + AllocGlobal + Clone + Drop,
     R::File: FileExt,
 {
-    if !tell_all_further(rt, list, places.media, manner, err) {
-        tell_all_further(rt, other, places.other_media, manner, err);
+    let (rt, manner) = (session.rt, session.manner);
+    if !tell_all_further(rt, lists.first, places.media, manner, err) {
+        tell_all_further(rt, lists.second, places.other_media, manner, err);
     }
 }

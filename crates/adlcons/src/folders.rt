@@ -28,11 +28,12 @@ use crate::newer::{newer_sources, report_newer};
 use crate::output::{HeldFolder, Lock, hold_folder, require_ready_folder, require_unshared};
 use crate::reading::{ReadFault, read_list};
 use crate::room::report_room;
+use crate::session::Session;
 use crate::sources::ShownShelf;
 use crate::verifying::verify_in_folders;
 use answers::{
-    MISTAKE, REFUSED, answer_error, answer_request, answer_standard, can_be_timed, explain,
-    explain_notice, tell_further,
+    Command, Drawing, MISTAKE, REFUSED, Terminal, answer_error, answer_request, answer_standard,
+    can_be_timed, explain, explain_notice, tell_further,
 };
 use commandline::{MediaReport, Places, Request, parse};
 use console::{Console, Place, Refusal, put_refusal};
@@ -183,65 +184,66 @@ where
     let manner = Manner {
         tells_all: parsed.tells_all,
         searches: parsed.searches,
+        verifies: parsed.verifies,
     };
+    let session = &Session { rt, manner, line };
     match parsed.request {
         Request::Explain(number) => explain(number, out, err),
         Request::ExplainNotice(number) => explain_notice(number, out, err),
-        Request::Check(list, media) => check_folder(rt, list, media, manner, out, err, line),
-        Request::Report(list, media) => report_folder(rt, list, media, manner, out, err, line),
-        Request::Compare(places, selected) => {
-            compare_folders(rt, places, selected, manner, out, err, line)
+        Request::Check(list, media) => check_folder(session, list, media, out, err),
+        Request::Report(list, media) => report_folder(session, list, media, out, err),
+        Request::Compare(places, selected) => compare_folders(session, places, selected, out, err),
+        Request::Show(path, media, handle, drawn) => {
+            let drawing = Drawing {
+                path,
+                handle,
+                drawn,
+            };
+            show_folder(session, media, drawing, out, err)
         }
-        Request::Show(list, media, handle, drawn) => show_folder(
-            rt, list, media, handle, drawn, manner, out, err, line,
-        ),
         Request::Render(places, chosen) => {
             let request = Request::Render(places, chosen);
-            work_in_folders(rt, request, places, manner, out, err, line)
+            work_in_folders(session, request, places, out, err)
         }
         Request::Resume(places, chosen) => {
             let request = Request::Resume(places, chosen);
-            work_in_folders(rt, request, places, manner, out, err, line)
+            work_in_folders(session, request, places, out, err)
         }
         Request::Consolidate(places, handle, report) => {
-            let verifies = parsed.verifies;
-            consolidate_folders(rt, places, handle, report, verifies, manner, out, err, line)
+            consolidate_folders(session, places, handle, report, out, err)
         }
     }
 }
 
 /// Consolidates a list over these folders, and compares it with what was written where that is asked for.
 fn consolidate_folders<R, O: Console, E: Console, L: Progress>(
-    rt: &R,
+    session: &Session<'_, R, L>,
     places: Places<'_>,
     handle: u64,
     report: MediaReport,
-    verifies: bool,
-    manner: Manner,
     out: &mut O,
     err: &mut E,
-    line: &L,
 ) -> u8
 where
     R: Files + Input + AllocGlobal + Clone + Drop,
     R::File: FileExt + Lock,
-    ensures consolidated { verifies ≡ false
+    ensures consolidated { session.now.manner.verifies ≡ false
         → IsKeptOut O.Console places.entry.list.now places.entry.out.now out.old out.new result
         ⊎ WorksInFolders overwrite.Never
         (λ list. IsConsolidation ⟦<ShownShelf<'static, R, L> as devices::Shelf>⟧ ⟦<FolderBench<R> as devices::Bench>⟧ standard_groups
         list handle (asking report list))
         written_lines O.Console places.entry.media.now places.entry.out.now out.old out.new result }
-    ensures verified { verifies ≡ true
+    ensures verified { session.now.manner.verifies ≡ true
         → IsKeptOut O.Console places.entry.list.now places.entry.out.now out.old out.new result
         ⊎ VerifiesInFolders ⟦<ShownShelf<'static, R, L> as devices::Shelf>⟧ ⟦<FolderBench<R> as devices::Bench>⟧ O.Console handle
         report places.entry.media.now places.entry.out.now out.old out.new result }
     ensures statuses { result ≤ 1 }
 {
-    if verifies {
-        return verify_in_folders(rt, places, handle, report, manner, out, err, line);
+    if session.manner.verifies {
+        return verify_in_folders(session, places, handle, report, out, err);
     }
     let request = Request::Consolidate(places, handle, report);
-    work_in_folders(rt, request, places, manner, out, err, line)
+    work_in_folders(session, request, places, out, err)
 }
 
 /// The status of a command over this list that writes to this folder and doesn't come to its stores. Why is printed,
@@ -304,13 +306,11 @@ fn explanation_of(fault: OpenFault, number: u8, inside: Option<&str>) -> Explana
 
 /// Checks the list of this path over this folder, and answers the status.
 fn check_folder<R, O: Console, E: Console, L: Progress>(
-    rt: &R,
+    session: &Session<'_, R, L>,
     path: &str,
     media: &str,
-    manner: Manner,
     out: &mut O,
     err: &mut E,
-    line: &L,
 ) -> u8
 where
     R: Files + Input + AllocGlobal + Clone + Drop,
@@ -320,11 +320,11 @@ where
         × ChecksFolder ⟦<ShownShelf<'static, R, L> as devices::Shelf>⟧ O.Console text media.now out.old out.new result }
     ensures statuses { result ≤ 1 }
 {
-    let list = match read_list(rt, path) {
+    let list = match read_list(session.rt, path) {
         Ok(list) => list,
         Err(fault) => return keep_unread(fault, path, out, err),
     };
-    match try_check(rt, path, &list, media, manner, out, err, line) {
+    match try_check(session, path, &list, media, out, err) {
         Ok(status) => status,
         Err(fault) => keep_unread(fault, path, out, err),
     }
@@ -332,14 +332,12 @@ where
 
 /// Checks this list over this folder, where it can be opened.
 fn try_check<R, O: Console, E: Console, L: Progress>(
-    rt: &R,
+    session: &Session<'_, R, L>,
     path: &str,
     list: &[u8],
     media: &str,
-    manner: Manner,
     out: &mut O,
     err: &mut E,
-    line: &L,
 ) -> Result<u8, ReadFault>
 where
     R: Files + Input + AllocGlobal + Clone + Drop,
@@ -350,22 +348,28 @@ where
     ensures statuses { IfOk result (λ status. status ≤ 1) }
     ensures nothing { OnErr result (out.new ≡ out.old) }
 {
-    let mut shelf = ShownShelf::open(rt, media, manner, line)?;
+    let (rt, manner) = (session.rt, session.manner);
+    let mut shelf = ShownShelf::open(session, media)?;
     let mut bench = MemoryBench::new(rt.alloc());
     let unlisted = unlisted_reason(rt, media);
-    let asides = FolderAsides::new(rt, media, manner);
-    let status = answer_request(
-        rt.alloc(),
-        Request::Check(path, media),
-        list,
-        Vec::new(rt.alloc()),
-        JobLength::Longer,
-        &mut shelf,
-        &mut bench,
+    let command = Command {
+        request: Request::Check(path, media),
+        passes: Vec::new(rt.alloc()),
+        jobs: JobLength::Longer,
+    };
+    let mut terminal = Terminal {
         out,
         err,
-        &mut WorkMeter::new(line),
-        &asides,
+        meter: WorkMeter::new(session.line),
+        asides: FolderAsides::new(rt, media, manner),
+    };
+    let status = answer_request(
+        rt.alloc(),
+        command,
+        list,
+        &mut shelf,
+        &mut bench,
+        &mut terminal,
     );
     report_found(shelf.sources(), manner, err);
     tell_unlisted(media, unlisted, err);
@@ -374,13 +378,11 @@ where
 
 /// Answers a request for a command that writes, over these places, with a status.
 fn work_in_folders<R, O: Console, E: Console, L: Progress>(
-    rt: &R,
+    session: &Session<'_, R, L>,
     request: Request<'_>,
     places: Places<'_>,
-    manner: Manner,
     out: &mut O,
     err: &mut E,
-    line: &L,
 ) -> u8
 where
     R: Files + Input + AllocGlobal + Clone + Drop,
@@ -409,10 +411,10 @@ where
         × MayBeMistaken E.Console err.old err.new (rate_of list) (asked_of request.entry) }
     ensures two { result ≡ 2 → out.new ≡ out.old }
 {
-    match try_places(rt, request, places, manner, out, err, line) {
+    match try_places(session, request, places, out, err) {
         Ok(status) => status,
         Err(fault) => {
-            let inside = name_inside(rt, fault, places.out);
+            let inside = name_inside(session.rt, fault, places.out);
             let inside = inside.as_ref().map(|name| name.as_str());
             keep_out(fault, places.list, places.out, inside, out, err)
         }
@@ -423,13 +425,11 @@ where
 /// at which another command is at work, or that isn't an empty folder, or where a rendering is gone on with, that is the
 /// folder of the media or has a file that is given too.
 fn try_places<R, O: Console, E: Console, L: Progress>(
-    rt: &R,
+    session: &Session<'_, R, L>,
     request: Request<'_>,
     places: Places<'_>,
-    manner: Manner,
     out: &mut O,
     err: &mut E,
-    line: &L,
 ) -> Result<u8, OpenFault>
 where
     R: Files + Input + AllocGlobal + Clone + Drop,
@@ -457,6 +457,7 @@ where
     ensures two { IfOk result (λ status. status ≡ 2 → out.new ≡ out.old) }
     ensures nothing { OnErr result (out.new ≡ out.old) }
 {
+    let (rt, manner) = (session.rt, session.manner);
     let text = read_list(rt, places.list)?;
     let list = text.as_slice();
     let overwrite = overwrite_for(&request);
@@ -465,19 +466,21 @@ where
     let changed = changed_position(rt, request, list);
     let newer = newer_sources(rt, request, list);
     let mut bench = FolderBench::new(rt.alloc(), rt.clone()?, places.out, overwrite)?;
-    let mut shelf = ShownShelf::open(rt, places.media, manner, line)?;
+    let mut shelf = ShownShelf::open(session, places.media)?;
     let unlisted = unlisted_reason(rt, places.media);
-    let asides = FolderAsides::new(rt, places.media, manner);
+    let mut terminal = Terminal {
+        out,
+        err,
+        meter: WorkMeter::of_request(session.line, request),
+        asides: FolderAsides::new(rt, places.media, manner),
+    };
     let answered = answer_standard(
         rt.alloc(),
         request,
         list,
         &mut shelf,
         &mut bench,
-        out,
-        err,
-        &mut WorkMeter::of_request(line, request),
-        &asides,
+        &mut terminal,
     );
     let Ok(status) = answered else {
         return Err(OpenFault::Passes);
@@ -488,7 +491,7 @@ where
     if status == REFUSED && manner.tells_all {
         tell_all_further(rt, list, places.media, manner, err);
     }
-    report_room(rt, request, list, manner, status, &bench, err);
+    report_room(session, request, list, status, &bench, err);
     if let (0, Some(position)) = (status, changed) {
         report_change(places.out, position, err);
     }
@@ -576,15 +579,7 @@ where
     };
     if let Err(fault) = check_project(rt.alloc(), list, &mut shelf) {
         let asides = FolderAsides::new(rt, media, manner);
-        tell_further(
-            rt.alloc(),
-            list,
-            &mut shelf,
-            &fault,
-            usize::MAX,
-            &asides,
-            err,
-        );
+        tell_further(rt.alloc(), list, &mut shelf, &fault, &asides, err);
         return true;
     }
     false

@@ -8,13 +8,15 @@ ghost use Rattle.adlcons.specs.Openings.{IsReportUnread, ReportsFolder};
 
 use crate::asides::FolderAsides;
 use crate::folders::{keep_unread, tell_all_further, tell_unlisted, unlisted_reason};
-use crate::media::{Manner, report_found};
-use crate::meter::Progress;
+use crate::media::report_found;
+use crate::meter::{Progress, WorkMeter};
 use crate::reading::{ReadFault, read_list};
+use crate::session::Session;
 use crate::sources::ShownShelf;
-use answers::{MISTAKE, REFUSED, answer_picture, answer_report, explained_unread};
+use answers::{
+    Drawing, MISTAKE, REFUSED, Terminal, answer_picture, answer_report, explained_unread,
+};
 use checkreport::{put_no_memory, put_unread};
-use commandline::Drawn;
 use console::{Console, Place};
 use std::alloc::Global;
 use std::fs::Files;
@@ -23,13 +25,11 @@ use std::os::unix::fs::FileExt;
 /// Prints the report of the list of this path over this folder, and answers the status. All that is at fault may stand on
 /// `err`.
 pub fn report_folder<R, O: Console, E: Console, L: Progress>(
-    rt: &R,
+    session: &Session<'_, R, L>,
     path: &str,
     media: &str,
-    manner: Manner,
     out: &mut O,
     err: &mut E,
-    line: &L,
 ) -> u8
 where
     R: Files + Input + AllocGlobal + Clone + Drop,
@@ -39,13 +39,13 @@ where
         × ReportsFolder ⟦<ShownShelf<'static, R, L> as devices::Shelf>⟧ O.Console text media.now out.old out.new result }
     ensures statuses { result ≤ 1 }
 {
-    let list = match read_list(rt, path) {
+    let list = match read_list(session.rt, path) {
         Ok(list) => list,
-        Err(fault) => return report_unread(rt.alloc(), fault, path, out, err),
+        Err(fault) => return report_unread(session.rt.alloc(), fault, path, out, err),
     };
-    match try_report(rt, &list, media, manner, out, err, line) {
+    match try_report(session, &list, media, out, err) {
         Ok(status) => status,
-        Err(fault) => report_unread(rt.alloc(), fault, path, out, err),
+        Err(fault) => report_unread(session.rt.alloc(), fault, path, out, err),
     }
 }
 
@@ -76,13 +76,11 @@ fn report_unread<O: Console, E: Console>(
 
 /// Prints the report of this list where the folder can be opened.
 fn try_report<R, O: Console, E: Console, L: Progress>(
-    rt: &R,
+    session: &Session<'_, R, L>,
     list: &[u8],
     media: &str,
-    manner: Manner,
     out: &mut O,
     err: &mut E,
-    line: &L,
 ) -> Result<u8, ReadFault>
 where
     R: Files + Input + AllocGlobal + Clone + Drop,
@@ -93,10 +91,16 @@ where
     ensures statuses { IfOk result (λ status. status ≤ 1) }
     ensures nothing { OnErr result (out.new ≡ out.old) }
 {
-    let mut shelf = ShownShelf::open(rt, media, manner, line)?;
+    let (rt, manner) = (session.rt, session.manner);
+    let mut shelf = ShownShelf::open(session, media)?;
     let unlisted = unlisted_reason(rt, media);
-    let asides = FolderAsides::new(rt, media, manner);
-    let status = answer_report(rt.alloc(), list, &mut shelf, out, err, &asides);
+    let mut terminal = Terminal {
+        out,
+        err,
+        meter: WorkMeter::new(session.line),
+        asides: FolderAsides::new(rt, media, manner),
+    };
+    let status = answer_report(rt.alloc(), list, &mut shelf, &mut terminal);
     if status == REFUSED && manner.tells_all {
         tell_all_further(rt, list, media, manner, err);
     }
@@ -105,69 +109,56 @@ where
     Ok(status)
 }
 
-/// Prints the picture of what the words choose of this list over this folder, with handles of so many frames, and answers
-/// the status. All that is at fault may stand on `err`.
+/// Prints this picture of a list over this folder, and answers the status. All that is at fault may stand on `err`.
 pub fn show_folder<R, O: Console, E: Console, L: Progress>(
-    rt: &R,
-    list: &str,
+    session: &Session<'_, R, L>,
     media: &str,
-    handle: u64,
-    drawn: Drawn<'_>,
-    manner: Manner,
+    drawing: Drawing<'_>,
     out: &mut O,
     err: &mut E,
-    line: &L,
 ) -> u8
 where
     R: Files + Input + AllocGlobal + Clone + Drop,
     R::File: FileExt,
     ensures statuses { result ≤ 2 }
     ensures mistake { result ≡ 2 → (list : List ℕ)
-        × NamesBadTime E.Console err.old err.new (part_of (rate_of list) (drawn_of drawn.entry)) }
+        × NamesBadTime E.Console err.old err.new (part_of (rate_of list) (drawn_of drawing.entry.drawn)) }
     ensures two { result ≡ 2 → out.new ≡ out.old }
 {
-    match try_show(rt, list, media, handle, drawn, manner, out, err, line) {
+    match try_show(session, media, drawing, out, err) {
         Ok(status) => status,
-        Err(fault) => keep_unread(fault, list, out, err),
+        Err(fault) => keep_unread(fault, drawing.path, out, err),
     }
 }
 
 /// Prints this picture where the list and the folder can be opened.
 fn try_show<R, O: Console, E: Console, L: Progress>(
-    rt: &R,
-    list: &str,
+    session: &Session<'_, R, L>,
     media: &str,
-    handle: u64,
-    drawn: Drawn<'_>,
-    manner: Manner,
+    drawing: Drawing<'_>,
     out: &mut O,
     err: &mut E,
-    line: &L,
 ) -> Result<u8, ReadFault>
 where
     R: Files + Input + AllocGlobal + Clone + Drop,
     R::File: FileExt,
     ensures statuses { IfOk result (λ status. status ≤ 2) }
     ensures mistake { IfOk result (λ status. status ≡ 2 → (list : List ℕ)
-        × NamesBadTime E.Console err.old err.new (part_of (rate_of list) (drawn_of drawn.entry))) }
+        × NamesBadTime E.Console err.old err.new (part_of (rate_of list) (drawn_of drawing.entry.drawn))) }
     ensures two { IfOk result (λ status. status ≡ 2 → out.new ≡ out.old) }
     ensures nothing { OnErr result (out.new ≡ out.old) }
 {
-    let text = read_list(rt, list)?;
-    let mut shelf = ShownShelf::open(rt, media, manner, line)?;
+    let (rt, manner) = (session.rt, session.manner);
+    let text = read_list(rt, drawing.path)?;
+    let mut shelf = ShownShelf::open(session, media)?;
     let unlisted = unlisted_reason(rt, media);
-    let asides = FolderAsides::new(rt, media, manner);
-    let status = answer_picture(
-        rt.alloc(),
-        list,
-        &text,
-        handle,
-        drawn,
-        &mut shelf,
+    let mut terminal = Terminal {
         out,
         err,
-        &asides,
-    );
+        meter: WorkMeter::new(session.line),
+        asides: FolderAsides::new(rt, media, manner),
+    };
+    let status = answer_picture(rt.alloc(), &text, drawing, &mut shelf, &mut terminal);
     if status == MISTAKE {
         return Ok(status);
     }

@@ -14,6 +14,7 @@ mod newer;
 mod output;
 mod reading;
 mod room;
+mod session;
 mod sources;
 mod stored;
 mod verifying;

@@ -12,12 +12,13 @@ use std::os::unix::fs::FileExt;
 /// How many media from folders below are reported where not all are asked for.
 const FEW: usize = 20;
 
-/// What the words ask for beside the request: whether standard error lists all that is at fault in a refused list, and
-/// whether media are looked for in the folders below.
+/// What the words ask for beside the request: whether standard error lists all that is at fault in a refused list, whether
+/// media are looked for in the folders below, and whether a consolidation is compared with what it was made from.
 #[derive(Clone, Copy, Debug)]
 pub struct Manner {
     pub tells_all: bool,
     pub searches: bool,
+    pub verifies: bool,
 }
 
 /// The sources of this folder.

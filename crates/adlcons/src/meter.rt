@@ -127,29 +127,29 @@ impl<C: Clock, O: Console + Drop> Progress for ProgressLine<'_, C, O> {
 #[derive(Drop)]
 pub struct WorkMeter<'a, L: Progress> {
     line: &'a L,
-    /// What stands behind the frames.
-    how: &'static str,
+    can_resume: bool,
 }
 
 impl<'a, L: Progress> WorkMeter<'a, L> {
     /// Of a work that can't be resumed.
     pub fn new(line: &'a L) -> Self {
-        WorkMeter { line, how: "" }
+        WorkMeter {
+            line,
+            can_resume: false,
+        }
     }
 
     /// Of the work of a request.
     pub fn of_request(line: &'a L, request: Request<'_>) -> Self {
-        let how = match request {
-            Request::Render(_, _) | Request::Resume(_, _) => STOPPED,
-            _ => "",
-        };
-        WorkMeter { line, how }
+        let can_resume = matches!(request, Request::Render(_, _) | Request::Resume(_, _));
+        WorkMeter { line, can_resume }
     }
 }
 
 impl<L: Progress> Watch for WorkMeter<'_, L> {
     fn reached(&mut self, done: u64, whole: u64) {
-        self.line.reached(done, whole, self.how);
+        let how = if self.can_resume { STOPPED } else { "" };
+        self.line.reached(done, whole, how);
     }
 
     fn looked(&mut self, done: u64, whole: u64) {

@@ -1,5 +1,7 @@
 // How many bytes an output takes, said where its disk is full.
 use crate::media::{Manner, open_media};
+use crate::meter::Progress;
+use crate::session::Session;
 use answers::{REFUSED, media_size, rendering_size};
 use commandline::{Chosen, Request};
 use console::Console;
@@ -11,11 +13,10 @@ use std::io::ErrorKind;
 use std::os::unix::fs::FileExt;
 
 /// Reports how many bytes the output of this request takes, where it was refused since its disk is full.
-pub fn report_room<R, E: Console>(
-    rt: &R,
+pub fn report_room<R, E: Console, L: Progress>(
+    session: &Session<'_, R, L>,
     request: Request<'_>,
     list: &[u8],
-    manner: Manner,
     status: u8,
     bench: &FolderBench<R>,
     err: &mut E,
@@ -29,13 +30,14 @@ where
     }
     match request {
         Request::Render(_, chosen) | Request::Resume(_, chosen) => {
-            if let Some(size) = size_of_rendering(rt.alloc(), list, chosen) {
+            if let Some(size) = size_of_rendering(session.rt.alloc(), list, chosen) {
                 err.print_line(format_args!(
                     "render.wav and render.marks take {size} bytes in all"
                 ));
             }
         }
         Request::Consolidate(places, handle, _) => {
+            let (rt, manner) = (session.rt, session.manner);
             if let Some(size) = size_of_media(rt, places.media, list, manner, handle) {
                 err.print_line(format_args!("the media take at most {size} bytes in all"));
             }

@@ -2,8 +2,9 @@
 ghost use Rattle.std.specs.Prelude.{◌≡◌, false, None, IfOk, ⊤};
 ghost use Rattle.shelf.specs.Folder.{folder_named};
 
-use crate::media::{Manner, open_media};
+use crate::media::open_media;
 use crate::meter::Progress;
+use crate::session::Session;
 use devices::{Shelf, ShelfFault};
 use shelf::{FolderShelf, Reason, Reasons};
 use std::alloc::{AllocError, Global};
@@ -50,15 +51,15 @@ impl<'a, R: Files + AllocGlobal + Clone + Drop, L: Progress> ShownShelf<'a, R, L
 where
     R::File: FileExt,
 {
-    /// The sources of this folder, shown on this line.
-    pub fn open(rt: &R, media: &str, manner: Manner, line: &'a L) -> Result<Self, AllocError>
+    /// The sources of this folder, shown on the line of the session.
+    pub fn open(session: &Session<'a, R, L>, media: &str) -> Result<Self, AllocError>
         ensures folder { IfOk result (λ shelf. shelf.folder ≡ folder_named media.now) }
         ensures failures { IfOk result (λ shelf. shelf.failures ≡ 0) }
     {
         Ok(ShownShelf {
-            shelf: open_media(rt, media, manner)?,
-            line,
-            alloc: rt.alloc(),
+            shelf: open_media(session.rt, media, session.manner)?,
+            line: session.line,
+            alloc: session.rt.alloc(),
             asked: None,
             position: 0,
         })

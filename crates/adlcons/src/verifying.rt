@@ -16,8 +16,12 @@ use crate::meter::{Progress, WorkMeter};
 use crate::output::Lock;
 use crate::reading::{ReadFault, read_list};
 use crate::room::report_room;
+use crate::session::Session;
 use crate::sources::ShownShelf;
-use answers::{HeldLines, REFUSED, answer_standard, answer_verified, put_lines};
+use answers::{
+    AsidesOfTwo, BothLists, HeldLines, REFUSED, Terminal, answer_standard, answer_verified,
+    put_lines,
+};
 use commandline::{MediaReport, Places, Request};
 use console::{Console, ListOfTwo};
 use consolidate::LIST;
@@ -29,21 +33,29 @@ use std::os::unix::fs::FileExt;
 const PLAIN: Manner = Manner {
     tells_all: false,
     searches: false,
+    verifies: false,
 };
+
+/// A consolidation between these places: what was answered, over which list, and the lines that are held of it.
+#[derive(Clone, Copy)]
+struct Consolidated<'a> {
+    places: Places<'a>,
+    answer: u8,
+    list: &'a [u8],
+    lines: &'a [u8],
+}
 
 /// Consolidates a list over these folders and compares it with what was written, which is opened as any project is. The
 /// line of the consolidation is printed where both sound the same, and else where they differ first, or why they can't
 /// be compared. A refusal of the consolidation is printed as ever. Where no memory remains for its lines nothing is
 /// compared.
 pub fn verify_in_folders<R, O: Console, E: Console, L: Progress>(
-    rt: &R,
+    session: &Session<'_, R, L>,
     places: Places<'_>,
     handle: u64,
     report: MediaReport,
-    manner: Manner,
     out: &mut O,
     err: &mut E,
-    line: &L,
 ) -> u8
 where
     R: Files + Input + AllocGlobal + Clone + Drop,
@@ -53,10 +65,10 @@ where
         report places.entry.media.now places.entry.out.now out.old out.new result }
     ensures statuses { result ≤ 1 }
 {
-    match try_verified(rt, places, handle, report, manner, out, err, line) {
+    match try_verified(session, places, handle, report, out, err) {
         Ok(status) => status,
         Err(fault) => {
-            let inside = name_inside(rt, fault, places.out);
+            let inside = name_inside(session.rt, fault, places.out);
             let inside = inside.as_ref().map(|name| name.as_str());
             keep_out(fault, places.list, places.out, inside, out, err)
         }
@@ -65,14 +77,12 @@ where
 
 /// Does so where the places can be opened, and memory remains for the lines.
 fn try_verified<R, O: Console, E: Console, L: Progress>(
-    rt: &R,
+    session: &Session<'_, R, L>,
     places: Places<'_>,
     handle: u64,
     report: MediaReport,
-    manner: Manner,
     out: &mut O,
     err: &mut E,
-    line: &L,
 ) -> Result<u8, OpenFault>
 where
     R: Files + Input + AllocGlobal + Clone + Drop,
@@ -83,26 +93,29 @@ where
     ensures statuses { IfOk result (λ status. status ≤ 1) }
     ensures nothing { OnErr result (out.new ≡ out.old) }
 {
+    let (rt, manner) = (session.rt, session.manner);
     let text = read_list(rt, places.list)?;
     let list = text.as_slice();
     let lock = ready_output(rt, places, list, Overwrite::Never, &[], err)?;
     lock.tell_unlocked(places.out, err);
     let mut bench = FolderBench::new(rt.alloc(), rt.clone()?, places.out, Overwrite::Never)?;
-    let mut shelf = ShownShelf::open(rt, places.media, manner, line)?;
+    let mut shelf = ShownShelf::open(session, places.media)?;
     let unlisted = unlisted_reason(rt, places.media);
-    let asides = FolderAsides::new(rt, places.media, manner);
     let mut lines = HeldLines::new(rt.alloc());
     let request = Request::Consolidate(places, handle, report);
+    let mut terminal = Terminal {
+        out: &mut lines,
+        err,
+        meter: WorkMeter::new(session.line),
+        asides: FolderAsides::new(rt, places.media, manner),
+    };
     let answered = answer_standard(
         rt.alloc(),
         request,
         list,
         &mut shelf,
         &mut bench,
-        &mut lines,
-        err,
-        &mut WorkMeter::new(line),
-        &asides,
+        &mut terminal,
     );
     let Ok(answer) = answered else {
         return Err(OpenFault::Passes);
@@ -110,10 +123,14 @@ where
     let Some(held) = lines.text() else {
         return Err(OpenFault::Memory);
     };
-    let status = put_answer(
-        rt, places, answer, list, held, &mut shelf, manner, out, err, line,
-    );
-    report_room(rt, request, list, manner, answer, &bench, err);
+    let consolidated = Consolidated {
+        places,
+        answer,
+        list,
+        lines: held,
+    };
+    let status = put_answer(session, consolidated, &mut shelf, out, err);
+    report_room(session, request, list, answer, &bench, err);
     report_found(shelf.sources(), manner, err);
     tell_unlisted(places.media, unlisted, err);
     Ok(status)
@@ -122,86 +139,91 @@ where
 /// Prints the lines of a consolidation that was refused; compares a list that was consolidated with the one that was
 /// written for it into the output, and prints what came of it.
 fn put_answer<R, O: Console, E: Console, L: Progress>(
-    rt: &R,
-    places: Places<'_>,
-    answer: u8,
-    list: &[u8],
-    lines: &[u8],
+    session: &Session<'_, R, L>,
+    consolidated: Consolidated<'_>,
     shelf: &mut ShownShelf<'_, R, L>,
-    manner: Manner,
     out: &mut O,
     err: &mut E,
-    line: &L,
 ) -> u8
 where
     R: Files + Input + AllocGlobal + Clone + Drop,
     R::File: FileExt,
-    ensures refused { answer ≡ 1 → (result ≡ 1) × Prints O.contents O.failures out.old out.new lines.now }
-    ensures done { answer ≢ 1
+    ensures refused { consolidated.entry.answer ≡ 1
+        → (result ≡ 1) × Prints O.contents O.failures out.old out.new consolidated.entry.lines.now }
+    ensures done { consolidated.entry.answer ≢ 1
         → IsListUnread O.Console Second (codes "consolidated.adl") out.old out.new result
-        ⊎ ComparesWritten ⟦<ShownShelf<'static, R, L> as devices::Shelf>⟧ O.Console list.now lines.now places.entry.out.now
+        ⊎ ComparesWritten ⟦<ShownShelf<'static, R, L> as devices::Shelf>⟧ O.Console
+        consolidated.entry.list.now consolidated.entry.lines.now consolidated.entry.places.out.now
         shelf.old out.old out.new result }
     ensures statuses { result ≤ 1 }
 {
-    if answer == REFUSED {
+    let places = consolidated.places;
+    if consolidated.answer == REFUSED {
+        let manner = session.manner;
         if manner.tells_all {
-            tell_all_further(rt, list, places.media, manner, err);
+            tell_all_further(session.rt, consolidated.list, places.media, manner, err);
         }
-        put_lines(lines, out);
+        put_lines(consolidated.lines, out);
         return REFUSED;
     }
-    match open_written(rt, places.out, line) {
-        Ok(written) => put_verified(
-            rt, places, list, lines, shelf, written, manner, out, err, line,
-        ),
+    match open_written(session, places.out) {
+        Ok(written) => put_verified(session, consolidated, shelf, written, out, err),
         Err(fault) => keep_list_unread(ListOfTwo::Second, fault, LIST, out, err),
     }
 }
 
 /// Compares a list with the one that was written for it, opened over the output, and prints what came of it.
-fn put_verified<'a, R, O: Console, E: Console, L: Progress>(
-    rt: &'a R,
-    places: Places<'a>,
-    list: &[u8],
-    lines: &[u8],
+fn put_verified<R, O: Console, E: Console, L: Progress>(
+    session: &Session<'_, R, L>,
+    consolidated: Consolidated<'_>,
     shelf: &mut ShownShelf<'_, R, L>,
-    mut written: OpenedList<'_, R, L>,
-    manner: Manner,
+    written: OpenedList<'_, R, L>,
     out: &mut O,
     err: &mut E,
-    line: &L,
 ) -> u8
 where
     R: Files + Input + AllocGlobal + Clone + Drop,
     R::File: FileExt,
-    requires { written.shelf.folder ≡ folder_named places.out.now }
-    ensures compared { ComparesWritten ⟦<ShownShelf<'static, R, L> as devices::Shelf>⟧ O.Console list.now lines.now
-        places.entry.out.now shelf.old out.old out.new result }
+    requires { written.shelf.folder ≡ folder_named consolidated.places.out.now }
+    ensures compared { ComparesWritten ⟦<ShownShelf<'static, R, L> as devices::Shelf>⟧ O.Console
+        consolidated.entry.list.now consolidated.entry.lines.now consolidated.entry.places.out.now
+        shelf.old out.old out.new result }
     ensures statuses { result ≤ 1 }
 {
-    let written = &mut written;
-    let asides = FolderAsides::new(rt, places.media, manner);
-    let written_asides = FolderAsides::new(rt, places.out, PLAIN);
-    answer_verified(
-        rt.alloc(),
-        list,
-        &written.text,
-        lines,
-        shelf,
-        &mut written.shelf,
+    let (rt, places) = (session.rt, consolidated.places);
+    let OpenedList {
+        text,
+        shelf: mut written_shelf,
+        ..
+    } = written;
+    let lists = BothLists {
+        first: consolidated.list,
+        second: &text,
+    };
+    let asides = AsidesOfTwo {
+        first: FolderAsides::new(rt, places.media, session.manner),
+        second: FolderAsides::new(rt, places.out, PLAIN),
+    };
+    let mut terminal = Terminal {
         out,
         err,
-        &mut WorkMeter::new(line),
-        &asides,
-        &written_asides,
+        meter: WorkMeter::new(session.line),
+        asides,
+    };
+    answer_verified(
+        rt.alloc(),
+        lists,
+        consolidated.lines,
+        shelf,
+        &mut written_shelf,
+        &mut terminal,
     )
 }
 
 /// The list that was written into this folder, over the files of the folder.
 fn open_written<'a, R, L: Progress>(
-    rt: &R,
+    session: &Session<'a, R, L>,
     folder: &str,
-    line: &'a L,
 ) -> Result<OpenedList<'a, R, L>, ReadFault>
 where
     R: Files + Input + AllocGlobal + Clone + Drop,
@@ -209,6 +231,11 @@ where
     ensures { IfOk result (λ opened. opened.shelf.folder ≡ folder_named folder.now) }
 {
     let parent = listed(folder);
-    let path = format!(in rt.alloc(); "{parent}/{LIST}")?;
-    open_list(rt, &path, folder, PLAIN, line)
+    let plain = Session {
+        rt: session.rt,
+        manner: PLAIN,
+        line: session.line,
+    };
+    let path = format!(in plain.rt.alloc(); "{parent}/{LIST}")?;
+    open_list(&plain, &path, folder)
 }

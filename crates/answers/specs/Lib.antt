@@ -2,4 +2,5 @@ pub mod Answers
 pub mod BadTime
 pub mod Mistaken
 pub mod MistakenLaws
+pub mod Terminals
 pub mod Times

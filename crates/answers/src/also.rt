@@ -12,14 +12,13 @@ use explanations::{FurtherExplanation, ListLines, Look};
 use opening::further_faults;
 use std::alloc::Global;
 
-/// Prints the further faults of a list that is refused by this first one, so many at most, and how many more there are;
-/// of lines, whether there are more. Nothing is printed where they can't be found.
+/// Prints the further faults of a list that is refused by this first one, as many at most as `asides` says, and how
+/// many more there are; of lines, whether there are more. Nothing is printed where they can't be found.
 pub fn tell_further<S: Shelf, E: Console, A: Asides>(
     alloc: Global,
     list: &[u8],
     shelf: &mut S,
     first: &Fault,
-    most: usize,
     asides: &A,
     err: &mut E,
 )
@@ -28,6 +27,7 @@ pub fn tell_further<S: Shelf, E: Console, A: Asides>(
     let Fault::Project(first) = first else {
         return;
     };
+    let most = asides.most();
     if let opening::Fault::List(first) = first {
         tell_further_lines(alloc, list, *first, most, err);
         return;

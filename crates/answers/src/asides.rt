@@ -4,7 +4,7 @@ use shelf::{MemoryShelf, Shelf};
 use std::alloc::Global;
 
 /// What is told beside a refusal.
-pub trait Asides {
+pub trait Asides: Drop {
     /// The sources as they are looked at once more.
     type Sources: Shelf + Drop;
 
@@ -23,6 +23,13 @@ pub trait Asides {
 
 /// How many further faults are told where not all are asked for.
 pub const FEW_FAULTS: usize = 20;
+
+/// What is told beside the refusals of two lists.
+#[derive(Drop)]
+pub struct AsidesOfTwo<A: Asides, B: Asides> {
+    pub first: A,
+    pub second: B,
+}
 
 /// Nothing stands beside a refusal but further faults, few or all.
 #[derive(Clone, Copy, Debug, PartialEq, Eq)]

@@ -2,11 +2,14 @@
 ghost use Rattle.std.specs.Prelude.{◌≤◌, IsTrue};
 ghost use Rattle.checkreport.specs.Reported.{IsReported};
 ghost use Rattle.answers.specs.Answers.{IsReportPrinted};
+ghost use Rattle.answers.specs.Terminals.{GivesBack};
 
 use crate::asides::Asides;
 use crate::explainer::Explainer;
+use crate::meter::Meter;
 use crate::refusal::look_at;
 use crate::report::tell_changed;
+use crate::terminal::Terminal;
 use checkreport::{put_accepted, put_refused};
 use console::Console;
 use consolidate::Fault;
@@ -15,37 +18,37 @@ use opening::open_project;
 use shelf::{Reasons, Shelf};
 use std::alloc::Global;
 
-/// Checks the list, and prints all that came of it as JSON on `out`, by the form of `docs/REPORT.md`; where no memory
-/// was left for the first fault of a list that is refused, that alone. A refusal of the list is explained on `err`.
-/// The status is 0 where the list is accepted and told, and else 1.
-pub fn answer_report<S: Shelf + Reasons, O: Console, E: Console, A: Asides>(
+/// Checks the list, and prints all that came of it as JSON on standard output, by the form of `docs/REPORT.md`; where
+/// no memory was left for the first fault of a list that is refused, that alone. A refusal of the list is explained on
+/// standard error. The status is 0 where the list is accepted and told, and else 1.
+pub fn answer_report<S: Shelf + Reasons, O: Console, E: Console, M: Meter, A: Asides>(
     alloc: Global,
     list: &[u8],
     shelf: &mut S,
-    out: &mut O,
-    err: &mut E,
-    asides: &A,
+    terminal: &mut Terminal<O, E, M, A>,
 ) -> u8
-    ensures reported { IsTrue (S.honest shelf.old)
-        → IsReported list.now (S.stored shelf.old) O.Console out.old out.new result }
+    ensures consoles { GivesBack terminal.old terminal.new }
+    ensures reported { IsTrue (S.honest shelf.old) → IsReported list.now (S.stored shelf.old)
+        O.Console terminal.old.out.now terminal.new.out.now result }
     // Whatever the sources are, some report was printed.
-    ensures printed { IsReportPrinted (S.honest shelf.old) list.now (S.stored shelf.old) O.Console out.old out.new
-        result }
+    ensures printed { IsReportPrinted (S.honest shelf.old) list.now (S.stored shelf.old)
+        O.Console terminal.old.out.now terminal.new.out.now result }
     ensures statuses { result ≤ 1 }
 {
     let outcome = open_project(alloc, list, shelf);
-    tell_changed(alloc, shelf, err);
+    tell_changed(alloc, shelf, terminal.err);
     match outcome {
         Ok(checked) => {
-            let mut explainer = Explainer::new(alloc, list, asides);
-            put_accepted(alloc, &checked, &mut explainer, out)
+            let mut explainer = Explainer::new(alloc, list, &terminal.asides);
+            put_accepted(alloc, &checked, &mut explainer, terminal.out)
         }
         Err(fault) => {
-            let mut explainer = Explainer::new(alloc, list, asides);
-            let status = put_refused(alloc, list, shelf, &fault, &mut explainer, out);
+            let mut explainer = Explainer::new(alloc, list, &terminal.asides);
+            let status = put_refused(alloc, list, shelf, &fault, &mut explainer, terminal.out);
             let fault = Fault::Project(fault);
-            let look = look_at(alloc, list, &fault, asides);
-            err.print_line(Explanation::of(&fault, list, shelf.reason(), None).with_look(&look));
+            let look = look_at(alloc, list, &fault, &terminal.asides);
+            let explanation = Explanation::of(&fault, list, shelf.reason(), None).with_look(&look);
+            terminal.err.print_line(explanation);
             status
         }
     }

@@ -8,18 +8,20 @@ ghost use Rattle.commandline.specs.Request.{selected_of};
 ghost use Rattle.console.specs.Printing.{Prints};
 ghost use Rattle.list_terms.specs.Text.{rate_of as rate_at};
 ghost use Rattle.answers.specs.Answers.{ComparesBy, IsComparedAs, NamesBadTime, compared_lines, comparison_refusal_line, comparison_text, list_refusal_line, status_of_comparison};
+ghost use Rattle.answers.specs.Terminals.{GivesBack, KeepsOutput};
 ghost use Rattle.consolidate.specs.CompareFault as comparing;
 ghost use Rattle.answers.specs.Times.{bad_time_line, selection_of};
 
-use crate::asides::Asides;
+use crate::asides::{Asides, AsidesOfTwo};
 use crate::chosen::selection_of;
 use crate::comparison_report::put_comparison_report;
 use crate::counts::report_counts;
-use crate::difference::{BothLists, report_difference};
+use crate::difference::{BothLists, ListText, report_difference};
 use crate::meter::Meter;
 use crate::refusal::{look_at_list, put_list_fault};
 use crate::report::{tell_changed, tell_meanings_of_two};
 use crate::requests::{DONE, REFUSED, refuse_time};
+use crate::terminal::Terminal;
 use adlread::rate_of;
 use commandline::Selected;
 use console::{
@@ -34,9 +36,9 @@ use std::alloc::Global;
 
 /// Compares two lists, each over the sources of a shelf of its own, at what the words choose, and prints the notices of
 /// both and one line. The status is 0 where they sound the same, 1 where they differ or one is refused, and 2 where a
-/// time can't be read at the first list's rate, which is reported on `err`. A difference and a refusal are explained
-/// there; of a difference it says too at how many samples of each channel the lists differ, in the hour from it on, for
-/// which the sources are opened once more.
+/// time can't be read at the first list's rate, which is reported on standard error. A difference and a refusal are
+/// explained there; of a difference it says too at how many samples of each channel the lists differ, in the hour from
+/// it on, for which the sources are opened once more.
 pub fn answer_compare<
     S: Shelf + Reasons,
     T: Shelf + Reasons,
@@ -48,51 +50,47 @@ pub fn answer_compare<
 >(
     alloc: Global,
     selected: Selected<'_>,
-    first_list: &[u8],
-    second_list: &[u8],
+    lists: BothLists<'_>,
     first_shelf: &mut S,
     second_shelf: &mut T,
-    out: &mut O,
-    err: &mut E,
-    meter: &mut M,
-    first_asides: &A,
-    second_asides: &B,
+    terminal: &mut Terminal<O, E, M, AsidesOfTwo<A, B>>,
 ) -> u8
+    ensures consoles { GivesBack terminal.old terminal.new }
     // Both lists were compared, and the answer is printed; of the text of a report nothing is claimed.
     ensures compared { result ≢ 2
         → IsComparedAs selected.entry.report
-        (ComparesBy S.Shelf T.Shelf (selected_of selected.entry) first_list.now second_list.now
-        first_shelf.old first_shelf.new second_shelf.old second_shelf.new) O.Console out.old out.new result }
+        (ComparesBy S.Shelf T.Shelf (selected_of selected.entry) lists.entry.first.now lists.entry.second.now
+        first_shelf.old first_shelf.new second_shelf.old second_shelf.new)
+        O.Console terminal.old.out.now terminal.new.out.now result }
     // A time can't be read.
     ensures bad_time { (option : Text)
-        → selection_of (rate_at first_list.now) (selected_of selected.entry) ≡ Err option
-        → (result ≡ 2) × Prints E.contents E.failures err.old err.new (bad_time_line option) }
+        → selection_of (rate_at lists.entry.first.now) (selected_of selected.entry) ≡ Err option
+        → (result ≡ 2)
+        × Prints E.contents E.failures terminal.old.err.now terminal.new.err.now (bad_time_line option) }
     ensures statuses { result ≤ 2 }
-    ensures mistake { result ≡ 2 → NamesBadTime E.Console err.old err.new
-        (selection_of (rate_at first_list.now) (selected_of selected.entry)) }
+    ensures mistake { result ≡ 2 → NamesBadTime E.Console terminal.old.err.now terminal.new.err.now
+        (selection_of (rate_at lists.entry.first.now) (selected_of selected.entry)) }
     ensures two { result ≡ 2
-        → (first_shelf.new ≡ first_shelf.old) × (second_shelf.new ≡ second_shelf.old) × (out.new ≡ out.old) }
+        → (first_shelf.new ≡ first_shelf.old) × (second_shelf.new ≡ second_shelf.old)
+        × (terminal.new.out.now ≡ terminal.old.out.now) }
 {
-    let lists = BothLists {
-        first: first_list,
-        second: second_list,
-    };
-    match selection_of(selected, rate_of(first_list)) {
-        Ok(selection) => answer_selection(
-            alloc,
-            selected.report,
-            lists,
-            &selection,
-            first_shelf,
-            second_shelf,
-            out,
-            err,
-            meter,
-            first_asides,
-            second_asides,
-        ),
-        Err(bad) => refuse_time(bad, err),
+    match selection_of(selected, rate_of(lists.first)) {
+        Ok(selection) => {
+            let choice = ComparisonChoice {
+                selection,
+                is_report: selected.report,
+            };
+            answer_selection(alloc, lists, &choice, first_shelf, second_shelf, terminal)
+        }
+        Err(bad) => refuse_time(bad, terminal.err),
     }
+}
+
+/// What two lists are compared at, and whether a report of it is asked for.
+#[derive(Drop)]
+struct ComparisonChoice {
+    selection: Selection,
+    is_report: bool,
 }
 
 /// Compares two lists at what was chosen, and prints what came of it, as a report where that is asked for.
@@ -106,59 +104,44 @@ fn answer_selection<
     B: Asides,
 >(
     alloc: Global,
-    is_report: bool,
     lists: BothLists<'_>,
-    selection: &Selection,
+    choice: &ComparisonChoice,
     first_shelf: &mut S,
     second_shelf: &mut T,
-    out: &mut O,
-    err: &mut E,
-    meter: &mut M,
-    first_asides: &A,
-    second_asides: &B,
+    terminal: &mut Terminal<O, E, M, AsidesOfTwo<A, B>>,
 ) -> u8
-    requires { HasChannels selection.now }
-    ensures compared { IsComparedAs is_report
-        (IsComparing S.Shelf T.Shelf lists.entry.first.now lists.entry.second.now selection.now
-        first_shelf.old first_shelf.new second_shelf.old second_shelf.new) O.Console out.old out.new result }
+    requires { HasChannels choice.now.selection }
+    ensures consoles { GivesBack terminal.old terminal.new }
+    ensures compared { IsComparedAs choice.now.is_report
+        (IsComparing S.Shelf T.Shelf lists.entry.first.now lists.entry.second.now choice.now.selection
+        first_shelf.old first_shelf.new second_shelf.old second_shelf.new)
+        O.Console terminal.old.out.now terminal.new.out.now result }
     ensures statuses { result ≤ 1 }
 {
     let outcome = compare(
         alloc,
         lists.first,
         lists.second,
-        selection,
+        &choice.selection,
         first_shelf,
         second_shelf,
-        meter,
+        &mut terminal.meter,
     );
-    meter.clear();
-    tell_changed(alloc, first_shelf, err);
-    tell_changed(alloc, second_shelf, err);
+    terminal.meter.clear();
+    tell_changed(alloc, first_shelf, terminal.err);
+    tell_changed(alloc, second_shelf, terminal.err);
     match outcome {
-        Ok(compared) => put_done(
-            alloc,
-            is_report,
-            lists,
-            selection,
-            &compared,
-            out,
-            err,
-            meter,
-            first_asides,
-            second_asides,
-        ),
+        Ok(compared) => put_done(alloc, lists, choice, &compared, terminal),
         Err(fault) => {
             let reasons = (first_shelf.reason(), second_shelf.reason());
-            put_refusal_of_two(&fault, out);
+            put_refusal_of_two(&fault, terminal.out);
             explain_refusal(
                 alloc,
                 lists,
                 &fault,
                 reasons,
-                first_asides,
-                second_asides,
-                err,
+                &terminal.asides,
+                terminal.err,
             );
             REFUSED
         }
@@ -169,80 +152,49 @@ fn answer_selection<
 /// found of a difference.
 fn put_done<O: Console, E: Console, M: Meter, A: Asides, B: Asides>(
     alloc: Global,
-    is_report: bool,
     lists: BothLists<'_>,
-    selection: &Selection,
+    choice: &ComparisonChoice,
     compared: &Compared,
-    out: &mut O,
-    err: &mut E,
-    meter: &mut M,
-    first_asides: &A,
-    second_asides: &B,
+    terminal: &mut Terminal<O, E, M, AsidesOfTwo<A, B>>,
 ) -> u8
-    requires { HasChannels selection.now }
+    requires { HasChannels choice.now.selection }
+    ensures consoles { GivesBack terminal.old terminal.new }
     ensures status { result ≡ status_of_comparison compared.now.comparison }
     ensures few { result ≤ 1 }
-    ensures printed { is_report ≡ false → Prints O.contents O.failures out.old out.new (compared_lines compared.now) }
+    ensures printed { choice.now.is_report ≡ false
+        → Prints O.contents O.failures terminal.old.out.now terminal.new.out.now (compared_lines compared.now) }
 {
-    if is_report {
-        put_comparison_report(
-            alloc,
-            lists,
-            selection,
-            compared,
-            out,
-            meter,
-            first_asides,
-            second_asides,
-        );
+    let selection = &choice.selection;
+    if choice.is_report {
+        put_comparison_report(alloc, lists, selection, compared, terminal);
         return status_of(compared.comparison);
     }
-    put_compared(compared, out);
-    report_compared(
-        alloc,
-        lists,
-        selection,
-        compared,
-        err,
-        meter,
-        first_asides,
-        second_asides,
-    );
+    put_compared(compared, terminal.out);
+    report_compared(alloc, lists, selection, compared, terminal);
     status_of(compared.comparison)
 }
 
-/// Prints on `err` what is found of a difference, and what the notices of both lists mean.
-pub fn report_compared<E: Console, M: Meter, A: Asides, B: Asides>(
+/// Prints on standard error what is found of a difference, and what the notices of both lists mean.
+pub fn report_compared<O, E: Console, M: Meter, A: Asides, B: Asides>(
     alloc: Global,
     lists: BothLists<'_>,
     selection: &Selection,
     compared: &Compared,
-    err: &mut E,
-    meter: &mut M,
-    first_asides: &A,
-    second_asides: &B,
+    terminal: &mut Terminal<O, E, M, AsidesOfTwo<A, B>>,
 )
     requires { HasChannels selection.now }
+    ensures { KeepsOutput terminal.old terminal.new }
 {
-    report_difference(alloc, lists, selection, compared, err);
+    report_difference(alloc, lists, selection, compared, terminal.err);
     if let Comparison::Differs { at, .. } = compared.comparison {
-        report_counts(
-            alloc,
-            lists,
-            selection,
-            at,
-            err,
-            meter,
-            first_asides,
-            second_asides,
-        );
+        report_counts(alloc, lists, selection, at, terminal);
     }
     tell_meanings_of_two(
         compared.first_notices.as_slice(),
         compared.second_notices.as_slice(),
         lists.first,
         lists.second,
-        err,
+        terminal.err,
     );
 }
 
@@ -330,19 +282,16 @@ fn explain_refusal<E: Console, A: Asides, B: Asides>(
     lists: BothLists<'_>,
     fault: &CompareFault,
     reasons: (Option<Reason>, Option<Reason>),
-    first_asides: &A,
-    second_asides: &B,
+    asides: &AsidesOfTwo<A, B>,
     err: &mut E,
 ) {
     let (reason, other) = reasons;
     match fault {
         CompareFault::First(fault) => {
-            let (list, text) = (ListOfTwo::First, lists.first);
-            explain_list(alloc, list, text, fault, reason, first_asides, err)
+            explain_list(alloc, lists.first(), fault, reason, &asides.first, err)
         }
         CompareFault::Second(fault) => {
-            let (list, text) = (ListOfTwo::Second, lists.second);
-            explain_list(alloc, list, text, fault, other, second_asides, err)
+            explain_list(alloc, lists.second(), fault, other, &asides.second, err)
         }
         CompareFault::EmptyRange => err.print_line(Explanation::by(58, None, None)),
     }
@@ -351,15 +300,14 @@ fn explain_refusal<E: Console, A: Asides, B: Asides>(
 /// Prints the explanation of a refusal of one of two lists, with what a second look at its media finds.
 pub fn explain_list<'a, E: Console, A: Asides>(
     alloc: Global,
-    list: ListOfTwo,
-    text: &'a [u8],
+    list: ListText<'a>,
     fault: &'a ListFault,
     reason: Option<Reason>,
     asides: &A,
     err: &mut E,
 ) {
-    let look = look_at_list(alloc, text, fault, asides);
-    let explanation = Explanation::of_list(fault, text, reason).with_look(&look);
-    let name = NamedList(list);
+    let look = look_at_list(alloc, list.text, fault, asides);
+    let explanation = Explanation::of_list(fault, list.text, reason).with_look(&look);
+    let name = NamedList(list.list);
     err.print_line(format_args!("{name}: {explanation}"));
 }

@@ -1,33 +1,33 @@
 // The report of a comparison, for a script.
 ghost use Rattle.comparison.specs.Range.{HasChannels};
+ghost use Rattle.answers.specs.Terminals.{GivesBack};
 
-use crate::asides::Asides;
+use crate::asides::{Asides, AsidesOfTwo};
 use crate::counts::{count_from, counts_of};
 use crate::difference::{BothLists, events_of, first_in};
 use crate::meter::Meter;
+use crate::terminal::Terminal;
 use adlread::read;
 use console::Console;
 use consolidate::{Compared, Comparison, Selection};
 use explanations::ComparisonReport;
 use std::alloc::Global;
 
-/// Prints what a comparison found as a line of JSON, by the form of `docs/REPORT.md`. Where the lists differ they are read
-/// once more for it, and the samples that differ are counted as `report_counts` does; what no memory is there for is
-/// null, or an empty array.
-pub fn put_comparison_report<O: Console, M: Meter, A: Asides, B: Asides>(
+/// Prints what a comparison found as a line of JSON, by the form of `docs/REPORT.md`. Where the lists differ they are
+/// read once more for it, and the samples that differ are counted as `report_counts` does; what no memory is there for
+/// is null, or an empty array.
+pub fn put_comparison_report<O: Console, E, M: Meter, A: Asides, B: Asides>(
     alloc: Global,
     lists: BothLists<'_>,
     selection: &Selection,
     compared: &Compared,
-    out: &mut O,
-    meter: &mut M,
-    first_asides: &A,
-    second_asides: &B,
+    terminal: &mut Terminal<O, E, M, AsidesOfTwo<A, B>>,
 )
     requires { HasChannels selection.now }
+    ensures { GivesBack terminal.old terminal.new }
 {
     let Comparison::Differs { at, .. } = compared.comparison else {
-        out.print_line(ComparisonReport {
+        terminal.out.print_line(ComparisonReport {
             compared,
             events: &[],
             other_events: &[],
@@ -42,9 +42,8 @@ pub fn put_comparison_report<O: Console, M: Meter, A: Asides, B: Asides>(
         lists,
         selection,
         at,
-        meter,
-        first_asides,
-        second_asides,
+        &mut terminal.meter,
+        &terminal.asides,
     );
     let one = read(alloc, lists.first).ok();
     let other = read(alloc, lists.second).ok();
@@ -53,7 +52,7 @@ pub fn put_comparison_report<O: Console, M: Meter, A: Asides, B: Asides>(
         Some(counted) => counted.is_part,
         None => false,
     };
-    out.print_line(ComparisonReport {
+    terminal.out.print_line(ComparisonReport {
         compared,
         events,
         other_events,

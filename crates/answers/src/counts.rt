@@ -1,10 +1,12 @@
 // What is reported on standard error of how many samples of two lists differ.
 ghost use Rattle.comparison.specs.Range.{HasChannels};
+ghost use Rattle.answers.specs.Terminals.{KeepsOutput};
 
-use crate::asides::Asides;
+use crate::asides::{Asides, AsidesOfTwo};
 use crate::difference::BothLists;
 use crate::meter::Meter;
 use crate::room::last_out;
+use crate::terminal::Terminal;
 use comparison::{DifferingCounts, differing_in};
 use console::Console;
 use consolidate::Selection;
@@ -43,30 +45,29 @@ impl CountsFrom {
 
 /// Prints at how many samples of each channel two lists differ, which they do first at this time, in the hour from then
 /// on. Both lists are opened once more for it, over their sources, which are opened once more too.
-pub fn report_counts<E: Console, M: Meter, A: Asides, B: Asides>(
+pub fn report_counts<O, E: Console, M: Meter, A: Asides, B: Asides>(
     alloc: Global,
     lists: BothLists<'_>,
     selection: &Selection,
     at: SampleTime,
-    err: &mut E,
-    meter: &mut M,
-    first_asides: &A,
-    second_asides: &B,
+    terminal: &mut Terminal<O, E, M, AsidesOfTwo<A, B>>,
 )
     requires { HasChannels selection.now }
+    ensures { KeepsOutput terminal.old terminal.new }
 {
     let counted = count_from(
         alloc,
         lists,
         selection,
         at,
-        meter,
-        first_asides,
-        second_asides,
+        &mut terminal.meter,
+        &terminal.asides,
     );
     match counted {
-        Some(counted) => err.print_line(counted.samples()),
-        None => err.print_line("how many samples differ can't be found"),
+        Some(counted) => terminal.err.print_line(counted.samples()),
+        None => terminal
+            .err
+            .print_line("how many samples differ can't be found"),
     }
 }
 
@@ -78,13 +79,12 @@ pub fn count_from<M: Meter, A: Asides, B: Asides>(
     selection: &Selection,
     at: SampleTime,
     meter: &mut M,
-    first_asides: &A,
-    second_asides: &B,
+    asides: &AsidesOfTwo<A, B>,
 ) -> Option<CountsFrom>
     requires { HasChannels selection.now }
 {
-    let mut sources = first_asides.sources(alloc)?;
-    let mut other_sources = second_asides.sources(alloc)?;
+    let mut sources = asides.first.sources(alloc)?;
+    let mut other_sources = asides.second.sources(alloc)?;
     let one = open_project(alloc, lists.first, &mut sources).ok()?;
     let other = open_project(alloc, lists.second, &mut other_sources).ok()?;
     let counts = differing_in(

@@ -15,6 +15,31 @@ pub struct BothLists<'a> {
     pub second: &'a [u8],
 }
 
+impl<'a> BothLists<'a> {
+    /// The first one.
+    pub fn first(self) -> ListText<'a> {
+        ListText {
+            list: ListOfTwo::First,
+            text: self.first,
+        }
+    }
+
+    /// The second one.
+    pub fn second(self) -> ListText<'a> {
+        ListText {
+            list: ListOfTwo::Second,
+            text: self.second,
+        }
+    }
+}
+
+/// One of two lists, and its text.
+#[derive(Clone, Copy)]
+pub struct ListText<'a> {
+    pub list: ListOfTwo,
+    pub text: &'a [u8],
+}
+
 /// A sample of one of two lists: its time, its channel and its exact sum.
 #[derive(Clone, Copy)]
 struct SampleOfList {

@@ -5,14 +5,17 @@ ghost use Rattle.commandline.specs.Request.{drawn_of};
 ghost use Rattle.console.specs.Printing.{Prints};
 ghost use Rattle.list_terms.specs.Text.{rate_of as rate_at};
 ghost use Rattle.answers.specs.Answers.{NamesBadTime};
+ghost use Rattle.answers.specs.Terminals.{GivesBack};
 ghost use Rattle.answers.specs.Times.{bad_time_line, part_of};
 
 use crate::asides::Asides;
 use crate::chosen::part_of;
+use crate::meter::Meter;
 use crate::refusal::refuse_on;
 use crate::report::tell_changed;
 use crate::requests::refuse_time;
 use crate::room::{report_room, room_of};
+use crate::terminal::Terminal;
 use adlmodel::{Project, place_of};
 use adlread::{rate_of, read};
 use commandline::Drawn;
@@ -26,57 +29,63 @@ use sourceindex::bind;
 use std::alloc::{AllocError, Global};
 use std::collections::BTreeMap;
 
-/// Draws what the words choose of the list of this path with handles of so many frames, as SVG on `out`, and answers 0, with how much the outputs of the list would take on `err`;
-/// or draws what can be drawn of a list that is refused at its files or entries, prints on `err` why it is refused, and
-/// answers 1. A list of which nothing lies between the times that are chosen is refused too. Where a time can't be read
-/// the answer is 2, and that is told on `err`.
-pub fn answer_picture<S: Shelf + Reasons, O: Console, E: Console, A: Asides>(
+/// A picture that is asked for: of the list of this path, with handles of so many frames, and what of it is drawn.
+#[derive(Clone, Copy)]
+pub struct Drawing<'a> {
+    pub path: &'a str,
+    pub handle: u64,
+    pub drawn: Drawn<'a>,
+}
+
+/// Draws this picture of the list as SVG on standard output, and answers 0, with how much the outputs of the list would
+/// take on standard error; or draws what can be drawn of a list that is refused at its files or entries, prints on
+/// standard error why it is refused, and answers 1. A list of which nothing lies between the times that are chosen is
+/// refused too. Where a time can't be read the answer is 2, and that is told on standard error.
+pub fn answer_picture<S: Shelf + Reasons, O: Console, E: Console, M: Meter, A: Asides>(
     alloc: Global,
-    path: &str,
     list: &[u8],
-    handle: u64,
-    drawn: Drawn<'_>,
+    drawing: Drawing<'_>,
     shelf: &mut S,
-    out: &mut O,
-    err: &mut E,
-    asides: &A,
+    terminal: &mut Terminal<O, E, M, A>,
 ) -> u8
-    ensures bad_time { (option : Text) → part_of (rate_at list.now) (drawn_of drawn.entry) ≡ Err option
-        → (result ≡ 2) × Prints E.contents E.failures err.old err.new (bad_time_line option) }
+    ensures consoles { GivesBack terminal.old terminal.new }
+    ensures bad_time { (option : Text) → part_of (rate_at list.now) (drawn_of drawing.entry.drawn) ≡ Err option
+        → (result ≡ 2)
+        × Prints E.contents E.failures terminal.old.err.now terminal.new.err.now (bad_time_line option) }
     ensures statuses { result ≤ 2 }
-    ensures mistake { result ≡ 2 → NamesBadTime E.Console err.old err.new
-        (part_of (rate_at list.now) (drawn_of drawn.entry)) }
-    ensures two { result ≡ 2 → (shelf.new ≡ shelf.old) × (out.new ≡ out.old) }
+    ensures mistake { result ≡ 2 → NamesBadTime E.Console terminal.old.err.now terminal.new.err.now
+        (part_of (rate_at list.now) (drawn_of drawing.entry.drawn)) }
+    ensures two { result ≡ 2
+        → (shelf.new ≡ shelf.old) × (terminal.new.out.now ≡ terminal.old.out.now) }
 {
-    match part_of(drawn, rate_of(list)) {
-        Ok(part) => draw(alloc, path, list, handle, part, shelf, out, err, asides),
-        Err(bad) => refuse_time(bad, err),
+    match part_of(drawing.drawn, rate_of(list)) {
+        Ok(part) => draw(alloc, list, drawing, part, shelf, terminal),
+        Err(bad) => refuse_time(bad, terminal.err),
     }
 }
 
 /// Draws this part of the list.
-fn draw<S: Shelf + Reasons, O: Console, E: Console, A: Asides>(
+fn draw<S: Shelf + Reasons, O: Console, E: Console, M: Meter, A: Asides>(
     alloc: Global,
-    path: &str,
     list: &[u8],
-    handle: u64,
+    drawing: Drawing<'_>,
     part: Part,
     shelf: &mut S,
-    out: &mut O,
-    err: &mut E,
-    asides: &A,
+    terminal: &mut Terminal<O, E, M, A>,
 ) -> u8
-    ensures { result ≤ 1 }
+    ensures consoles { GivesBack terminal.old terminal.new }
+    ensures statuses { result ≤ 1 }
 {
-    let name = last_part(path);
+    let handle = drawing.handle;
+    let name = last_part(drawing.path);
     let outcome = open_project(alloc, list, shelf);
-    tell_changed(alloc, shelf, err);
+    tell_changed(alloc, shelf, terminal.err);
     let fault = match outcome {
         Ok(checked) if part.is_empty(checked.project().events()) => Fault::EmptyRange,
         Ok(checked) => match Picture::of(alloc, &checked, name, handle) {
             Ok(picture) => {
-                out.print(picture.of_part(part));
-                report_room(room_of(alloc, &checked, handle), err);
+                terminal.out.print(picture.of_part(part));
+                report_room(room_of(alloc, &checked, handle), terminal.err);
                 return 0;
             }
             Err(fault) => Fault::Runs(fault),
@@ -84,9 +93,16 @@ fn draw<S: Shelf + Reasons, O: Console, E: Console, A: Asides>(
         Err(fault) => Fault::Project(fault),
     };
     let explanation = Explanation::of(&fault, list, shelf.reason(), None);
-    refuse_on(alloc, list, &fault, explanation, asides, err);
+    refuse_on(
+        alloc,
+        list,
+        &fault,
+        explanation,
+        &terminal.asides,
+        terminal.err,
+    );
     if let Fault::Project(of_list) = &fault {
-        draw_refused(alloc, name, list, part, of_list, shelf, out);
+        draw_refused(alloc, name, list, part, of_list, shelf, terminal.out);
     }
     1
 }

@@ -2,7 +2,7 @@
 use devices::{Unwatched, Watch};
 
 /// Shows how far a command has come, until that is taken off again.
-pub trait Meter: Watch {
+pub trait Meter: Watch + Drop {
     /// Takes off what is shown.
     fn clear(&mut self);
 }

@@ -10,9 +10,12 @@ ghost use Rattle.console.specs.Lines.{refusal_text};
 ghost use Rattle.console.specs.Places.{where_of};
 ghost use Rattle.console.specs.Printing.{Prints};
 ghost use Rattle.answers.specs.Answers.{refusal_line};
+ghost use Rattle.answers.specs.Terminals.{GivesBack};
 
 use crate::asides::Asides;
+use crate::meter::Meter;
 use crate::second_look::SecondLook;
+use crate::terminal::Terminal;
 use adlread::AdlFault;
 use console::{Console, Place, Refusal, put_refusal};
 use consolidate::{
@@ -24,21 +27,28 @@ use list_terms::Location;
 use shelf::Reasons;
 use std::alloc::Global;
 
-/// Prints the line of a refusal of this list on `out` and its explanation on `err`, with what a second look at the media
-/// finds.
-pub fn refuse<O: Console, E: Console, A: Asides>(
+/// Prints the line of a refusal of this list on standard output and its explanation on standard error, with what a
+/// second look at the media finds.
+pub fn refuse<O: Console, E: Console, M: Meter, A: Asides>(
     alloc: Global,
     list: &[u8],
     fault: &Fault,
     explanation: Explanation<'_>,
-    asides: &A,
-    out: &mut O,
-    err: &mut E,
+    terminal: &mut Terminal<O, E, M, A>,
 )
-    ensures { Prints O.contents O.failures out.old out.new (refusal_line (refusal_of fault.now)) }
+    ensures consoles { GivesBack terminal.old terminal.new }
+    ensures printed { Prints O.contents O.failures terminal.old.out.now terminal.new.out.now
+        (refusal_line (refusal_of fault.now)) }
 {
-    put_line(fault, out);
-    tell_explanation(alloc, list, fault, explanation, asides, err);
+    put_line(fault, terminal.out);
+    tell_explanation(
+        alloc,
+        list,
+        fault,
+        explanation,
+        &terminal.asides,
+        terminal.err,
+    );
 }
 
 /// Prints both on `err`.

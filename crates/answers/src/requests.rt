@@ -18,6 +18,7 @@ ghost use Rattle.console.specs.Printing.{Prints};
 ghost use Rattle.list_terms.specs.Steps.{ok_map};
 ghost use Rattle.list_terms.specs.Text.{rate_of as rate_at};
 ghost use Rattle.answers.specs.Answers.{IsAnswered, IsChecked, IsReportPrinted, MayBeMistaken, RendersAs, RendersBy, ResumesAs, ResumesBy, accepted_lines, asking, rendered_lines, resumed_lines, written_lines};
+ghost use Rattle.answers.specs.Terminals.{GivesBack};
 ghost use Rattle.answers.specs.BadTime.{name_of};
 ghost use Rattle.answers.specs.Mistaken.{no_memory_line};
 ghost use Rattle.checkreport.specs.Reported.{IsReported};
@@ -27,11 +28,12 @@ use crate::also::tell_further;
 use crate::asides::Asides;
 use crate::check_report::answer_report;
 use crate::chosen::{BadTime, options_of, tell_bad_time};
-use crate::drawing::answer_picture;
+use crate::drawing::{Drawing, answer_picture};
 use crate::meter::Meter;
 use crate::refusal::{given_up_at, refuse};
 use crate::report::{tell_changed, tell_clipping, tell_done, tell_meanings};
 use crate::room::{DEFAULT_HANDLE, report_room, room_of};
+use crate::terminal::Terminal;
 use adlread::rate_of;
 use clap::Error;
 use clap::error::ErrorKind;
@@ -57,11 +59,20 @@ pub const REFUSED: u8 = 1;
 /// The status of a request that asks for nothing.
 pub const MISTAKE: u8 = 2;
 
+/// A request, and how it is carried out: a rendering in jobs of this length, and a consolidation by these passes over
+/// the pieces of the entries.
+#[derive(Drop)]
+pub struct Command<'a> {
+    pub request: Request<'a>,
+    pub passes: Vec<Box<dyn Pass>>,
+    pub jobs: JobLength,
+}
+
 /// Runs the command that is asked for over the list, the shelf and the bench, prints the notices and one line, and
-/// answers the status: 0 done, 1 refused, 2 where a time can't be read, which is told on `err`. A rendering has jobs of
-/// this length. A consolidation lets the passes go over the pieces of the entries. A refusal is explained on `err` too, in a line of its own; behind that of a
-/// check stand the list's further faults. What numbers mean is printed on `out`, with 0, or with 2 where nothing has the
-/// number. A comparison is a mistake here (2): it is of two lists, and `answer_compare` answers it.
+/// answers the status: 0 done, 1 refused, 2 where a time can't be read, which is told on standard error. A refusal is
+/// explained on standard error too, in a line of its own; behind that of a check stand the list's further faults. What
+/// numbers mean is printed on standard output, with 0, or with 2 where nothing has the number. A comparison is a
+/// mistake here (2): it is of two lists, and `answer_compare` answers it.
 #[tactic(auto, using(crate::proofs::Rates::answered_by, crate::proofs::Rates::resumed_by))]
 pub fn answer_request<
     S: Shelf + Reasons,
@@ -72,144 +83,143 @@ pub fn answer_request<
     A: Asides,
 >(
     alloc: Global,
-    request: Request<'_>,
+    command: Command<'_>,
     list: &[u8],
-    passes: Vec<Box<dyn Pass>>,
-    jobs: JobLength,
     shelf: &mut S,
     bench: &mut B,
-    out: &mut O,
-    err: &mut E,
-    meter: &mut M,
-    asides: &A,
+    terminal: &mut Terminal<O, E, M, A>,
 ) -> u8
+    ensures consoles { GivesBack terminal.old terminal.new }
     // A command was called over the list, and its answer is printed.
-    ensures checked { (path media : Text) → asked_of request.entry ≡ asked.Check path media
-        → IsAnswered (IsChecked S.Shelf list.now shelf.old shelf.new) accepted_lines O.Console out.old out.new result }
-    ensures reported { (path media : Text) → asked_of request.entry ≡ asked.Report path media
-        → IsTrue (S.honest shelf.old) → IsReported list.now (S.stored shelf.old) O.Console out.old out.new result }
-    ensures report_printed { (path media : Text) → asked_of request.entry ≡ asked.Report path media
-        → IsReportPrinted (S.honest shelf.old) list.now (S.stored shelf.old) O.Console out.old out.new result }
+    ensures checked { (path media : Text) → asked_of command.entry.request ≡ asked.Check path media
+        → IsAnswered (IsChecked S.Shelf list.now shelf.old shelf.new)
+        accepted_lines O.Console terminal.old.out.now terminal.new.out.now result }
+    ensures reported { (path media : Text) → asked_of command.entry.request ≡ asked.Report path media
+        → IsTrue (S.honest shelf.old) → IsReported list.now (S.stored shelf.old)
+        O.Console terminal.old.out.now terminal.new.out.now result }
+    ensures report_printed { (path media : Text) → asked_of command.entry.request ≡ asked.Report path media
+        → IsReportPrinted (S.honest shelf.old) list.now (S.stored shelf.old)
+        O.Console terminal.old.out.now terminal.new.out.now result }
     ensures rendered { (path media target : Text) (chosen : asked.Chosen)
-        → asked_of request.entry ≡ asked.Render path media target chosen → result ≢ 2
-        → IsAnswered (RendersBy S.Shelf B.Bench jobs chosen list.now shelf.old shelf.new bench.old bench.new)
-        rendered_lines O.Console out.old out.new result }
+        → asked_of command.entry.request ≡ asked.Render path media target chosen → result ≢ 2
+        → IsAnswered (RendersBy S.Shelf B.Bench command.entry.jobs chosen list.now
+        shelf.old shelf.new bench.old bench.new)
+        rendered_lines O.Console terminal.old.out.now terminal.new.out.now result }
     ensures resumed { (path media target : Text) (chosen : asked.Chosen)
-        → asked_of request.entry ≡ asked.Resume path media target chosen → result ≢ 2
-        → IsAnswered (ResumesBy S.Shelf B.Bench jobs chosen list.now shelf.old shelf.new bench.old bench.new)
-        resumed_lines O.Console out.old out.new result }
+        → asked_of command.entry.request ≡ asked.Resume path media target chosen → result ≢ 2
+        → IsAnswered (ResumesBy S.Shelf B.Bench command.entry.jobs chosen list.now
+        shelf.old shelf.new bench.old bench.new)
+        resumed_lines O.Console terminal.old.out.now terminal.new.out.now result }
     ensures consolidated { (path media target : Text) (handle : ℕ) (report : choice.MediaReport)
-        → asked_of request.entry ≡ asked.Consolidate path media target handle report
+        → asked_of command.entry.request ≡ asked.Consolidate path media target handle report
         → IsAnswered (IsConsolidation S.Shelf B.Bench
-        (left_by (λ pass. looking pass) (λ pass. gives pass) passes.items)
+        (left_by (λ pass. looking pass) (λ pass. gives pass) command.entry.passes.items)
         list.now handle (asking report list.now) shelf.old shelf.new bench.old bench.new)
-        written_lines O.Console out.old out.new result }
-    ensures standard { AreStandard (λ pass. looking pass) (λ pass. gives pass) passes.items
+        written_lines O.Console terminal.old.out.now terminal.new.out.now result }
+    ensures standard { AreStandard (λ pass. looking pass) (λ pass. gives pass) command.entry.passes.items
         → (path media target : Text) (handle : ℕ) (report : choice.MediaReport)
-        → asked_of request.entry ≡ asked.Consolidate path media target handle report → IsAnswered
+        → asked_of command.entry.request ≡ asked.Consolidate path media target handle report → IsAnswered
         (IsConsolidation S.Shelf B.Bench standard_groups list.now handle (asking report list.now) shelf.old shelf.new bench.old
         bench.new)
-        written_lines O.Console out.old out.new result }
+        written_lines O.Console terminal.old.out.now terminal.new.out.now result }
     // It names a time that can't be read.
     ensures bad_time { (path media target : Text) (chosen : asked.Chosen) (option : Text)
-        → asked_of request.entry ≡ asked.Render path media target chosen
+        → asked_of command.entry.request ≡ asked.Render path media target chosen
         → values_of (rate_at list.now) chosen ≡ Err option
-        → (result ≡ 2) × Prints E.contents E.failures err.old err.new (bad_time_line option) }
+        → (result ≡ 2)
+        × Prints E.contents E.failures terminal.old.err.now terminal.new.err.now (bad_time_line option) }
     ensures bad_time_resumed { (path media target : Text) (chosen : asked.Chosen) (option : Text)
-        → asked_of request.entry ≡ asked.Resume path media target chosen
+        → asked_of command.entry.request ≡ asked.Resume path media target chosen
         → values_of (rate_at list.now) chosen ≡ Err option
-        → (result ≡ 2) × Prints E.contents E.failures err.old err.new (bad_time_line option) }
-    ensures explained { (number : Option Text) → asked_of request.entry ≡ asked.Explain number
+        → (result ≡ 2)
+        × Prints E.contents E.failures terminal.old.err.now terminal.new.err.now (bad_time_line option) }
+    ensures explained { (number : Option Text) → asked_of command.entry.request ≡ asked.Explain number
         → (result ≢ 1) × (shelf.new ≡ shelf.old) × (bench.new ≡ bench.old) }
-    ensures explained_notice { (number : Option Text) → asked_of request.entry ≡ asked.ExplainNotice number
+    ensures explained_notice { (number : Option Text) → asked_of command.entry.request ≡ asked.ExplainNotice number
         → (result ≢ 1) × (shelf.new ≡ shelf.old) × (bench.new ≡ bench.old) }
     ensures statuses { result ≤ 2 }
     ensures mistake { result ≡ 2
-        → MayBeMistaken E.Console err.old err.new (rate_at list.now) (asked_of request.entry) }
-    ensures two { result ≡ 2 → (shelf.new ≡ shelf.old) × (bench.new ≡ bench.old) × (out.new ≡ out.old) }
-    ensures check_writes_nothing { (path media : Text) → asked_of request.entry ≡ asked.Check path media
+        → MayBeMistaken E.Console terminal.old.err.now terminal.new.err.now (rate_at list.now)
+        (asked_of command.entry.request) }
+    ensures two { result ≡ 2
+        → (shelf.new ≡ shelf.old) × (bench.new ≡ bench.old) × (terminal.new.out.now ≡ terminal.old.out.now) }
+    ensures check_writes_nothing { (path media : Text) → asked_of command.entry.request ≡ asked.Check path media
         → bench.new ≡ bench.old }
-    ensures report_writes_nothing { (path media : Text) → asked_of request.entry ≡ asked.Report path media
+    ensures report_writes_nothing { (path media : Text) → asked_of command.entry.request ≡ asked.Report path media
         → bench.new ≡ bench.old }
     ensures bad_time_shown { (path media : Text) (handle : ℕ) (drawn : asked.Drawn) (option : Text)
-        → asked_of request.entry ≡ asked.Show path media handle drawn
+        → asked_of command.entry.request ≡ asked.Show path media handle drawn
         → part_of (rate_at list.now) drawn ≡ Err option
-        → (result ≡ 2) × Prints E.contents E.failures err.old err.new (bad_time_line option) }
+        → (result ≡ 2)
+        × Prints E.contents E.failures terminal.old.err.now terminal.new.err.now (bad_time_line option) }
     ensures picture_writes_nothing { (path media : Text) (handle : ℕ) (drawn : asked.Drawn)
-        → asked_of request.entry ≡ asked.Show path media handle drawn → bench.new ≡ bench.old }
+        → asked_of command.entry.request ≡ asked.Show path media handle drawn → bench.new ≡ bench.old }
 {
+    let Command {
+        request,
+        passes,
+        jobs,
+    } = command;
     match request {
-        Request::Check(_, _) => answer_check(alloc, list, shelf, out, err, asides),
-        Request::Report(_, _) => answer_report(alloc, list, shelf, out, err, asides),
+        Request::Check(_, _) => answer_check(alloc, list, shelf, terminal),
+        Request::Report(_, _) => answer_report(alloc, list, shelf, terminal),
         Request::Render(_, chosen) => match options_of(chosen, rate_of(list)) {
             Ok(options) => {
-                let choice = RenderChoice { options, jobs };
-                let is_reported = chosen.report;
-                answer_render(
-                    alloc,
-                    list,
-                    &choice,
-                    is_reported,
-                    shelf,
-                    bench,
-                    out,
-                    err,
-                    meter,
-                    asides,
-                )
+                let wanted = WantedSound {
+                    choice: RenderChoice { options, jobs },
+                    is_reported: chosen.report,
+                };
+                answer_render(alloc, list, &wanted, shelf, bench, terminal)
             }
-            Err(bad) => refuse_time(bad, err),
+            Err(bad) => refuse_time(bad, terminal.err),
         },
         Request::Resume(_, chosen) => match options_of(chosen, rate_of(list)) {
             Ok(options) => {
-                let choice = RenderChoice { options, jobs };
-                let is_reported = chosen.report;
-                answer_resume(
-                    alloc,
-                    list,
-                    &choice,
-                    is_reported,
-                    shelf,
-                    bench,
-                    out,
-                    err,
-                    meter,
-                    asides,
-                )
+                let wanted = WantedSound {
+                    choice: RenderChoice { options, jobs },
+                    is_reported: chosen.report,
+                };
+                answer_resume(alloc, list, &wanted, shelf, bench, terminal)
             }
-            Err(bad) => refuse_time(bad, err),
+            Err(bad) => refuse_time(bad, terminal.err),
         },
         Request::Consolidate(_, handle, report) => {
-            let asked = asked_for(report);
-            answer_consolidate(
-                alloc, list, handle, passes, asked, shelf, bench, out, err, meter, asides,
-            )
+            let wanted = WantedMedia {
+                handle,
+                passes,
+                report: asked_for(report),
+            };
+            answer_consolidate(alloc, list, wanted, shelf, bench, terminal)
         }
-        Request::Compare(_, _) => refuse_two_lists(err),
-        Request::Show(name, _, handle, drawn) => answer_picture(
-            alloc, name, list, handle, drawn, shelf, out, err, asides,
-        ),
-        Request::Explain(number) => explain(number, out, err),
-        Request::ExplainNotice(number) => explain_notice(number, out, err),
+        Request::Compare(_, _) => refuse_two_lists(terminal.err),
+        Request::Show(path, _, handle, drawn) => {
+            let drawing = Drawing {
+                path,
+                handle,
+                drawn,
+            };
+            answer_picture(alloc, list, drawing, shelf, terminal)
+        }
+        Request::Explain(number) => explain(number, terminal.out, terminal.err),
+        Request::ExplainNotice(number) => explain_notice(number, terminal.out, terminal.err),
     }
 }
 
-/// Checks the list, and prints what came of it; on `err`, how much its outputs would take. After a refusal its further
-/// faults are looked for, and printed on `err`.
-fn answer_check<S: Shelf + Reasons, O: Console, E: Console, A: Asides>(
+/// Checks the list, and prints what came of it; on standard error, how much its outputs would take. After a refusal its
+/// further faults are looked for, and printed there.
+fn answer_check<S: Shelf + Reasons, O: Console, E: Console, M: Meter, A: Asides>(
     alloc: Global,
     list: &[u8],
     shelf: &mut S,
-    out: &mut O,
-    err: &mut E,
-    asides: &A,
+    terminal: &mut Terminal<O, E, M, A>,
 ) -> u8
+    ensures consoles { GivesBack terminal.old terminal.new }
     ensures answered { IsAnswered (IsChecked S.Shelf list.now shelf.old shelf.new)
-        accepted_lines O.Console out.old out.new result }
+        accepted_lines O.Console terminal.old.out.now terminal.new.out.now result }
     ensures statuses { result ≤ 1 }
 {
     let outcome = check_opened(alloc, list, shelf);
-    tell_changed(alloc, shelf, err);
+    tell_changed(alloc, shelf, terminal.err);
     match outcome {
         Ok(AcceptedList { accepted, checked }) => {
             let words = Counts {
@@ -219,40 +229,57 @@ fn answer_check<S: Shelf + Reasons, O: Console, E: Console, A: Asides>(
             };
             let notices = accepted.notices.as_slice();
             tell_done(
-                out,
+                terminal.out,
                 notices,
                 words,
                 u64::from(accepted.entries),
                 u64::from(accepted.indexes),
             );
-            tell_meanings(notices, list, err);
-            report_room(room_of(alloc, &checked, DEFAULT_HANDLE), err);
+            tell_meanings(notices, list, terminal.err);
+            report_room(room_of(alloc, &checked, DEFAULT_HANDLE), terminal.err);
             DONE
         }
         Err(fault) => {
             let explanation = Explanation::of(&fault, list, shelf.reason(), None);
-            refuse(alloc, list, &fault, explanation, asides, out, err);
-            tell_further(alloc, list, shelf, &fault, asides.most(), asides, err);
+            refuse(alloc, list, &fault, explanation, terminal);
+            let asides = &terminal.asides;
+            tell_further(alloc, list, shelf, &fault, asides, terminal.err);
             REFUSED
         }
     }
+}
+
+/// A rendering that is asked for, and whether a report of it is.
+#[derive(Drop)]
+struct WantedSound {
+    choice: RenderChoice,
+    is_reported: bool,
+}
+
+/// The media that are asked for: with handles of so many frames, by these passes, and with a report where one is
+/// wanted.
+#[derive(Drop)]
+struct WantedMedia<'a> {
+    handle: u64,
+    passes: Vec<Box<dyn Pass>>,
+    report: Option<ReportChoice<'a>>,
 }
 
 /// Renders the list, and then writes its report, where one is asked for.
 fn render_as<S: Shelf, B: Bench, W: Watch>(
     alloc: Global,
     list: &[u8],
-    choice: &RenderChoice,
-    is_reported: bool,
+    wanted: &WantedSound,
     shelf: &mut S,
     bench: &mut B,
     watch: &mut W,
 ) -> Result<RenderedSound, Fault>
-    ensures { RendersAs S.Shelf B.Bench is_reported choice.now.jobs list.now
-        (rendering.values_of choice.now.options) shelf.old shelf.new bench.old bench.new
+    ensures { RendersAs S.Shelf B.Bench wanted.now.is_reported wanted.now.choice.jobs list.now
+        (rendering.values_of wanted.now.choice.options) shelf.old shelf.new bench.old bench.new
         (ok_map (λ made. made.rendered) result) }
 {
-    if is_reported {
+    let choice = &wanted.choice;
+    if wanted.is_reported {
         let report = RenderReport {
             program: "adlcons",
             version: VERSION,
@@ -271,17 +298,17 @@ fn render_as<S: Shelf, B: Bench, W: Watch>(
 fn resume_as<S: Shelf, B: Bench, W: Watch>(
     alloc: Global,
     list: &[u8],
-    choice: &RenderChoice,
-    is_reported: bool,
+    wanted: &WantedSound,
     shelf: &mut S,
     bench: &mut B,
     watch: &mut W,
 ) -> Result<ResumedSound, Fault>
-    ensures { ResumesAs S.Shelf B.Bench is_reported choice.now.jobs list.now
-        (rendering.values_of choice.now.options) shelf.old shelf.new bench.old bench.new
+    ensures { ResumesAs S.Shelf B.Bench wanted.now.is_reported wanted.now.choice.jobs list.now
+        (rendering.values_of wanted.now.choice.options) shelf.old shelf.new bench.old bench.new
         (ok_map (λ made. made.resumed) result) }
 {
-    if is_reported {
+    let choice = &wanted.choice;
+    if wanted.is_reported {
         let report = RenderReport {
             program: "adlcons",
             version: VERSION,
@@ -307,24 +334,21 @@ fn answer_render<
 >(
     alloc: Global,
     list: &[u8],
-    choice: &RenderChoice,
-    is_reported: bool,
+    wanted: &WantedSound,
     shelf: &mut S,
     bench: &mut B,
-    out: &mut O,
-    err: &mut E,
-    meter: &mut M,
-    asides: &A,
+    terminal: &mut Terminal<O, E, M, A>,
 ) -> u8
+    ensures consoles { GivesBack terminal.old terminal.new }
     ensures answered { IsAnswered
-        (RendersAs S.Shelf B.Bench is_reported choice.now.jobs list.now
-        (rendering.values_of choice.now.options) shelf.old shelf.new bench.old bench.new)
-        rendered_lines O.Console out.old out.new result }
+        (RendersAs S.Shelf B.Bench wanted.now.is_reported wanted.now.choice.jobs list.now
+        (rendering.values_of wanted.now.choice.options) shelf.old shelf.new bench.old bench.new)
+        rendered_lines O.Console terminal.old.out.now terminal.new.out.now result }
     ensures statuses { result ≤ 1 }
 {
-    let outcome = render_as(alloc, list, choice, is_reported, shelf, bench, meter);
-    meter.clear();
-    tell_changed(alloc, shelf, err);
+    let outcome = render_as(alloc, list, wanted, shelf, bench, &mut terminal.meter);
+    terminal.meter.clear();
+    tell_changed(alloc, shelf, terminal.err);
     match outcome {
         Ok(made) => {
             let rendered = made.rendered;
@@ -335,16 +359,16 @@ fn answer_render<
             };
             let notices = rendered.notices.as_slice();
             let channels = u64::from(rendered.channels);
-            tell_done(out, notices, words, rendered.frames, channels);
-            tell_meanings(notices, list, err);
-            tell_clipping(made.clipping, Rendering::Whole, list, err);
+            tell_done(terminal.out, notices, words, rendered.frames, channels);
+            tell_meanings(notices, list, terminal.err);
+            tell_clipping(made.clipping, Rendering::Whole, list, terminal.err);
             DONE
         }
         Err(fault) => {
             let failed = given_up_at(alloc, &fault, shelf);
             let explanation = Explanation::of(&fault, list, shelf.reason(), bench.reason());
             let explanation = explanation.of_rendering().with_file(failed.as_deref());
-            refuse(alloc, list, &fault, explanation, asides, out, err);
+            refuse(alloc, list, &fault, explanation, terminal);
             REFUSED
         }
     }
@@ -361,24 +385,21 @@ fn answer_resume<
 >(
     alloc: Global,
     list: &[u8],
-    choice: &RenderChoice,
-    is_reported: bool,
+    wanted: &WantedSound,
     shelf: &mut S,
     bench: &mut B,
-    out: &mut O,
-    err: &mut E,
-    meter: &mut M,
-    asides: &A,
+    terminal: &mut Terminal<O, E, M, A>,
 ) -> u8
+    ensures consoles { GivesBack terminal.old terminal.new }
     ensures answered { IsAnswered
-        (ResumesAs S.Shelf B.Bench is_reported choice.now.jobs list.now
-        (rendering.values_of choice.now.options) shelf.old shelf.new bench.old bench.new)
-        resumed_lines O.Console out.old out.new result }
+        (ResumesAs S.Shelf B.Bench wanted.now.is_reported wanted.now.choice.jobs list.now
+        (rendering.values_of wanted.now.choice.options) shelf.old shelf.new bench.old bench.new)
+        resumed_lines O.Console terminal.old.out.now terminal.new.out.now result }
     ensures statuses { result ≤ 1 }
 {
-    let outcome = resume_as(alloc, list, choice, is_reported, shelf, bench, meter);
-    meter.clear();
-    tell_changed(alloc, shelf, err);
+    let outcome = resume_as(alloc, list, wanted, shelf, bench, &mut terminal.meter);
+    terminal.meter.clear();
+    tell_changed(alloc, shelf, terminal.err);
     match outcome {
         Ok(made) => {
             let resumed = made.resumed;
@@ -389,16 +410,16 @@ fn answer_resume<
             };
             let notices = resumed.notices.as_slice();
             let marked = u64::from(resumed.marked);
-            tell_done(out, notices, words, resumed.frames, marked);
-            tell_meanings(notices, list, err);
-            tell_clipping(made.clipping, Rendering::Resumed, list, err);
+            tell_done(terminal.out, notices, words, resumed.frames, marked);
+            tell_meanings(notices, list, terminal.err);
+            tell_clipping(made.clipping, Rendering::Resumed, list, terminal.err);
             DONE
         }
         Err(fault) => {
             let failed = given_up_at(alloc, &fault, shelf);
             let explanation = Explanation::of(&fault, list, shelf.reason(), bench.reason());
             let explanation = explanation.of_rendering().with_file(failed.as_deref());
-            refuse(alloc, list, &fault, explanation, asides, out, err);
+            refuse(alloc, list, &fault, explanation, terminal);
             REFUSED
         }
     }
@@ -420,7 +441,8 @@ fn asked_for(report: MediaReport) -> Option<ReportChoice<'static>>
     })
 }
 
-/// Consolidates the list, with the report that is asked for, and prints what came of it; on `err`, how much was saved.
+/// Consolidates the list, with the report that is asked for, and prints what came of it; on
+/// standard error, how much was saved.
 fn answer_consolidate<
     S: Shelf + Reasons,
     B: Bench + Reasons,
@@ -431,29 +453,29 @@ fn answer_consolidate<
 >(
     alloc: Global,
     list: &[u8],
-    handle: u64,
-    passes: Vec<Box<dyn Pass>>,
-    asked: Option<ReportChoice<'_>>,
+    wanted: WantedMedia<'_>,
     shelf: &mut S,
     bench: &mut B,
-    out: &mut O,
-    err: &mut E,
-    meter: &mut M,
-    asides: &A,
+    terminal: &mut Terminal<O, E, M, A>,
 ) -> u8
+    ensures consoles { GivesBack terminal.old terminal.new }
     ensures answered { IsAnswered (IsConsolidation S.Shelf B.Bench
-        (left_by (λ pass. looking pass) (λ pass. gives pass) passes.items)
-        list.now handle (option_map (asked_on list.now) asked.entry) shelf.old shelf.new bench.old bench.new)
-        written_lines O.Console out.old out.new result }
+        (left_by (λ pass. looking pass) (λ pass. gives pass) wanted.entry.passes.items)
+        list.now wanted.entry.handle (option_map (asked_on list.now) wanted.entry.report)
+        shelf.old shelf.new bench.old bench.new)
+        written_lines O.Console terminal.old.out.now terminal.new.out.now result }
     ensures statuses { result ≤ 1 }
 {
     let choice = ConsolidateChoice {
-        keeping: Keeping { handle, passes },
-        report: asked,
+        keeping: Keeping {
+            handle: wanted.handle,
+            passes: wanted.passes,
+        },
+        report: wanted.report,
     };
-    let outcome = consolidate_watched(alloc, list, choice, shelf, bench, meter);
-    meter.clear();
-    tell_changed(alloc, shelf, err);
+    let outcome = consolidate_watched(alloc, list, choice, shelf, bench, &mut terminal.meter);
+    terminal.meter.clear();
+    tell_changed(alloc, shelf, terminal.err);
     match outcome {
         Ok(written) => {
             let words = Counts {
@@ -463,21 +485,21 @@ fn answer_consolidate<
             };
             let notices = written.notices.as_slice();
             tell_done(
-                out,
+                terminal.out,
                 notices,
                 words,
                 u64::from(written.media),
                 u64::from(written.entries),
             );
-            err.print_line(Saved(written.sizes));
-            tell_meanings(notices, list, err);
+            terminal.err.print_line(Saved(written.sizes));
+            tell_meanings(notices, list, terminal.err);
             DONE
         }
         Err(fault) => {
             let failed = given_up_at(alloc, &fault, shelf).or(given_up_at(alloc, &fault, bench));
             let explanation = Explanation::of(&fault, list, shelf.reason(), bench.reason());
             let explanation = explanation.with_file(failed.as_deref());
-            refuse(alloc, list, &fault, explanation, asides, out, err);
+            refuse(alloc, list, &fault, explanation, terminal);
             REFUSED
         }
     }

@@ -1,19 +1,20 @@
 // The answer to a consolidation that is compared with what it was made from.
 ghost use Rattle.std.specs.Prelude.{◌≡◌, ◌≤◌};
 ghost use Rattle.consolidate.specs.Comparing.{IsComparing};
-ghost use Rattle.consolidate.specs.CompareFault as comparing;
-ghost use Rattle.answers.specs.Answers.{IsVerified, all_of_both, list_refusal_line, verdict_lines};
+ghost use Rattle.answers.specs.Answers.{IsVerified, all_of_both, verdict_lines};
+ghost use Rattle.answers.specs.Terminals.{GivesBack, KeepsOutput};
 ghost use Rattle.console.specs.Printing.{Prints};
 
-use crate::asides::Asides;
+use crate::asides::{Asides, AsidesOfTwo};
 use crate::comparing::{explain_list, put_comparison, put_refusal_in, report_compared, status_of};
 use crate::difference::BothLists;
 use crate::meter::Meter;
 use crate::report::tell_changed;
 use crate::requests::{DONE, REFUSED};
+use crate::terminal::Terminal;
 use console::{Console, ListOfTwo};
-use consolidate::{CompareFault, Compared, Comparison, ListFault, Selection, compare};
-use shelf::{Reason, Reasons, Shelf};
+use consolidate::{CompareFault, Compared, Comparison, Selection, compare};
+use shelf::{Reasons, Shelf};
 use std::alloc::Global;
 
 /// Compares a list with the one that was written for it, each over a shelf of its own, and prints the lines of the
@@ -30,104 +31,85 @@ pub fn answer_verified<
     B: Asides,
 >(
     alloc: Global,
-    list: &[u8],
-    written: &[u8],
+    lists: BothLists<'_>,
     lines: &[u8],
     shelf: &mut S,
     written_shelf: &mut T,
-    out: &mut O,
-    err: &mut E,
-    meter: &mut M,
-    asides: &A,
-    written_asides: &B,
+    terminal: &mut Terminal<O, E, M, AsidesOfTwo<A, B>>,
 ) -> u8
-    ensures verified { IsVerified lines.now (IsComparing S.Shelf T.Shelf list.now written.now all_of_both
-        shelf.old shelf.new written_shelf.old written_shelf.new) O.Console out.old out.new result }
+    ensures consoles { GivesBack terminal.old terminal.new }
+    ensures verified { IsVerified lines.now
+        (IsComparing S.Shelf T.Shelf lists.entry.first.now lists.entry.second.now all_of_both
+        shelf.old shelf.new written_shelf.old written_shelf.new)
+        O.Console terminal.old.out.now terminal.new.out.now result }
     ensures statuses { result ≤ 1 }
 {
     let selection = all_of_both();
-    let lists = BothLists {
-        first: list,
-        second: written,
-    };
     let outcome = compare(
         alloc,
-        list,
-        written,
+        lists.first,
+        lists.second,
         &selection,
         shelf,
         written_shelf,
-        meter,
+        &mut terminal.meter,
     );
-    meter.clear();
-    tell_changed(alloc, shelf, err);
-    tell_changed(alloc, written_shelf, err);
+    terminal.meter.clear();
+    tell_changed(alloc, shelf, terminal.err);
+    tell_changed(alloc, written_shelf, terminal.err);
     match outcome {
         Ok(compared) => {
-            put_verdict(&compared, lines, out);
-            report_verdict(alloc, lists, &compared, err, meter, asides, written_asides);
+            put_verdict(&compared, lines, terminal.out);
+            report_verdict(alloc, lists, &compared, terminal);
             status_of(compared.comparison)
         }
         Err(CompareFault::EmptyRange) => {
-            put_lines(lines, out);
+            put_lines(lines, terminal.out);
             DONE
         }
         Err(CompareFault::First(fault)) => {
-            let (of, reason) = (ListOfTwo::First, shelf.reason());
-            refuse_list(alloc, of, list, &fault, reason, asides, out, err);
+            let (list, reason) = (lists.first(), shelf.reason());
+            put_refusal_in(ListOfTwo::First, &fault, terminal.out);
+            explain_list(
+                alloc,
+                list,
+                &fault,
+                reason,
+                &terminal.asides.first,
+                terminal.err,
+            );
             REFUSED
         }
         Err(CompareFault::Second(fault)) => {
-            let (of, reason) = (ListOfTwo::Second, written_shelf.reason());
-            let asides = written_asides;
-            refuse_list(alloc, of, written, &fault, reason, asides, out, err);
+            let (list, reason) = (lists.second(), written_shelf.reason());
+            put_refusal_in(ListOfTwo::Second, &fault, terminal.out);
+            explain_list(
+                alloc,
+                list,
+                &fault,
+                reason,
+                &terminal.asides.second,
+                terminal.err,
+            );
             REFUSED
         }
     }
 }
 
 /// Reports where a list and the one that was written for it differ, if they do.
-fn report_verdict<E: Console, M: Meter, A: Asides, B: Asides>(
+fn report_verdict<O, E: Console, M: Meter, A: Asides, B: Asides>(
     alloc: Global,
     lists: BothLists<'_>,
     compared: &Compared,
-    err: &mut E,
-    meter: &mut M,
-    asides: &A,
-    written_asides: &B,
-) {
+    terminal: &mut Terminal<O, E, M, AsidesOfTwo<A, B>>,
+)
+    ensures { KeepsOutput terminal.old terminal.new }
+{
     let Comparison::Differs { .. } = compared.comparison else {
         return;
     };
     let selection = all_of_both();
-    report_compared(
-        alloc,
-        lists,
-        &selection,
-        compared,
-        err,
-        meter,
-        asides,
-        written_asides,
-    );
-}
-
-/// Prints the line of the refusal of one of two lists, and explains it.
-fn refuse_list<'a, O: Console, E: Console, A: Asides>(
-    alloc: Global,
-    list: ListOfTwo,
-    text: &'a [u8],
-    fault: &'a ListFault,
-    reason: Option<Reason>,
-    asides: &A,
-    out: &mut O,
-    err: &mut E,
-)
-    ensures { Prints O.contents O.failures out.old out.new
-        (list_refusal_line list (comparing.refusal_of fault.now)) }
-{
-    put_refusal_in(list, fault, out);
-    explain_list(alloc, list, text, fault, reason, asides, err);
+    report_compared(alloc, lists, &selection, compared, terminal);
 }
 
 /// All of both lists.

@@ -12,7 +12,8 @@ ghost use Rattle.answers.specs.Answers.{IsAnswered, IsChecked, IsReportPrinted, 
 ghost use Rattle.answers.specs.Mistaken.{AreMistaken};
 
 use crate::asides::NoAsides;
-use crate::requests::{answer_error, answer_request, refuse_two_lists};
+use crate::requests::{Command, answer_error, answer_request, refuse_two_lists};
+use crate::terminal::Terminal;
 use commandline::parse;
 use console::Console;
 use consolidate::JobLength;
@@ -77,20 +78,18 @@ pub fn answer<S: Shelf + Reasons, B: Bench + Reasons, O: Console, E: Console>(
     if parsed.verifies {
         return refuse_two_lists(err);
     }
-    let asides = NoAsides {
-        tells_all: parsed.tells_all,
-    };
-    answer_request(
-        alloc,
-        parsed.request,
-        list,
-        passes,
-        JobLength::OneBlock,
-        shelf,
-        bench,
+    let mut terminal = Terminal {
         out,
         err,
-        &mut Unwatched,
-        &asides,
-    )
+        meter: Unwatched,
+        asides: NoAsides {
+            tells_all: parsed.tells_all,
+        },
+    };
+    let command = Command {
+        request: parsed.request,
+        passes,
+        jobs: JobLength::OneBlock,
+    };
+    answer_request(alloc, command, list, shelf, bench, &mut terminal)
 }

@@ -66,10 +66,12 @@ ends shelf bench out hold list media target held handle report before after empt
 
 pub returns-clause-answered : goal.returns-clause-answered
 returns-clause-answered g c =
+    let same : c.lines-2-1.given.0 ≡ c.answer_standard-answered.new.terminal.out.now =
+    c.lines-2-1.given.1 (sym c.answer_standard-answered.ensures.consoles.0) in
     ends _ _ _ _ c.as_slice-list.result.now _ _ c.in-Some.held.now c.args.handle c.args.report c.in_ok-shelf.shelf
     c.answer_standard-answered.new.shelf c.in_ok-bench.bench c.answer_standard-answered.new.bench c.new-lines.result
-    c.answer_standard-answered.new.out c.args.out.now c.put_answer-status.new.out c.in-Ok.answer
+    c.answer_standard-answered.new.terminal.out.now c.args.out.now c.put_answer-status.new.out c.in-Ok.answer
     c.put_answer-status.result c.in_ok-shelf.ensures.folder c.in_ok-bench.ensures.folder
     c.in_ok-bench.ensures.overwrite (c.in-Ok.ensures.consolidated _ _ _ c.args.handle c.args.report refl)
-    (ap Some c.new-lines.ensures.bytes) (ap Some (sym c.in-Some.ensures.0)) c.new-lines.ensures.failures
-    c.in-Some.ensures.1 c.put_answer-status.ensures.refused c.put_answer-status.ensures.done
+    (ap Some c.new-lines.ensures.bytes) (rw same at (ap Some (sym c.in-Some.ensures.0))) c.new-lines.ensures.failures
+    (rw same at c.in-Some.ensures.1) c.put_answer-status.ensures.refused c.put_answer-status.ensures.done

@@ -57,6 +57,6 @@ returns-in-Err-clause-printed g c =
     let sources = c.in-Err.ensures.only_reads in
     refused_report (g.S.Shelf.honest c.args.shelf.now) (g.S.Shelf.honest c.open_project-outcome.new.shelf)
     c.args.list.now (g.S.Shelf.stored c.args.shelf.now) (g.S.Shelf.stored c.open_project-outcome.new.shelf)
-    g.O.Console c.args.out.now c.put_refused-status.new.out c.in-Err.fault c.put_refused-status.result
+    g.O.Console c.args.terminal.now.out.now c.put_refused-status.new.out c.in-Err.fault c.put_refused-status.result
     sources.honest_same sources.same (λ refusal is. (c.in-Err.ensures.bad_text refusal is).0) c.in-Err.ensures.refusals
     c.put_refused-status.ensures.printed c.put_refused-status.ensures.status

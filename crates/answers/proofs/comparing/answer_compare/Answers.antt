@@ -27,12 +27,12 @@ called_so false call other out old new status so was = record {
 pub returns-in-Ok-clause-compared : goal.returns-in-Ok-clause-compared
 returns-in-Ok-clause-compared g c = λ some.
     called_so c.args.selected.report
-    (IsComparing g.S.Shelf g.T.Shelf c.args.first_list.now c.args.second_list.now c.in-Ok.selection
+    (IsComparing g.S.Shelf g.T.Shelf c.args.lists.first.now c.args.lists.second.now c.in-Ok.selection
     c.args.first_shelf.now c.answer_selection.new.first_shelf c.args.second_shelf.now
     c.answer_selection.new.second_shelf)
-    (ComparesBy g.S.Shelf g.T.Shelf (selected_of c.args.selected) c.args.first_list.now c.args.second_list.now
+    (ComparesBy g.S.Shelf g.T.Shelf (selected_of c.args.selected) c.args.lists.first.now c.args.lists.second.now
     c.args.first_shelf.now c.answer_selection.new.first_shelf c.args.second_shelf.now
     c.answer_selection.new.second_shelf)
-    g.O.Console c.args.out.now c.answer_selection.new.out c.answer_selection.result
+    g.O.Console c.args.terminal.now.out.now c.answer_selection.new.terminal.out.now c.answer_selection.result
     (λ outcome comparing. record { selection = c.in-Ok.selection; read = search rules; comparing = comparing })
     c.answer_selection.ensures.compared

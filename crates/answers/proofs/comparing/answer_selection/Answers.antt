@@ -20,11 +20,11 @@ compared_by false call out old new status outcome called ended printed refused =
 
 pub returns-in-Ok-clause-compared : goal.returns-in-Ok-clause-compared
 returns-in-Ok-clause-compared g c =
-    compared_by c.args.is_report _ g.O.Console c.args.out.now c.put_done.new.out c.put_done.result
+    compared_by c.args.choice.now.is_report _ g.O.Console c.args.terminal.now.out.now c.put_done.new.terminal.out.now c.put_done.result
     (Ok c.in-Ok.compared) c.in-Ok.ensures c.put_done.ensures.status c.put_done.ensures.printed tt
 
 pub returns-in-Err-clause-compared : goal.returns-in-Err-clause-compared
 returns-in-Err-clause-compared g c =
-    compared_by c.args.is_report _ g.O.Console c.args.out.now c.put_refusal_of_two.new.out 1
+    compared_by c.args.choice.now.is_report _ g.O.Console c.args.terminal.now.out.now c.put_refusal_of_two.new.out 1
     (Err c.in-Err.fault) c.in-Err.ensures refl (λ plain. c.put_refusal_of_two.ensures)
     c.put_refusal_of_two.ensures

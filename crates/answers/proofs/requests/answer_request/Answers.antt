@@ -15,30 +15,30 @@ use Rattle.answers.proofs.requests.answer_request.Goals as goal
 pub returns-in-Consolidate-clause-consolidated : goal.returns-in-Consolidate-clause-consolidated
 returns-in-Consolidate-clause-consolidated g c place media target handle report request =
     let leave : Leaving = left_by (λ pass. (goal.Pass-dyn g (pass.vtable, pass.value)).looking pass.value)
-    (λ pass. (goal.Pass-dyn g (pass.vtable, pass.value)).gives pass.value) c.args.passes.items in
+    (λ pass. (goal.Pass-dyn g (pass.vtable, pass.value)).gives pass.value) c.args.command.passes.items in
     let fields = consolidate_fields _ _ _ c.in-Consolidate.handle c.in-Consolidate.report place media target handle
     report
     (ap Some (ap asked_of (sym c.in-Consolidate.is) ∙ request)) in
     subst (λ (told : MediaReport). IsAnswered (IsConsolidation g.S.Shelf g.B.Bench leave c.args.list.now handle (asking told c.args.list.now)
     c.args.shelf.now c.answer_consolidate.new.shelf c.args.bench.now c.answer_consolidate.new.bench) written_lines
-    g.O.Console c.args.out.now c.answer_consolidate.new.out c.answer_consolidate.result) fields.4
+    g.O.Console c.args.terminal.now.out.now c.answer_consolidate.new.terminal.out.now c.answer_consolidate.result) fields.4
     (subst (λ (frames : ℕ). IsAnswered (IsConsolidation g.S.Shelf g.B.Bench leave c.args.list.now frames
     (asking c.in-Consolidate.report c.args.list.now)
     c.args.shelf.now c.answer_consolidate.new.shelf c.args.bench.now c.answer_consolidate.new.bench) written_lines
-    g.O.Console c.args.out.now c.answer_consolidate.new.out c.answer_consolidate.result)
+    g.O.Console c.args.terminal.now.out.now c.answer_consolidate.new.terminal.out.now c.answer_consolidate.result)
     fields.3 (subst (λ (asked : Option AskedReport). IsAnswered (IsConsolidation g.S.Shelf g.B.Bench leave
     c.args.list.now c.in-Consolidate.handle asked
     c.args.shelf.now c.answer_consolidate.new.shelf c.args.bench.now c.answer_consolidate.new.bench) written_lines
-    g.O.Console c.args.out.now c.answer_consolidate.new.out c.answer_consolidate.result)
-    (c.asked_for-asked.ensures c.args.list.now) c.answer_consolidate.ensures.answered))
+    g.O.Console c.args.terminal.now.out.now c.answer_consolidate.new.terminal.out.now c.answer_consolidate.result)
+    (c.asked_for.ensures c.args.list.now) c.answer_consolidate.ensures.answered))
 
 pub returns-in-Consolidate-clause-standard : goal.returns-in-Consolidate-clause-standard
 returns-in-Consolidate-clause-standard g c are place media target handle report request =
     subst (λ (leave : Leaving). IsAnswered (IsConsolidation g.S.Shelf g.B.Bench leave c.args.list.now handle
     (asking report c.args.list.now) c.args.shelf.now c.answer_consolidate.new.shelf c.args.bench.now c.answer_consolidate.new.bench)
     written_lines
-    g.O.Console c.args.out.now c.answer_consolidate.new.out c.answer_consolidate.result)
-    (standard_left _ _ c.args.passes.items are)
+    g.O.Console c.args.terminal.now.out.now c.answer_consolidate.new.terminal.out.now c.answer_consolidate.result)
+    (standard_left _ _ c.args.command.passes.items are)
     (returns-in-Consolidate-clause-consolidated g c place media target handle report request)
 
 pub returns-in-Show-clause-bad_time_shown : goal.returns-in-Show-clause-bad_time_shown
@@ -48,5 +48,5 @@ returns-in-Show-clause-bad_time_shown g c place media handle drawn option reques
 
 pub returns-in-Show-clause-mistake : goal.returns-in-Show-clause-mistake
 returns-in-Show-clause-mistake g c = λ two.
-    subst (λ (asked : Asked). MayBeMistaken g.E.Console c.args.err.now c.answer_picture.new.err
+    subst (λ (asked : Asked). MayBeMistaken g.E.Console c.args.terminal.now.err.now c.answer_picture.new.terminal.err.now
     (rate_of c.args.list.now) asked) (ap asked_of (sym c.in-Show.is)) (c.answer_picture.ensures.mistake two)

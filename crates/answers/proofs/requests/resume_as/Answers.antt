@@ -1,7 +1,7 @@
 use Rattle.answers.proofs.requests.resume_as.Goals as goal
 
-pub returns-then-is_reported : goal.returns-then-is_reported
-returns-then-is_reported g c = rw c.if-is_reported.true c.resume_reported.ensures
+pub returns-then-wanted : goal.returns-then-wanted
+returns-then-wanted g c = rw c.if-wanted.true c.resume_reported.ensures
 
-pub returns-else-is_reported : goal.returns-else-is_reported
-returns-else-is_reported g c = rw c.if-is_reported.false c.resume_watched.ensures.resumes
+pub returns-else-wanted : goal.returns-else-wanted
+returns-else-wanted g c = rw c.if-wanted.false c.resume_watched.ensures.resumes

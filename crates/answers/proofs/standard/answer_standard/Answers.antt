@@ -48,6 +48,7 @@ returns-in_ok-passes-in-Consolidate-clause-consolidated g c place media target h
 
 pub returns-in-Check : goal.returns-in-Check
 returns-in-Check g c = record {
+  consoles = c.answer_request-in-Check.ensures.consoles;
   rendered = c.answer_request-in-Check.ensures.rendered;
   resumed = c.answer_request-in-Check.ensures.resumed;
   consolidated = λ place media target handle report request. absurd (elim c.in-Check.is [

@@ -11,21 +11,6 @@ use Rattle.answers.proofs.words.answer.Goals as goal
 asked_same : (one other : Asked) → Some one ≡ Some other → one ≡ other
 asked_same one other same = cc
 
-pub returns-clause-rendered : goal.returns-clause-rendered
-returns-clause-rendered g c place media target chosen request well =
-    c.answer_request.ensures.rendered place media target chosen
-    (asked_same _ _ (sym c.in-Ok.ensures.read ∙ request)) well
-
-pub returns-clause-resumed : goal.returns-clause-resumed
-returns-clause-resumed g c place media target chosen request well =
-    c.answer_request.ensures.resumed place media target chosen
-    (asked_same _ _ (sym c.in-Ok.ensures.read ∙ request)) well
-
-pub returns-clause-consolidated : goal.returns-clause-consolidated
-returns-clause-consolidated g c place media target handle report request well =
-    c.answer_request.ensures.consolidated place media target handle report
-    (asked_same _ _ (sym c.in-Ok.ensures.read ∙ request))
-
 pub returns-in-Err-clause-mistake : goal.returns-in-Err-clause-mistake
 returns-in-Err-clause-mistake g c = λ two.
     mistaken_words
@@ -38,6 +23,10 @@ pub returns-then-parsed-clause-mistake : goal.returns-then-parsed-clause-mistake
 returns-then-parsed-clause-mistake g c = λ two.
     inr (inl (asked_of c.in-Ok.parsed.request, c.in-Ok.ensures.read, inr (sym c.in-Ok.ensures.verify ∙ c.if-parsed.true)))
 
-pub returns-clause-mistake : goal.returns-clause-mistake
-returns-clause-mistake g c = λ two.
-    inr (inl (asked_of c.in-Ok.parsed.request, c.in-Ok.ensures.read, inl (c.answer_request.ensures.mistake two)))
+pub returns-clause-consolidated : goal.returns-clause-consolidated
+returns-clause-consolidated g c place media target handle report request well =
+    let same : c.out-1.given.0 ≡ c.answer_request.new.terminal.out.now =
+    c.out-1.given.1 (sym c.answer_request.ensures.consoles.0) in
+    rw same
+    (c.answer_request.ensures.consolidated place media target handle report
+    (asked_same _ _ (sym c.in-Ok.ensures.read ∙ request)))
