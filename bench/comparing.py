@@ -36,12 +36,16 @@ def compare_job(bench: Bench, text: Path, other: Path) -> Job:
     return Job([bench.program, "compare", text, bench.media(), other, other.parent])
 
 
+def cmp_of_copy(bench: Bench) -> Job:
+    return Job(["cmp", bench.media() / "A.wav", bench.folder / "B.wav"])
+
+
 def mix_line(bench: Bench, name: str, cuts: list) -> str:
     """A mix compared with its consolidation; beside it `cmp` of the source with a copy."""
     text = bench.put(list_text(cuts, channels="1~2"))
     jobs = {
         "compare": compare_job(bench, text, consolidated(bench, text)),
-        "cmp": Job(["cmp", bench.media() / "A.wav", bench.folder / "B.wav"]),
+        "cmp": cmp_of_copy(bench),
     }
     costs = bench.costs_of(jobs)
     shutil.rmtree(new_folder(bench))
@@ -65,19 +69,26 @@ def output_of(words: list) -> str:
     return subprocess.run(words, capture_output=True, text=True).stdout
 
 
+def other_line(bench: Bench, other: Path, name: str, wanted: str, told: str, cmp: Job) -> str:
+    """The whole file compared with the one in another folder, which has to be answered so; and beside it `cmp`."""
+    text = bench.put(list_text([Cut(0, 0, FRAMES)], channels="1~2"))
+    words = [bench.program, "compare", text, bench.media(), text, other]
+    found = output_of(words)
+    if found != f"{wanted}\n":
+        sys.exit(f"bench: {told}, and compare says {found}")
+    status = 0 if wanted.startswith("same") else 1
+    costs = bench.costs_of({"compare": Job(words, status=status), "cmp": cmp})
+    shutil.rmtree(other)
+    return line(f"`compare`: {name}", costs["compare"], (costs["cmp"],))
+
+
 def other_depth(bench: Bench, bits: int) -> str:
     """The same sound in a file of other bits, whose bytes are others; beside it `cmp` of the source with a copy."""
     other = other_media(bench)
     make_sound(other / "A.wav", block_of(SECOND, 2, bits), SECONDS, 2, bits)
-    text = bench.put(list_text([Cut(0, 0, FRAMES)], channels="1~2"))
-    words = [bench.program, "compare", text, bench.media(), text, other]
-    found = output_of(words)
-    if found != f"same {FRAMES} frames 2 channels\n":
-        sys.exit(f"bench: the sound is the same at {bits} bits, and compare says {found}")
-    costs = bench.costs_of({
-        "compare": Job(words), "cmp": Job(["cmp", bench.media() / "A.wav", bench.folder / "B.wav"])})
-    shutil.rmtree(other)
-    return line(f"`compare`: one file and the same sound at {bits} bits", costs["compare"], (costs["cmp"],))
+    return other_line(
+        bench, other, f"one file and the same sound at {bits} bits", f"same {FRAMES} frames 2 channels",
+        f"the sound is the same at {bits} bits", cmp_of_copy(bench))
 
 
 def all_counted(bench: Bench) -> str:
@@ -85,15 +96,9 @@ def all_counted(bench: Bench) -> str:
     other = other_media(bench)
     block = block_of(*BLOCK)
     make_sound(other / "A.wav", block[6:] + block[:6], SECONDS, 2, 24)
-    text = bench.put(list_text([Cut(0, 0, FRAMES)], channels="1~2"))
-    words = [bench.program, "compare", text, bench.media(), text, other]
-    found = output_of(words)
-    if found != "differ at 00.00.00.00/0000 channel 1\n":
-        sys.exit(f"bench: the first sample differs, and compare says {found}")
-    costs = bench.costs_of({
-        "compare": Job(words, status=1), "cmp": Job(["cmp", bench.media() / "A.wav", bench.folder / "B.wav"])})
-    shutil.rmtree(other)
-    return line("`compare`: each sample differs, and is counted", costs["compare"], (costs["cmp"],))
+    return other_line(
+        bench, other, "each sample differs, and is counted", "differ at 00.00.00.00/0000 channel 1",
+        "the first sample differs", cmp_of_copy(bench))
 
 
 def last_sample(bench: Bench) -> str:
@@ -103,15 +108,9 @@ def last_sample(bench: Bench) -> str:
     with (other / "A.wav").open("r+b") as file:
         file.seek(-1, 2)
         file.write(b"\x55")
-    text = bench.put(list_text([Cut(0, 0, FRAMES)], channels="1~2"))
-    words = [bench.program, "compare", text, bench.media(), text, other]
-    found = output_of(words)
-    if found != "differ at 00.29.59.24/1919 channel 2\n":
-        sys.exit(f"bench: the last sample differs, and compare says {found}")
-    costs = bench.costs_of({
-        "compare": Job(words, status=1), "cmp": Job(["cmp", bench.media() / "A.wav", other / "A.wav"], status=1)})
-    shutil.rmtree(other)
-    return line("`compare`: the last sample differs", costs["compare"], (costs["cmp"],))
+    cmp = Job(["cmp", bench.media() / "A.wav", other / "A.wav"], status=1)
+    return other_line(
+        bench, other, "the last sample differs", "differ at 00.29.59.24/1919 channel 2", "the last sample differs", cmp)
 
 
 def lines(bench: Bench) -> list:

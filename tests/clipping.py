@@ -7,10 +7,13 @@ import subprocess
 
 import model
 from harness import (
-    LIST, MEDIA, OUT, TIMEOUT, Mismatch, Scene, Skipped, Suite, expect_answer, preloaded, same, same_outcome,
+    LIST, MEDIA, OUT, TIMEOUT, Cases, Mismatch, Scene, Skipped, expect_answer, preloaded, same, same_outcome,
 )
 from model import BLOCK
 from tables import data_chunk, format_chunk, riff_file
+
+case = Cases()
+run = case.run
 
 MIDNIGHT = b"00.00.00.00/0000"
 LAYERS = 40
@@ -47,6 +50,7 @@ def expect_line(scene: Scene, text: bytes, samples: list, line: str, options: mo
     expect_answer(scene, "render", wanted, options)
 
 
+@case("full scale isn't clipped")
 def at_full_scale(scene: Scene) -> None:
     """The ends of a depth themselves aren't clipped, whether bytes go straight through or are summed."""
     samples = [TOP, -TOP - 1, 0, 5]
@@ -55,6 +59,7 @@ def at_full_scale(scene: Scene) -> None:
     expect_line(scene, layered(1, 4), samples, "", model.Options(depth=32))
 
 
+@case("one more than full scale is clipped")
 def one_more(scene: Scene) -> None:
     """One above full scale is, and one below it; the first is named by its time and channel."""
     samples = [1, 1, 2 ** 22, 5, 2, -2 ** 22 - 1, -2 ** 22, 2 ** 22 - 1]
@@ -64,6 +69,7 @@ def one_more(scene: Scene) -> None:
     expect_line(scene, layered(2, 4, 2, 3600 * SECOND), samples, line, model.Options(depth=24), 2)
 
 
+@case("what is rounded above full scale is clipped")
 def rounded_up(scene: Scene) -> None:
     """What is below full scale and rounded above it is clipped at the depth that it is rounded to."""
     line = (
@@ -72,6 +78,7 @@ def rounded_up(scene: Scene) -> None:
     expect_line(scene, layered(1, 4), [0, 1, TOP, -TOP - 1], line, model.Options(depth=16))
 
 
+@case("the last sample of the last block is clipped")
 def in_the_last_block(scene: Scene) -> None:
     """The last sample of a last block that is short, of a rendering of several jobs of many blocks."""
     frames = 70 * BLOCK + 9
@@ -91,6 +98,7 @@ def peak_counts(path) -> list:
     return [round(float(count)) for count in re.findall(r"Peak count: ([0-9.]+)", done.stderr)[:2]]
 
 
+@case("as many samples are clipped as ffmpeg counts")
 def as_ffmpeg_counts(scene: Scene) -> None:
     """Forty layers of a tone: the samples at the ends of 24 bits, none of which is there unclipped."""
     frames = 10 * SECOND
@@ -104,6 +112,7 @@ def as_ffmpeg_counts(scene: Scene) -> None:
     same("the count", int(told[1]), sum(peak_counts(scene.folder / OUT / "render.wav")))
 
 
+@case("a resumed rendering speaks of its own blocks")
 def resumed(scene: Scene) -> None:
     """A rendering that was stopped speaks of the blocks that it rendered itself: those that weren't marked."""
     blocks = 80
@@ -123,12 +132,3 @@ def resumed(scene: Scene) -> None:
             "channel 1; the loudest sum is 0.0 dB above full scale (of the blocks that were rendered now)\n")
         same_outcome(
             got, 0, f"resumed {blocks * BLOCK} frames {marked} blocks were marked", clipped=line if rest else "")
-
-
-def run(suite: Suite) -> None:
-    suite.case("full scale isn't clipped", at_full_scale)
-    suite.case("one more than full scale is clipped", one_more)
-    suite.case("what is rounded above full scale is clipped", rounded_up)
-    suite.case("the last sample of the last block is clipped", in_the_last_block)
-    suite.case("as many samples are clipped as ffmpeg counts", as_ffmpeg_counts)
-    suite.case("a resumed rendering speaks of its own blocks", resumed)

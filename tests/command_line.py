@@ -1,7 +1,10 @@
 """The words of the command line: the stored run, faults of the words, help."""
 
-from harness import LIST, MEDIA, OUT, Mismatch, Outcome, Scene, Suite, same, same_files
+from harness import LIST, MEDIA, OUT, Cases, Mismatch, Outcome, Scene, same, same_files
 from tables import FIRST_LIST, rendered_files, wave
+
+case = Cases()
+run = case.run
 
 STORED_RUN = b"698 bytes: 1000 -1000 32767 -32768\n"
 
@@ -67,33 +70,38 @@ def prepared(scene: Scene) -> None:
     scene.put(FIRST_LIST, {"A.wav": wave()})
 
 
-def stored_run(scene: Scene) -> None:
-    same("the stored run", scene.run(), Outcome(0, STORED_RUN, b""))
+@case("forms of options")
+def option_forms(scene: Scene) -> None:
+    """A number may have a plus, an option its value behind `=`, and options may stand anywhere."""
+    prepared(scene)
+    for words in (
+        ("render", "--depth=16", LIST, MEDIA, OUT, "--channels", "+1"), ("render", LIST, "--depth", "16", MEDIA, OUT),
+        ("render", LIST, MEDIA, OUT, "--depth", "16", "--order", "time"),
+        ("render", "--order=source", LIST, MEDIA, OUT, "--depth", "16"),
+        ("render", LIST, MEDIA, OUT, "--depth", "16", "--from=01.00.00.00/0000", "--to", "01:00|00,00=0004"),
+    ):
+        same(f"the answer of {words}", scene.run(*words), Outcome(0, b"rendered 4 frames 1 channels\n", b""))
+        same_files(scene.files(), rendered_files())
+        scene.empty_out()
 
 
-def mistake(words: tuple):
-    def body(scene: Scene) -> None:
-        prepared(scene)
-        before = sorted(path.name for path in scene.folder.iterdir())
-        got = scene.run(*words)
-        same("the status and standard output", (got.status, got.output), (2, b""))
-        if not got.error.strip():
-            raise Mismatch("nothing on standard error")
-        same_files(scene.files(), {})
-        same("the folder", sorted(path.name for path in scene.folder.iterdir()), before)
-    return body
-
-
-def shown(scene: Scene) -> None:
-    """Help and version are printed, in 80 columns, and nothing is done."""
-    for words in SHOWN:
-        got = scene.run(*words)
-        same(f"status and standard error of {words}", (got.status, got.error), (0, b""))
-        if not got.output.strip() or max(map(len, got.output.splitlines())) > 80:
-            raise Mismatch(f"{words} prints {got.output!r}")
-    for words in SHOWN[2:9]:
-        if b"Example" not in scene.run(*words).output:
-            raise Mismatch(f"{words} shows no example")
+@case("times that can't be read")
+def bad_times(scene: Scene) -> None:
+    """A time that can't be read is told before all faults in the list, and behind places that can't be used."""
+    good, bad = "01.00.00.00/0000", ("1", "", "24.00.00.00/0001", "00.00.00.25/0000", "00.00.00.00/1920")
+    for text in (FIRST_LIST, b"no list"):
+        scene.put(text, {"A.wav": wave()})
+        for time in bad:
+            for option, words in (
+                ("--from", (f"--from={time}",)), ("--to", (f"--to={time}",)),
+                ("--to", ("--from", good, f"--to={time}")), ("--from", (f"--to={time}", f"--from={time}")),
+            ):
+                got = scene.run("render", LIST, MEDIA, OUT, *words)
+                same(f"the answer of {words}", got, Outcome(2, b"", f"bad time: {option}\n".encode()))
+    same_files(scene.files(), {})
+    full = scene.run("render", LIST, MEDIA, MEDIA, "--from=1")
+    same("the output first", full.output, f"refused 20 at file {MEDIA}\n".encode())
+    same("the list first", scene.run("render", "none", MEDIA, OUT, "--from=1").output, b"refused 21 at file none\n")
 
 
 HELP = """Checks, consolidates and renders audio decision lists (AES31-3) over WAVE files
@@ -198,23 +206,7 @@ For more information, try '--help'.
 """
 
 
-BAD_DEPTH = """error: a depth is 16, 24 or 32
-
-Usage: adlcons %s [OPTIONS] <LIST> <MEDIA> <OUT>
-
-For more information, try '--help'.
-"""
-
-
-def bad_values(scene: Scene) -> None:
-    """A mistake in a value shows the usage of its command."""
-    for command in ("render", "resume"):
-        got = scene.run(command, LIST, MEDIA, OUT, "--depth", "20")
-        same("the mistake", got, Outcome(2, b"", (BAD_DEPTH % command).encode()))
-    got = scene.run("explain", "13", "46")
-    same("of an explanation", b"Usage: adlcons explain [WHAT] [NUMBER]\n" in got.error, True)
-
-
+@case("the texts of help and mistakes")
 def texts(scene: Scene) -> None:
     """What help, the version and mistakes say."""
     for words, text in (
@@ -227,6 +219,60 @@ def texts(scene: Scene) -> None:
         same(f"the mistake of {words}", scene.run(*words).error.decode(), text)
 
 
+BAD_DEPTH = """error: a depth is 16, 24 or 32
+
+Usage: adlcons %s [OPTIONS] <LIST> <MEDIA> <OUT>
+
+For more information, try '--help'.
+"""
+
+
+@case("a mistake in a value")
+def bad_values(scene: Scene) -> None:
+    """A mistake in a value shows the usage of its command."""
+    for command in ("render", "resume"):
+        got = scene.run(command, LIST, MEDIA, OUT, "--depth", "20")
+        same("the mistake", got, Outcome(2, b"", (BAD_DEPTH % command).encode()))
+    got = scene.run("explain", "13", "46")
+    same("of an explanation", b"Usage: adlcons explain [WHAT] [NUMBER]\n" in got.error, True)
+
+
+@case("no words: the stored run")
+def stored_run(scene: Scene) -> None:
+    same("the stored run", scene.run(), Outcome(0, STORED_RUN, b""))
+
+
+def mistake(words: tuple):
+    def body(scene: Scene) -> None:
+        prepared(scene)
+        before = sorted(path.name for path in scene.folder.iterdir())
+        got = scene.run(*words)
+        same("the status and standard output", (got.status, got.output), (2, b""))
+        if not got.error.strip():
+            raise Mismatch("nothing on standard error")
+        same_files(scene.files(), {})
+        same("the folder", sorted(path.name for path in scene.folder.iterdir()), before)
+    return body
+
+
+for name, words in MISTAKES.items():
+    case.add(f"words: {name}", mistake(words))
+
+
+@case("help and version")
+def shown(scene: Scene) -> None:
+    """Help and version are printed, in 80 columns, and nothing is done."""
+    for words in SHOWN:
+        got = scene.run(*words)
+        same(f"status and standard error of {words}", (got.status, got.error), (0, b""))
+        if not got.output.strip() or max(map(len, got.output.splitlines())) > 80:
+            raise Mismatch(f"{words} prints {got.output!r}")
+    for words in SHOWN[2:9]:
+        if b"Example" not in scene.run(*words).output:
+            raise Mismatch(f"{words} shows no example")
+
+
+@case("help beside other words")
 def help_beside_words(scene: Scene) -> None:
     """Where help is asked for, nothing else is done."""
     prepared(scene)
@@ -235,54 +281,10 @@ def help_beside_words(scene: Scene) -> None:
     same_files(scene.files(), {})
 
 
+@case("a path behind --")
 def words_behind_dashes(scene: Scene) -> None:
     """Behind `--` a word that begins with a dash is a path."""
     prepared(scene)
     (scene.folder / "--list").write_bytes(FIRST_LIST)
     got = scene.run("render", "--depth", "16", "--", "--list", MEDIA, OUT)
     same("the answer", got, Outcome(0, b"rendered 4 frames 1 channels\n", b""))
-
-
-def option_forms(scene: Scene) -> None:
-    """A number may have a plus, an option its value behind `=`, and options may stand anywhere."""
-    prepared(scene)
-    for words in (
-        ("render", "--depth=16", LIST, MEDIA, OUT, "--channels", "+1"), ("render", LIST, "--depth", "16", MEDIA, OUT),
-        ("render", LIST, MEDIA, OUT, "--depth", "16", "--order", "time"),
-        ("render", "--order=source", LIST, MEDIA, OUT, "--depth", "16"),
-        ("render", LIST, MEDIA, OUT, "--depth", "16", "--from=01.00.00.00/0000", "--to", "01:00|00,00=0004"),
-    ):
-        same(f"the answer of {words}", scene.run(*words), Outcome(0, b"rendered 4 frames 1 channels\n", b""))
-        same_files(scene.files(), rendered_files())
-        scene.empty_out()
-
-
-def bad_times(scene: Scene) -> None:
-    """A time that can't be read is told before all faults in the list, and behind places that can't be used."""
-    good, bad = "01.00.00.00/0000", ("1", "", "24.00.00.00/0001", "00.00.00.25/0000", "00.00.00.00/1920")
-    for text in (FIRST_LIST, b"no list"):
-        scene.put(text, {"A.wav": wave()})
-        for time in bad:
-            for option, words in (
-                ("--from", (f"--from={time}",)), ("--to", (f"--to={time}",)),
-                ("--to", ("--from", good, f"--to={time}")), ("--from", (f"--to={time}", f"--from={time}")),
-            ):
-                got = scene.run("render", LIST, MEDIA, OUT, *words)
-                same(f"the answer of {words}", got, Outcome(2, b"", f"bad time: {option}\n".encode()))
-    same_files(scene.files(), {})
-    full = scene.run("render", LIST, MEDIA, MEDIA, "--from=1")
-    same("the output first", full.output, f"refused 20 at file {MEDIA}\n".encode())
-    same("the list first", scene.run("render", "none", MEDIA, OUT, "--from=1").output, b"refused 21 at file none\n")
-
-
-def run(suite: Suite) -> None:
-    suite.case("forms of options", option_forms)
-    suite.case("times that can't be read", bad_times)
-    suite.case("the texts of help and mistakes", texts)
-    suite.case("a mistake in a value", bad_values)
-    suite.case("no words: the stored run", stored_run)
-    for name, words in MISTAKES.items():
-        suite.case(f"words: {name}", mistake(words))
-    suite.case("help and version", shown)
-    suite.case("help beside other words", help_beside_words)
-    suite.case("a path behind --", words_behind_dashes)

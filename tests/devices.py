@@ -9,10 +9,13 @@ from typing import Callable
 
 import model
 from harness import (
-    LIST, MEDIA, OUT, TIMEOUT, Mismatch, Outcome, Scene, Skipped, Suite, preloaded, same, same_bytes, same_files,
+    LIST, MEDIA, OUT, TIMEOUT, Cases, Mismatch, Outcome, Scene, Skipped, preloaded, same, same_bytes, same_files,
     same_outcome, words_of,
 )
 from tables import FIRST_LIST, rendered_bytes, size_changed, wave
+
+case = Cases()
+run = case.run
 
 NOBODY = 65534
 RENDER = words_of("render", model.Options(depth=16))
@@ -55,6 +58,12 @@ def unreadable(path: str, line: str):
     return body
 
 
+case.add("a source that can't be read", unreadable(f"{MEDIA}/A.wav", "refused 22 at index 1 file A.wav"))
+case.add("a list that can't be read", unreadable(LIST, f"refused 21 at file {LIST}"))
+case.add("an output that can't be listed", unreadable(OUT, f"refused 20 at file {OUT}"))
+
+
+@case("an output that can't be written")
 def unwritable_output(scene: Scene) -> None:
     prepared(scene)
     how = as_other_user(scene)
@@ -64,6 +73,7 @@ def unwritable_output(scene: Scene) -> None:
     same_files(scene.files(), {})
 
 
+@case("a source that is a folder")
 def source_is_folder(scene: Scene) -> None:
     """It is there, and no device reads it as a file."""
     scene.put(FIRST_LIST)
@@ -108,6 +118,11 @@ def limited(command: str, name: str):
     return body
 
 
+case.add("a limit of size, rendered", limited("render", "render.wav"))
+case.add("a limit of size, consolidated", limited("consolidate", "M00001.wav"))
+
+
+@case("a limit of size at the list")
 def limited_list(scene: Scene) -> None:
     """All media are whole, and the list, which is longer than each of them, isn't."""
     text = model.list_text(
@@ -160,6 +175,7 @@ def memory_limit(size: int) -> dict:
     return {"preexec_fn": partial(resource.setrlimit, resource.RLIMIT_AS, (size, size))}
 
 
+@case("no memory for the list")
 def no_memory_for_list(scene: Scene) -> None:
     prepared(scene)
     got = scene.run("render", "-", MEDIA, OUT, given=b"<ADL>\n" + bytes(MEMORY), **memory_limit(MEMORY))
@@ -177,6 +193,7 @@ def put_long_silence(scene: Scene) -> None:
     scene.put(text, {"A.wav": wave()})
 
 
+@case("the memory of a long rendering")
 def memory_of_long_rendering(scene: Scene) -> None:
     """A rendering is made in blocks: it takes no memory that grows with its range."""
     put_long_silence(scene)
@@ -185,6 +202,7 @@ def memory_of_long_rendering(scene: Scene) -> None:
     same("the written bytes", (scene.folder / OUT / "render.wav").stat().st_size, 690 + 2 * LONG)
 
 
+@case("a long file is laid out as a hole")
 def laid_out_as_a_hole(scene: Scene) -> None:
     """A file is laid out by few writes, and takes no room before its samples come."""
     put_long_silence(scene)
@@ -199,6 +217,7 @@ def laid_out_as_a_hole(scene: Scene) -> None:
     raise Mismatch(f"it has {found.st_size} bytes after {writes} writes")
 
 
+@case("an append that breaks off")
 def broken_append(scene: Scene) -> None:
     """What is appended behind an append that broke off for want of room stands behind what was written of that."""
     if not TRIALS.exists():
@@ -212,6 +231,7 @@ def broken_append(scene: Scene) -> None:
         same(f"what is told of {room} bytes", (done.returncode, told in done.stdout), (0, True))
 
 
+@case("the memory of a long consolidation")
 def memory_of_long_consolidation(scene: Scene) -> None:
     """A source of 100 MB, silent but for its last sample, is searched and copied in blocks."""
     size = 2 * LONG
@@ -231,11 +251,18 @@ def memory_of_long_consolidation(scene: Scene) -> None:
         same("the last sample", file.read(), b"\0\1")
 
 
+case.add("a full disk, rendered", on_small_disk(full_disk_rendered))
+case.add("a full disk, consolidated", on_small_disk(full_disk_consolidated))
+
+
 UNPRINTED = b"error: standard output can't be written\n"
 
 
+@case("standard output is full")
 def unprinted(scene: Scene) -> None:
     """A line that can't be printed changes neither the files nor the status, and is told."""
+    if not Path("/dev/full").exists():
+        raise Skipped("there is no /dev/full here")
     prepared(scene)
     with Path("/dev/full").open("wb") as full:
         got = scene.run(*RENDER, stdout=full)
@@ -247,32 +274,10 @@ def unprinted(scene: Scene) -> None:
         same("a refusal that can't be printed", (got.status, got.error.endswith(UNPRINTED)), (1, True))
 
 
+@case("standard output is closed")
 def closed_outputs(scene: Scene) -> None:
     """Without standard output and standard error the files are the same, and hold nothing that was printed."""
     prepared(scene)
     got = scene.run(*RENDER, preexec_fn=lambda: (os.close(1), os.close(2)))
     same("the status", got.status, 0)
     same_bytes("render.wav", scene.files()["render.wav"], rendered_bytes())
-
-
-def run(suite: Suite) -> None:
-    suite.case("a source that can't be read", unreadable(f"{MEDIA}/A.wav", "refused 22 at index 1 file A.wav"))
-    suite.case("a list that can't be read", unreadable(LIST, f"refused 21 at file {LIST}"))
-    suite.case("an output that can't be listed", unreadable(OUT, f"refused 20 at file {OUT}"))
-    suite.case("an output that can't be written", unwritable_output)
-    suite.case("a source that is a folder", source_is_folder)
-    suite.case("a limit of size, rendered", limited("render", "render.wav"))
-    suite.case("a limit of size, consolidated", limited("consolidate", "M00001.wav"))
-    suite.case("a limit of size at the list", limited_list)
-    suite.case("no memory for the list", no_memory_for_list)
-    suite.case("the memory of a long rendering", memory_of_long_rendering)
-    suite.case("a long file is laid out as a hole", laid_out_as_a_hole)
-    suite.case("an append that breaks off", broken_append)
-    suite.case("the memory of a long consolidation", memory_of_long_consolidation)
-    suite.case("a full disk, rendered", on_small_disk(full_disk_rendered))
-    suite.case("a full disk, consolidated", on_small_disk(full_disk_consolidated))
-    if Path("/dev/full").exists():
-        suite.case("standard output is full", unprinted)
-    else:
-        suite.skip("standard output is full", "there is no /dev/full here")
-    suite.case("standard output is closed", closed_outputs)

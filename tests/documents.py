@@ -10,8 +10,11 @@ from functools import lru_cache
 from pathlib import Path
 
 import citing
-from harness import LIST, MEDIA, OUT, Mismatch, Scene, Skipped, Suite, same, same_bytes
+from harness import LIST, MEDIA, OUT, Cases, Mismatch, Scene, Skipped, same, same_bytes
 from tables import FIRST_LIST, wave
+
+case = Cases()
+run = case.run
 
 TOP = Path(__file__).resolve().parent.parent
 DOCS = TOP / "docs"
@@ -34,6 +37,7 @@ def with_examples(scene: Scene) -> Path:
     return examples
 
 
+@case("the transcript of README.md")
 def transcript(scene: Scene) -> None:
     """The program answers the words of README's first block as it says there."""
     examples = with_examples(scene)
@@ -47,6 +51,7 @@ def transcript(scene: Scene) -> None:
         same(f"what {command} prints", done.stdout.decode(), f"{answer}\n")
 
 
+@case("the commands of MANY_MACHINES.md")
 def many_machines(scene: Scene) -> None:
     """The commands of the page make the same file."""
     if not shutil.which("make"):
@@ -61,12 +66,14 @@ def many_machines(scene: Scene) -> None:
     same_bytes("the joined file", joined.read_bytes(), alone.read_bytes())
 
 
+@case("the example of LIBRARY.md")
 def library_example(_: Scene) -> None:
     """The example for the programmer is the program's own file, which is compiled and run."""
     code = re.search(r"^```rust\n(.*?)^```$", (DOCS / "LIBRARY.md").read_text(), re.M | re.S)[1]
     same("the example", code, (TOP / "crates/adlcons/src/stored.rt").read_text().partition("\n")[2])
 
 
+@case("the reports of REPORT.md")
 def reports(scene: Scene) -> None:
     """The reports of REPORT.md are those of the first list, and of one with another sample."""
     scene.put(FIRST_LIST, {"A.wav": wave()})
@@ -82,6 +89,7 @@ def reports(scene: Scene) -> None:
     same("of a rendering", scene.files()["render.json"].decode(), rendered)
 
 
+@case("the batch of ARCHIVE.md")
 def batch(scene: Scene) -> None:
     """The batch of ARCHIVE.md makes again just the outputs that aren't finished, and notes the lists that are refused."""
     if not shutil.which("bash"):
@@ -129,6 +137,7 @@ def distinct(words: list) -> list:
     return list(dict.fromkeys(words))
 
 
+@case("the man page")
 def man_page(scene: Scene) -> None:
     """The page knows each command and each option that help names, and no other."""
     options = helped(scene)
@@ -143,6 +152,7 @@ def man_page(scene: Scene) -> None:
     same("the options that are told", told, distinct(sum(options.values(), [])))
 
 
+@case("man shows the page")
 def man_shows_page(_: Scene) -> None:
     if not shutil.which("man"):
         raise Skipped("man isn't installed (Debian package man-db)")
@@ -164,6 +174,7 @@ def completed(scene: Scene, *words: str) -> list:
     return done.stdout.decode().split()
 
 
+@case("the completion")
 def completion(scene: Scene) -> None:
     """Commands, options, files, folders and numbers are offered where they may stand."""
     if not shutil.which("bash"):
@@ -189,6 +200,7 @@ def completion(scene: Scene) -> None:
     same("the second media", completed(scene, "compare", "L.adl", "M", "L.adl", "O"), ["OUT"])
 
 
+@case("the files that pages name")
 def named_files(_: Scene) -> None:
     """Each file of this repository that a page names is there."""
     for page in PAGES:
@@ -249,6 +261,7 @@ def is_there(name: str) -> bool:
     return set(re.findall(r"\w+", name)) <= words_of_code()
 
 
+@case("the names of MAP.md and PROVED.md")
 def names_in_code(_: Scene) -> None:
     """Each name that MAP.md and PROVED.md quote is in the tree."""
     for page in (DOCS / "MAP.md", DOCS / "PROVED.md"):
@@ -258,6 +271,7 @@ def names_in_code(_: Scene) -> None:
                 raise Mismatch(f"{page.name} names {name}, which isn't there")
 
 
+@case("the names of CRATES.md")
 def names_in_crates(_: Scene) -> None:
     """CRATES.md has a part for each crate but those of tests. Each name that it quotes is in the tree, and each clause in
     parentheses is in that crate."""
@@ -292,6 +306,7 @@ def clauses_of(name: str) -> list:
     return re.findall(r"\bensures (\w+) \{", head[0]) if head else []
 
 
+@case("the promises of PROVED.md")
 def promises(_: Scene) -> None:
     """Each clause of a promise is one of each record and call of its row."""
     rows = [row[2:-2].split(" | ") for row in re.findall(r"^\| .* \|$", (DOCS / "PROVED.md").read_text(), re.M)]
@@ -305,6 +320,7 @@ def promises(_: Scene) -> None:
         raise Mismatch(f"PROVED.md has {len(rows)} promises in its tables")
 
 
+@case("the crates of README.md and MAP.md")
 def tables_of_crates(_: Scene) -> None:
     """README.md and MAP.md list each crate, with types and calls that it has, and no other; MAP.md draws no other."""
     for page, head in ((TOP / "README.md", "Where each promise is kept"), (DOCS / "MAP.md", "The crates")):
@@ -321,6 +337,7 @@ def tables_of_crates(_: Scene) -> None:
     same("what MAP.md draws that is no crate", sorted(drawn - set(citing.edges())), [])
 
 
+@case("the definitions of MAP.md")
 def map_of_definitions(_: Scene) -> None:
     """MAP.md lists each file of definitions once, with definitions that it has, and which crates cite it."""
     text = citing.MAP.read_text()
@@ -335,6 +352,7 @@ def map_of_definitions(_: Scene) -> None:
         same(f"the crates that cite {row[0]} (tests/citing.py writes them)", row[-1], wanted[-1])
 
 
+@case("the sum of PROOF.md")
 def worked_sum(_: Scene) -> None:
     """The crossfade that PROOF.md works out is that of its rules: a sound of 5 at 16 bits, over three samples."""
     rows = re.findall(r"^\| (\d) \|[^=]*= ([\d,]+) \|[^=]*= ([\d,]+) \| ([\d,]+) \| (\d+) \|$",
@@ -347,6 +365,7 @@ def worked_sum(_: Scene) -> None:
     same("how many samples are worked out", len(rows), 3)
 
 
+@case("the wrong bodies beside the gate")
 def wrong_bodies(_: Scene) -> None:
     """Each wrong body beside the gate changes a text that stands once in its crate."""
     for edit in sorted((TOP / "tests/wrong").glob("*/*.edit")):
@@ -360,22 +379,3 @@ def wrong_bodies(_: Scene) -> None:
                 old = rest
             elif word == "new":
                 text = text.replace(old, rest)
-
-
-def run(suite: Suite) -> None:
-    suite.case("the transcript of README.md", transcript)
-    suite.case("the commands of MANY_MACHINES.md", many_machines)
-    suite.case("the example of LIBRARY.md", library_example)
-    suite.case("the reports of REPORT.md", reports)
-    suite.case("the batch of ARCHIVE.md", batch)
-    suite.case("the man page", man_page)
-    suite.case("man shows the page", man_shows_page)
-    suite.case("the completion", completion)
-    suite.case("the files that pages name", named_files)
-    suite.case("the names of MAP.md and PROVED.md", names_in_code)
-    suite.case("the names of CRATES.md", names_in_crates)
-    suite.case("the promises of PROVED.md", promises)
-    suite.case("the crates of README.md and MAP.md", tables_of_crates)
-    suite.case("the definitions of MAP.md", map_of_definitions)
-    suite.case("the sum of PROOF.md", worked_sum)
-    suite.case("the wrong bodies beside the gate", wrong_bodies)

@@ -2,6 +2,8 @@
 
 import subprocess
 import sys
+import tempfile
+from functools import lru_cache
 from pathlib import Path
 
 import model
@@ -24,6 +26,13 @@ def made_media(target: Path) -> dict:
         example: {path.name: path.read_bytes() for path in (target / example / "media").iterdir()}
         for example in EXAMPLES
     }
+
+
+@lru_cache
+def media_of_examples() -> dict:
+    """The same, made once."""
+    with tempfile.TemporaryDirectory() as folder:
+        return made_media(Path(folder))
 
 
 def check_page(example: str, command: str, answer: model.Answer) -> None:
@@ -99,8 +108,7 @@ def overrun_mended(all_media: dict):
 
 
 def run(suite: Suite) -> None:
-    with suite.folder() as target:
-        all_media = made_media(target)
+    all_media = media_of_examples()
     for example in EXAMPLES:
         for command in model.COMMANDS:
             wanted = model.answer(command, text_of(example), all_media[example], EXAMPLES[example])

@@ -3,7 +3,10 @@
 import re
 from pathlib import Path
 
-from harness import Mismatch, Scene, Suite, same
+from harness import Cases, Mismatch, Scene, same
+
+case = Cases()
+run = case.run
 
 REFUSALS = Path(__file__).resolve().parent.parent / "docs" / "REFUSALS.md"
 
@@ -31,12 +34,14 @@ def meanings(text: str) -> list:
     return [tuple(each) for each in found]
 
 
+@case("all numbers are explained")
 def all_numbers(scene: Scene) -> None:
     told = meanings(scene.run("explain").output.decode())
     same("the numbers", sorted({number for number, *_ in told}), NUMBERS)
     same("their order", [number for number, *_ in told], sorted(number for number, *_ in told))
 
 
+@case("one number is explained")
 def one_number(scene: Scene) -> None:
     """Each number alone is what stands among all."""
     whole = scene.run("explain").output
@@ -50,6 +55,7 @@ def one_number(scene: Scene) -> None:
             raise Mismatch(f"{word!r} is answered with {got.error!r}")
 
 
+@case("the table of REFUSALS.md")
 def table_agrees(scene: Scene) -> None:
     """The table has just the numbers that are answered today, in the program's words."""
     rows = []
@@ -61,6 +67,7 @@ def table_agrees(scene: Scene) -> None:
     same("the table of REFUSALS.md", rows, [each[:3] for each in told if each[3]])
 
 
+@case("notices are explained")
 def notices(scene: Scene) -> None:
     """The notices are numbered from 1 to 7, and each alone is what stands among all."""
     whole = scene.run("explain", "notice").output
@@ -73,6 +80,7 @@ def notices(scene: Scene) -> None:
         same(f"status and output of {word!r}", (got.status, got.output), (2, b""))
 
 
+@case("explain alone")
 def without_folders(scene: Scene) -> None:
     """It looks at no file, and help names it."""
     same("the status", scene.run("explain", "46").status, 0)
@@ -80,11 +88,3 @@ def without_folders(scene: Scene) -> None:
     if b"adlcons explain" not in scene.run("--help").output:
         raise Mismatch("help doesn't name explain")
     same("the end of a mistake", scene.run("explain", "1", "2").status, 2)
-
-
-def run(suite: Suite) -> None:
-    suite.case("all numbers are explained", all_numbers)
-    suite.case("one number is explained", one_number)
-    suite.case("the table of REFUSALS.md", table_agrees)
-    suite.case("notices are explained", notices)
-    suite.case("explain alone", without_folders)

@@ -257,6 +257,27 @@ def meddled(scene: Scene, words: list, is_so: Callable[[], bool], meddle: Callab
     raise Mismatch(f"it is never so while {words} work")
 
 
+class Cases:
+    """The cases of a group, each a function under its name, in the order in which they stand in its file."""
+
+    def __init__(self):
+        self.bodies = []
+
+    def __call__(self, name: str):
+        """Makes a function the next case."""
+        def put(body: Callable[[Scene], None]) -> Callable[[Scene], None]:
+            self.add(name, body)
+            return body
+        return put
+
+    def add(self, name: str, body: Callable[[Scene], None]) -> None:
+        self.bodies.append((name, body))
+
+    def run(self, suite: "Suite") -> None:
+        for name, body in self.bodies:
+            suite.case(name, body)
+
+
 class Suite:
     """The cases that were run, and what became of them."""
 

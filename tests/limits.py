@@ -7,8 +7,11 @@ import time
 from functools import lru_cache, partial
 
 import model
-from harness import LIST, MEDIA, OUT, TIMEOUT, Mismatch, Scene, Skipped, Suite, same, same_outcome, words_of
+from harness import LIST, MEDIA, OUT, TIMEOUT, Cases, Mismatch, Scene, Skipped, same, same_outcome, words_of
 from tables import FIRST_LIST, data_chunk, format_chunk, riff_chunk, riff_file, wave
+
+case = Cases()
+run = case.run
 
 MIDNIGHT = b"00.00.00.00/0000"
 MOST = 32_767
@@ -57,80 +60,7 @@ def entry(number: int, index: int) -> bytes:
     return model.entry_line(number, index, MIDNIGHT, model.time_text(5 * number), model.time_text(5 * number + 4))
 
 
-def longest_list(scene: Scene) -> None:
-    """As many entries, indexes and kept lines as there may be."""
-    sources = [model.source_line(number, "A.wav", MIDNIGHT) for number in range(1, MOST + 1)]
-    text = model.list_text(sources, [entry(number, number) for number in range(1, MOST + 1)], b"\n")
-    kept = b"<VERSION>\n" + b"(Ver) a kept line\n" * (MOST_KEPT - 2) + b"</VERSION>\n"
-    scene.put(text.replace(b"<ADL>\n", b"<ADL>\n" + kept), {"A.wav": wave()})
-    expect_check(scene, f"accepted {MOST} entries {MOST} indexes", 2)
-
-
-def many_files(scene: Scene) -> None:
-    """Each is opened once, with few handles."""
-    names = [f"S{number:04d}.wav" for number in range(1, FILES + 1)]
-    sources = [model.source_line(number, name, MIDNIGHT) for number, name in enumerate(names, 1)]
-    entries = [entry(number, 1 + 7 * number % FILES) for number in range(1, MOST + 1)]
-    scene.put(model.list_text(sources, entries), {name: wave() for name in names})
-    limit = partial(resource.setrlimit, resource.RLIMIT_NOFILE, (HANDLES, HANDLES))
-    expect_check(scene, f"accepted {MOST} entries {FILES} indexes", 3, preexec_fn=limit)
-
-
-def garbage(scene: Scene) -> None:
-    """50 MB of what is no list, of one line, and of sections that aren't kept."""
-    for text, line in (
-        (b"\0" * 50_000_000, "refused 03 at line 1"),
-        (b"<ADL>\n<SEQUENCE>\n" + b"x " * 25_000_000, "refused 03 at line 3"),
-        (b"<ADL>\n<SEQUENCE>\n" + b"(Rem)\n" * 8_000_000, f"refused 15 at line {MOST_KEPT + 3}"),
-    ):
-        scene.put(text)
-        expect_check(scene, line, 3)
-
-
-def many_faults(scene: Scene) -> None:
-    """50 MB with a fault in each line, or with 8,000,000 lines before the first: that takes a few readings."""
-    faders = FIRST_LIST.replace(b"</ADL>", b"<FADER_LIST>\n" + b"(Fader) 1\n" * 5_000_000 + b"</FADER_LIST>\n</ADL>")
-    gains = FIRST_LIST.replace(b"</EVENT_LIST>", b"(Rem)\n" * 8_000_000 + b"(Gain) -1\n" * 30 + b"</EVENT_LIST>")
-    for text, first, entry_of in ((faders, 13, ""), (gains, 8_000_011, " entry 1")):
-        scene.put(text, {"A.wav": wave()})
-        before = processor_seconds()
-        got = scene.run(*words_of("check"))
-        told = [f"13 at line {first + count}{entry_of}" for count in range(21)]
-        same_outcome(got, 1, f"refused {told[0]}", further=(*(f"also {each}" for each in told[1:]), "and more"))
-        expect_within(told[0], before, 3)
-
-
-def many_chunks(scene: Scene) -> None:
-    """A file of 100,000 small chunks before its sound."""
-    others = [riff_chunk(b"JUNK", b"odd")] * CHUNKS
-    scene.put(FIRST_LIST, {"A.wav": riff_file(format_chunk(), *others, data_chunk((1, 2, 3, 4)))})
-    expect_check(scene, "accepted 1 entries 1 indexes", 1)
-
-
-def empty_chunks(scene: Scene) -> None:
-    """A file of 3 GB of empty chunks, which takes no place on the disk."""
-    scene.put(FIRST_LIST)
-    with (scene.folder / MEDIA / "A.wav").open("wb") as file:
-        file.write(b"RIFF\0\0\0\0WAVE")
-        file.truncate(EMPTY_SIZE)
-    expect_check(scene, "refused 24 at index 1 file A.wav", 20)
-
-
-def long_day(scene: Scene) -> None:
-    """A sample at each end of the day: nothing that is done grows with what lies between."""
-    entries = [
-        model.entry_line(1, 1, MIDNIGHT, MIDNIGHT, model.time_text(1)),
-        model.entry_line(2, 1, MIDNIGHT, model.time_text(model.DAY - 1), model.time_text(model.DAY)),
-    ]
-    scene.put(model.list_text([model.source_line(1, "A.wav", MIDNIGHT)], entries), {"A.wav": wave()})
-    expect_check(scene, "accepted 2 entries 1 indexes", 1)
-    before = processor_seconds()
-    got = scene.run(*words_of("consolidate", model.Options(handle=model.DAY)))
-    same_outcome(got, 0, "written 1 media 2 entries")
-    same_outcome(scene.run("render", LIST, MEDIA, MEDIA), 1, f"refused 20 at file {MEDIA}")
-    expect_within("a long day", before, 2)
-
-
+@case("a stack of 256 kB")
 def small_stack(scene: Scene) -> None:
     """Each command does its work with a stack of 256 kB, over a source with the longest history that is carried."""
     history = b"A=PCM,F=48000,W=16,M=mono,T=original\r\n" * 1724
@@ -156,6 +86,7 @@ def small_stack(scene: Scene) -> None:
             same_outcome(got, 0, line)
 
 
+@case("a day is laid out by one call")
 def layout_at_once(scene: Scene) -> None:
     """A rendering of a day of 64 channels and 32 bits has its length by one call, before its first block fails."""
     if not shutil.which("strace"):
@@ -174,13 +105,82 @@ def layout_at_once(scene: Scene) -> None:
     same("the length", (scene.folder / OUT / "render.wav").stat().st_size, HEAD_SIZE + 256 * model.DAY)
 
 
-def run(suite: Suite) -> None:
-    suite.case("a stack of 256 kB", small_stack)
-    suite.case("a day is laid out by one call", layout_at_once)
-    suite.case("the longest list", longest_list)
-    suite.case("2,000 files with few handles", many_files)
-    suite.case("50 MB of garbage", garbage)
-    suite.case("many lines at fault", many_faults)
-    suite.case("100,000 small chunks", many_chunks)
-    suite.case("3 GB of empty chunks", empty_chunks)
-    suite.case("a sample at each end of the day", long_day)
+@case("the longest list")
+def longest_list(scene: Scene) -> None:
+    """As many entries, indexes and kept lines as there may be."""
+    sources = [model.source_line(number, "A.wav", MIDNIGHT) for number in range(1, MOST + 1)]
+    text = model.list_text(sources, [entry(number, number) for number in range(1, MOST + 1)], b"\n")
+    kept = b"<VERSION>\n" + b"(Ver) a kept line\n" * (MOST_KEPT - 2) + b"</VERSION>\n"
+    scene.put(text.replace(b"<ADL>\n", b"<ADL>\n" + kept), {"A.wav": wave()})
+    expect_check(scene, f"accepted {MOST} entries {MOST} indexes", 2)
+
+
+@case("2,000 files with few handles")
+def many_files(scene: Scene) -> None:
+    """Each is opened once, with few handles."""
+    names = [f"S{number:04d}.wav" for number in range(1, FILES + 1)]
+    sources = [model.source_line(number, name, MIDNIGHT) for number, name in enumerate(names, 1)]
+    entries = [entry(number, 1 + 7 * number % FILES) for number in range(1, MOST + 1)]
+    scene.put(model.list_text(sources, entries), {name: wave() for name in names})
+    limit = partial(resource.setrlimit, resource.RLIMIT_NOFILE, (HANDLES, HANDLES))
+    expect_check(scene, f"accepted {MOST} entries {FILES} indexes", 3, preexec_fn=limit)
+
+
+@case("50 MB of garbage")
+def garbage(scene: Scene) -> None:
+    """50 MB of what is no list, of one line, and of sections that aren't kept."""
+    for text, line in (
+        (b"\0" * 50_000_000, "refused 03 at line 1"),
+        (b"<ADL>\n<SEQUENCE>\n" + b"x " * 25_000_000, "refused 03 at line 3"),
+        (b"<ADL>\n<SEQUENCE>\n" + b"(Rem)\n" * 8_000_000, f"refused 15 at line {MOST_KEPT + 3}"),
+    ):
+        scene.put(text)
+        expect_check(scene, line, 3)
+
+
+@case("many lines at fault")
+def many_faults(scene: Scene) -> None:
+    """50 MB with a fault in each line, or with 8,000,000 lines before the first: that takes a few readings."""
+    faders = FIRST_LIST.replace(b"</ADL>", b"<FADER_LIST>\n" + b"(Fader) 1\n" * 5_000_000 + b"</FADER_LIST>\n</ADL>")
+    gains = FIRST_LIST.replace(b"</EVENT_LIST>", b"(Rem)\n" * 8_000_000 + b"(Gain) -1\n" * 30 + b"</EVENT_LIST>")
+    for text, first, entry_of in ((faders, 13, ""), (gains, 8_000_011, " entry 1")):
+        scene.put(text, {"A.wav": wave()})
+        before = processor_seconds()
+        got = scene.run(*words_of("check"))
+        told = [f"13 at line {first + count}{entry_of}" for count in range(21)]
+        same_outcome(got, 1, f"refused {told[0]}", further=(*(f"also {each}" for each in told[1:]), "and more"))
+        expect_within(told[0], before, 3)
+
+
+@case("100,000 small chunks")
+def many_chunks(scene: Scene) -> None:
+    """A file of 100,000 small chunks before its sound."""
+    others = [riff_chunk(b"JUNK", b"odd")] * CHUNKS
+    scene.put(FIRST_LIST, {"A.wav": riff_file(format_chunk(), *others, data_chunk((1, 2, 3, 4)))})
+    expect_check(scene, "accepted 1 entries 1 indexes", 1)
+
+
+@case("3 GB of empty chunks")
+def empty_chunks(scene: Scene) -> None:
+    """A file of 3 GB of empty chunks, which takes no place on the disk."""
+    scene.put(FIRST_LIST)
+    with (scene.folder / MEDIA / "A.wav").open("wb") as file:
+        file.write(b"RIFF\0\0\0\0WAVE")
+        file.truncate(EMPTY_SIZE)
+    expect_check(scene, "refused 24 at index 1 file A.wav", 20)
+
+
+@case("a sample at each end of the day")
+def long_day(scene: Scene) -> None:
+    """A sample at each end of the day: nothing that is done grows with what lies between."""
+    entries = [
+        model.entry_line(1, 1, MIDNIGHT, MIDNIGHT, model.time_text(1)),
+        model.entry_line(2, 1, MIDNIGHT, model.time_text(model.DAY - 1), model.time_text(model.DAY)),
+    ]
+    scene.put(model.list_text([model.source_line(1, "A.wav", MIDNIGHT)], entries), {"A.wav": wave()})
+    expect_check(scene, "accepted 2 entries 1 indexes", 1)
+    before = processor_seconds()
+    got = scene.run(*words_of("consolidate", model.Options(handle=model.DAY)))
+    same_outcome(got, 0, "written 1 media 2 entries")
+    same_outcome(scene.run("render", LIST, MEDIA, MEDIA), 1, f"refused 20 at file {MEDIA}")
+    expect_within("a long day", before, 2)

@@ -15,9 +15,12 @@ from functools import partial
 from pathlib import Path
 
 import model
-from harness import MEDIA, OUT, TIMEOUT, Scene, Skipped, Suite, same, same_bytes, same_outcome, words_of
+from harness import MEDIA, OUT, TIMEOUT, Cases, Scene, Skipped, same, same_bytes, same_outcome, words_of
 from peers.tools import PACKAGES, output_of, text_of
 from tables import format_chunk, rf64_file, riff_chunk, wave
+
+case = Cases()
+run = case.run
 
 MIDNIGHT = b"00.00.00.00/0000"
 MEMORY_LIMIT = 256 * 2 ** 20
@@ -52,6 +55,7 @@ def run_limited(scene: Scene, command: str, options: model.Options, line: str) -
     same_outcome(scene.run(*words_of(command, options), preexec_fn=limit, timeout=TIMEOUT), 0, line)
 
 
+@case("a file one frame past RIFF")
 def one_frame_past_riff(scene: Scene) -> None:
     """One frame more than the size field of RIFF can tell is written as RF64, byte for byte as its table has it."""
     frames = LONGEST_AT_16_BITS + 1
@@ -72,6 +76,7 @@ def one_frame_past_riff(scene: Scene) -> None:
     same_bytes("the head of the samples", head[682:], bytes.fromhex("64617461 ffffffff"))
 
 
+@case("a fade that takes a day")
 def day_of_fade(scene: Scene) -> None:
     """An in-fade over all of the day: its last sample is one step from full scale at 32 bits."""
     entry = model.entry_line(1, 1, MIDNIGHT, MIDNIGHT, model.time_text(model.DAY))
@@ -185,6 +190,7 @@ def expect_read_alike(path: Path) -> None:
         raise Skipped(f"not all of its peers are installed: {', '.join(missing)}")
 
 
+@case("a rendering of 6 GB")
 def rendered(scene: Scene) -> None:
     """A rendering of 6 GB, and how other programs read it."""
     want_room(scene, FRAME * FRAMES)
@@ -195,6 +201,7 @@ def rendered(scene: Scene) -> None:
     expect_read_alike(path)
 
 
+@case("a consolidation of 6 GB")
 def consolidated(scene: Scene) -> None:
     """One medium of 6 GB, the check of the written list, and how other programs read it."""
     want_room(scene, FRAME * FRAMES)
@@ -205,10 +212,3 @@ def consolidated(scene: Scene) -> None:
     path = scene.folder / OUT / "M00001.wav"
     expect_long_file(path)
     expect_read_alike(path)
-
-
-def run(suite: Suite) -> None:
-    suite.case("a file one frame past RIFF", one_frame_past_riff)
-    suite.case("a fade that takes a day", day_of_fade)
-    suite.case("a rendering of 6 GB", rendered)
-    suite.case("a consolidation of 6 GB", consolidated)

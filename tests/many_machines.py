@@ -57,13 +57,19 @@ def times_at(dice: Dice, place: int, *values: int) -> list:
     return [model.time_text(min(model.DAY, place + value), rate=dice.rate).decode() for value in values]
 
 
+def accepted_project(dice: Dice, command: str) -> tuple:
+    """The next project that a command accepts."""
+    text, media, place = dice.project()
+    while model.answer(command, text, media).status:
+        text, media, place = dice.project()
+    return text, media, place
+
+
 def joined(seed: int):
     """A random project, in one to seven parts, at each depth."""
     def body(scene: Scene) -> None:
         dice = Dice(seed)
-        text, media, place = dice.project()
-        while model.answer("check", text, media).status:
-            text, media, place = dice.project()
+        text, media, place = accepted_project(dice, "check")
         scene.put(text, media)
         begin, end = times_at(dice, place, 5, dice.randint(60, 140))
         expect_joined(scene, text, media, {
@@ -75,9 +81,7 @@ def joined(seed: int):
 def prepared(scene: Scene) -> tuple:
     """A list that can be rendered, and what is to be rendered of it."""
     dice = Dice(FIRST_SEED)
-    text, media, place = dice.project()
-    while model.answer("render", text, media).status:
-        text, media, place = dice.project()
+    text, media, place = accepted_project(dice, "render")
     scene.put(text, media)
     times = times_at(dice, place, 0, 140)
     return text, media, dict(zip(("FROM", "TO"), times), PARTS=3, CHANNELS=2, DEPTH=24)

@@ -6,12 +6,15 @@ from urllib.parse import quote
 
 import model
 from harness import (
-    LIST, MEDIA, OUT, Mismatch, Outcome, Scene, Suite, expect_refused, meddled, same, same_outcome, same_shape,
+    LIST, MEDIA, OUT, Cases, Mismatch, Outcome, Scene, expect_refused, meddled, same, same_outcome,
     words_of,
 )
 from model import FRONT
 from progress import on_terminal, put_sound, put_stretches
 from tables import FIRST_LIST, changed, data_chunk, format_chunk, riff_file, wave
+
+case = Cases()
+run = case.run
 
 MIDNIGHT = b"00.00.00.00/0000"
 NOBODY = 65_534
@@ -50,6 +53,40 @@ def without_rights() -> None:
         os.setuid(NOBODY)
 
 
+OF_GAINS = "only a gain of zero is supported: another one changes the sound"
+NOT_SKIPPED = "export the project again with this rendered into its sound files, or without it if it needn't be heard"
+
+OF_LISTS = {
+    "a name in Latin-1": (
+        with_url(b"URL:file://localhost/%E9.wav"), "refused 09 at line 7 index 1",
+        "; the name of the file isn't UTF-8; name the file"),
+    "a path with backslashes": (
+        with_url(rb"URL:file:\\C\A.wav"), "refused 09 at line 7 index 1", "; it holds \\, but / parts folders; name"),
+    "a name of dots": (
+        with_url(b"URL:file://localhost/.."), "refused 09 at line 7 index 1",
+        '; the line is: (Index) 0001 (F) "URL:file://localhost/.." _ 00.00.00.00/0000 _; name the file'),
+    "a list of UTF-16": (
+        FIRST_LIST.decode().encode("utf-16"), "refused 03 at line 1", "; the list is UTF-16: save it as UTF-8;"),
+    "an index of another kind": (
+        FIRST_LIST.replace(b"(F)", b"(M)"), "refused 13 at line 7 index 1", "; of indexes only files, (F), are supported; export"),
+    "an entry of another kind": (
+        FIRST_LIST.replace(b"(Cut)", b"(Silence)"), "refused 13 at line 10 entry 1",
+        "; of entries only (Cut) I is supported, with a capital I; export"),
+    "a curve": (
+        FIRST_LIST.replace(b"</EVENT_LIST>", b"(Infade) 00.00.00.00/0001 COS\n</EVENT_LIST>"),
+        "refused 13 at line 11 entry 1", "; of curves only LIN is supported; export"),
+    "a gain": (
+        FIRST_LIST.replace(b"</EVENT_LIST>", b"(Gain) _ _ -3.00\n</EVENT_LIST>"), "refused 13 at line 11 entry 1",
+        f"; {OF_GAINS}; {NOT_SKIPPED}"),
+    "a line with tabs": (
+        changed(10, b"(Entry)\t0001\t(Cut)\tI"), "refused 10 at line 10 entry 1", "; the line is: (Entry) 0001 (Cut) I;"),
+}
+
+for name, (text, line, said) in OF_LISTS.items():
+    case.add(f"said of {name}", said_of(text, line, said))
+
+
+@case("said of what isn't permitted")
 def not_permitted(scene: Scene) -> None:
     """The remedy follows the system's word, and nothing is called unfinished that isn't there."""
     scene.put(FIRST_LIST, MEDIA_FILES)
@@ -69,6 +106,7 @@ def not_permitted(scene: Scene) -> None:
     expect_said(got, f"refused 21 at file {LIST}", (said,))
 
 
+@case("said of what is no plain file")
 def no_plain_file(scene: Scene) -> None:
     scene.put(FIRST_LIST)
     for make in (os.mkdir, os.mkfifo):
@@ -79,6 +117,7 @@ def no_plain_file(scene: Scene) -> None:
         path.rmdir() if path.is_dir() else path.unlink()
 
 
+@case("said of what is in the output")
 def in_the_output(scene: Scene) -> None:
     """What is in an output that isn't empty is named; one that isn't there or is none is to be made or named."""
     scene.put(FIRST_LIST, MEDIA_FILES)
@@ -90,6 +129,7 @@ def in_the_output(scene: Scene) -> None:
         expect_said(scene.run("render", LIST, MEDIA, name), f"refused 20 at file {name}", (said,), ("contains",))
 
 
+@case("an output that is gone or changed")
 def gone_meanwhile(scene: Scene) -> None:
     """An output that is taken away, or changed, while the command is at work is 62, and 66 where a job finds it so."""
     put_sound(scene)
@@ -111,6 +151,7 @@ def gone_meanwhile(scene: Scene) -> None:
             scene.empty_out()
 
 
+@case("marks that are gone")
 def marks_gone_meanwhile(scene: Scene) -> None:
     """Marks that are taken away are 62 at once, and what is unfinished is the rendered file."""
     put_sound(scene)
@@ -130,6 +171,7 @@ def marks_gone_meanwhile(scene: Scene) -> None:
         scene.empty_out()
 
 
+@case("a medium that is gone")
 def medium_gone_meanwhile(scene: Scene) -> None:
     """So it is with each medium of a consolidation, and no list is written then."""
     put_stretches(scene)
@@ -142,85 +184,7 @@ def medium_gone_meanwhile(scene: Scene) -> None:
         scene.empty_out()
 
 
-def changed_source(scene: Scene) -> None:
-    """A source that is written to or taken away meanwhile is told before the line; the status stays."""
-    frames = put_sound(scene)
-    source, path = scene.folder / MEDIA / "A.wav", scene.folder / OUT / "render.wav"
-    other, whole = scene.folder / "other.wav", source.read_bytes()
-    told = b"the source A.wav changed while the command ran: run it again\n"
-    # Another file takes the name at once: a source that is written in place is short for a moment.
-    for meddle, wanted in (
-        (lambda: os.utime(source, (1, 1)), told), (lambda: other.replace(source), told), (source.unlink, told),
-        (lambda: None, b""),
-    ):
-        other.write_bytes(whole)
-        source.write_bytes(whole)
-        got = meddled(scene, ["render", LIST, MEDIA, OUT, "--depth", "16"], path.exists, meddle)
-        line = b"rendered %d frames 1 channels\n" % frames
-        same("what is told of a source", got, Outcome(0, line, wanted))
-        scene.empty_out()
-
-
-def cut_source(scene: Scene) -> None:
-    """A source that is cut short meanwhile is given up at the first job that reads past its end."""
-    put_sound(scene)
-    source, path = scene.folder / MEDIA / "A.wav", scene.folder / OUT / "render.wav"
-    got = meddled(
-        scene, ["render", LIST, MEDIA, OUT, "--depth", "16"], path.exists, lambda: os.truncate(source, 44 + 3 * 8192))
-    same("the line and the status", (got.output, got.status), (b"refused 66 at job 3\n", 1))
-
-
-def current_folder(scene: Scene) -> None:
-    """An empty name of the media is the current folder, which can be read. Standard error says so, and of another name
-    nothing."""
-    scene.put(FIRST_LIST)
-    told = b"the name of the folder of the media is empty: the current folder was taken\n"
-    for command in model.COMMANDS:
-        got = scene.run(*["" if word == MEDIA else word for word in words_of(command)])
-        same("what is said of the name", got.error[-len(told):], told)
-        same_outcome(got._replace(error=got.error[:-len(told)]), 1, "refused 21 at index 1 file A.wav")
-    (scene.folder / "A.wav").write_bytes(wave())
-    accepted = "accepted 1 entries 1 indexes"
-    room = b"consolidate would write at most 1390 bytes of media\nrender would write 747 bytes\n"
-    for media, said in (("", told), (".", b"")):
-        same("a check", scene.run("check", LIST, media), Outcome(0, f"{accepted}\n".encode(), room + said))
-    same("both of a comparison", scene.run("compare", LIST, "", LIST, ""), Outcome(0, b"same 4 frames 1 channels\n", 2 * told))
-
-
-def empty_ranges(scene: Scene) -> None:
-    """An empty range is refused, whatever the list has; one with silence alone is rendered."""
-    texts = model.list_text([], []), FIRST_LIST
-    said = ("; name a range by --from and --to, or check the list's entries ",)
-    for text, words in (
-        (texts[0], ()), (texts[0], ("--from", "01.00.00.00/0000")),
-        (texts[1], ("--from", "02.00.00.00/0000")), (texts[1], ("--to", "01.00.00.00/0000")),
-    ):
-        scene.put(text, MEDIA_FILES)
-        expect_said(scene.run("render", LIST, MEDIA, OUT, *words), "refused 58", said, ("no entry has a length",))
-    silent = "--from", "02.00.00.00/0000", "--to", "02.00.00.00/0010"
-    same_outcome(scene.run("render", LIST, MEDIA, OUT, *silent), 0, "rendered 10 frames 1 channels")
-    scene.empty_out()
-    scene.put(texts[0], {})
-    same_outcome(scene.run("render", LIST, MEDIA, OUT, "--to", "00.00.00.00/0010"), 0, "rendered 10 frames 1 channels")
-
-
-def words_that_fail(scene: Scene) -> None:
-    """A word that isn't UTF-8 is named, a mistake names its option, and of a bad time just its option is named."""
-    scene.put(FIRST_LIST, MEDIA_FILES)
-    got = scene.run("check", LIST, b"M\xe9dia")
-    same("a word in Latin-1", got, Outcome(2, b"", b"error: word 3 isn't UTF-8: M%E9dia\n"))
-    for option, value, said in (
-        ("--depth", "24bit", b"a depth is 16, 24 or 32"), ("--channels", "65", b"there are 1 to 64 channels"),
-        ("--order", "name", b"an order is time or source"),
-    ):
-        got = scene.run("render", LIST, MEDIA, OUT, option, value)
-        same(f"status and standard output of {option}", (got.status, got.output), (2, b""))
-        if not got.error.startswith(b"error: " + said + b"\n"):
-            raise Mismatch(f"{option} {value} is answered with {got.error!r}")
-    got = scene.run("render", LIST, MEDIA, OUT, "--from", "1 h")
-    same("a bad time", got, Outcome(2, b"", b"bad time: --from\n"))
-
-
+@case("control characters in words")
 def control_characters(scene: Scene) -> None:
     """A mistake in the words tells their control characters as the escapes of their bytes."""
     for words in (("\x1b]0;x\a",), ("render", LIST, MEDIA, OUT, "--\x1b[2J"), ("check", LIST, MEDIA, "a\rb\u0085")):
@@ -231,109 +195,10 @@ def control_characters(scene: Scene) -> None:
     same("an escape", b"'%1B]0;x%07'" in scene.run("\x1b]0;x\a").error, True)
 
 
-def where_to_go_on(scene: Scene) -> None:
-    """Without words a terminal is told of help, and nothing else is."""
-    shown = on_terminal(scene, [])
-    told = b"this was a stored example; 'adlcons --help' tells the commands\n"
-    same("what a terminal is told", shown, Outcome(0, STORED_RUN, told))
-    same("what a pipe is told", scene.run(), Outcome(0, STORED_RUN, b""))
-
-
-PASSED = FIRST_LIST.replace(b"<SEQUENCE>", b"""<TRACKLIST>
-(Track) 1 "Dialog (Mute)" _
-(Track) 2 "Music" (MUTE) (Gain) -6.0
-(Track) 3 "Atmos" (Pan) 0
-</TRACKLIST>
-<SYSTEM>
-(SYS_XFADE_LENGTH) 00.00.00.10/0000
-</SYSTEM>
-<LEVEL_LIST>
-(Level) 1 -12.0 dB
-</LEVEL_LIST>
-<SEQUENCE>""", 1).replace(b"01.00.00.00/0004\n", b"01.00.00.00/0004 _ MUTE\n")
-
-HONOURED = FIRST_LIST.replace(b"<SEQUENCE>", b"""<TRACKLIST>
-(Track) 1 Mute "Gain" Pan
-</TRACKLIST>
-<SYSTEM>
-(SYS_XFADE_LENGTH) 00.00.00.00/0000
-</SYSTEM>
-<SEQUENCE>""", 1).replace(b"01.00.00.00/0004\n", b"01.00.00.00/0004 _ R\n")
-
-
-def passed_over(scene: Scene) -> None:
-    """What may be meant to be heard and is passed over is told by its line, in every command that is done."""
-    told = "".join(f"not honoured at line {line}: {word}\n" for line, word in (
-        (4, "(MUTE) (Gain) -6.0; gain, pan and mute of a track aren't applied"),
-        (5, "(Pan) 0; gain, pan and mute of a track aren't applied"),
-        (8, "(SYS_XFADE_LENGTH) 00.00.00.10/0000; default crossfades aren't heard"),
-        (10, "<LEVEL_LIST>; levels and volumes aren't applied"),
-        (21, "MUTE; what follows the fields of an entry is ignored")))
-    lists = [(PASSED, told), (HONOURED, "")]
-    lists += [(text.replace(b"\n", b"\r\n"), wanted) for text, wanted in lists]
-    for text, wanted in lists:
-        scene.put(text, MEDIA_FILES)
-        for words in (("check", LIST, MEDIA), ("render", LIST, MEDIA, OUT), ("consolidate", LIST, MEDIA, OUT)):
-            got = scene.run(*words)
-            same(f"the status of {words[0]}", got.status, 0)
-            same("what isn't honoured", "".join(
-                line for line in got.error.decode().splitlines(keepends=True) if "honoured" in line), wanted)
-            scene.empty_out()
-
-
-def many_passed_over(scene: Scene) -> None:
-    """At most 20 of them are told, and how many more there are."""
-    for count, more in ((20, ""), (21, "and 1 more lines"), (50, "and 30 more lines")):
-        tracks = b"<TRACKLIST>\n" + b"(Mute)\n" * count + b"</TRACKLIST>\n<SEQUENCE>"
-        scene.put(FIRST_LIST.replace(b"<SEQUENCE>", tracks, 1), MEDIA_FILES)
-        got = scene.run("check", LIST, MEDIA)
-        same_outcome(got, 0, "accepted 1 entries 1 indexes")
-        same("the lines", got.error.count(b"not honoured at line "), min(count, 20))
-        same(f"whether {more!r} is told", more.encode() in got.error, True)
-
-
-def further_lines(scene: Scene) -> None:
-    """A check tells the further lines at fault, 20 of them and whether there are more, and nothing that only follows from
-    the line before."""
-    lines = FIRST_LIST.splitlines(keepends=True)
-    entry = lines[9]
-    fades = b"(Infade) 00.00.00.00/0001 COS _ _ _\n(Gain) _ _ -3.00\n"
-    faulty = [
-        entry.replace(b"(Cut)", b"(Silence)") + b"(Infade) 00.00.00.00/0001 LIN _ _ _\n",
-        entry.replace(b"0001 (Cut)", b"0002 (Cut)") + fades,
-        entry.replace(b"0001 (Cut)", b"0003 (Cut)").replace(b"1 1", b"1 99"),
-        entry.replace(b"0001 (Cut)", b"0004 (Cut)"),
-    ]
-    faders = b"<FADER_LIST>\n(Fader) 1\n(Fader) 2\n</FADER_LIST>\n"
-    text = b"".join((*lines[:9], *faulty, *lines[10:11], faders, *lines[11:]))
-    wanted = (
-        "also 13 at line 13 entry 2", "also 13 at line 14 entry 2", "also 08 at line 15 entry 3", "also 13 at line 19",
-        "also 13 at line 20")
-    same("what the model tells", model.answer("check", text, MEDIA_FILES).further, wanted)
-    expect_refused(scene, text, MEDIA_FILES, "refused 13 at line 10 entry 1")
-    for count, more in ((21, ()), (22, ("and more",)), (40, ("and more",))):
-        text = FIRST_LIST.replace(b"</ADL>", b"<FADER_LIST>\n" + b"(Fader) 1\n" * count + b"</FADER_LIST>\n</ADL>")
-        wanted = (*(f"also 13 at line {line}" for line in range(14, 34)), *more)
-        same("what the model tells", model.answer("check", text, MEDIA_FILES).further, wanted)
-        expect_refused(scene, text, MEDIA_FILES, "refused 13 at line 13")
-
-
-def behind_bad_numbers(scene: Scene) -> None:
-    """A bad number of an index or of an entry ends no list of faults."""
-    lines = FIRST_LIST.splitlines(keepends=True)
-    index, entry = lines[6], lines[9]
-    text = b"".join((
-        *lines[:6], index.replace(b"0001", b"0"), *lines[6:9],
-        entry.replace(b"0001 (Cut)", b"0 (Cut)") + b"(Infade) 00.00.00.00/0001 COS\n",
-        entry.replace(b"0001 (Cut)", b"0002 (Cut)") + b"(Gain) _ _ -3.00\n",
-        entry.replace(b"0001 (Cut)", b"0003 (Cut)").replace(b"01.00.00.00/0004", b"01.00.00.25/0000"), *lines[10:]))
-    same("how many the model tells", len(model.answer("check", text, MEDIA_FILES).further), 3)
-    expect_refused(scene, text, MEDIA_FILES, "refused 07 at line 7")
-
-
 NEARLY = "; the folder has %s, in other capitals or another form of Unicode (NFC, NFD); rename that file"
 
 
+@case("a name that is nearly the one")
 def nearly_the_name(scene: Scene) -> None:
     """Where a file is missing, one whose name differs in case or in its form of Unicode alone is told."""
     composed, apart = "\u00e9.wav", "e\u0301.wav"
@@ -347,6 +212,7 @@ def nearly_the_name(scene: Scene) -> None:
         expect_said(scene.run("check", LIST, MEDIA), f"refused 21 at index 1 file {wanted}", (), ("the folder has",))
 
 
+@case("a file in a folder, or behind a backslash")
 def elsewhere(scene: Scene) -> None:
     """A file that is missing and lies in a folder of MEDIA is told, and so is a \\ where only / parts folders."""
     line = "refused 21 at index 1 file "
@@ -409,6 +275,10 @@ def said_of_file(data: bytes, number: int, said: str):
     return body
 
 
+for name, (data, number, said) in OF_FILES.items():
+    case.add(f"said of a file: {name}", said_of_file(data, number, said))
+
+
 # What is said of an entry at fault, by its words behind the number and its place.
 OF_ENTRIES = (
     (46, (100, 0, 5), {}, "entry 1 plays A.wav up to frame 5; the file has 4 (1 too many); correct its source in"),
@@ -420,6 +290,7 @@ OF_ENTRIES = (
 )
 
 
+@case("said of entries")
 def said_of_entries(scene: Scene) -> None:
     """A fault of an entry is told in its own numbers: the file, its frames, and by how many it is passed."""
     index = model.source_line(1, "A.wav", model.time_text(100))
@@ -439,20 +310,11 @@ def said_of_entries(scene: Scene) -> None:
         same("what is said of it behind its place", further[:len(said)], said.replace("entry 1", "entry 2"))
 
 
-OF_GAINS = "only a gain of zero is supported: another one changes the sound"
-NOT_SKIPPED = "export the project again with this rendered into its sound files, or without it if it needn't be heard"
-
-
+@case("further faults behind a bad number")
 def further_words(scene: Scene) -> None:
     """Each further line tells its column and its word, also behind the bad number of an index or an entry, and the first
     one of a number what to do."""
-    lines = FIRST_LIST.splitlines(keepends=True)
-    index, entry = lines[6], lines[9]
-    text = b"".join((
-        *lines[:6], index.replace(b"0001", b"0"), *lines[6:9],
-        entry.replace(b"0001 (Cut)", b"0 (Cut)") + b"(Infade) 00.00.00.00/0001 COS\n",
-        entry.replace(b"0001 (Cut)", b"0002 (Cut)") + b"(Gain) _ _ -3.00\n(Gain) _ _ -6.00\n",
-        entry.replace(b"0001 (Cut)", b"0003 (Cut)").replace(b"01.00.00.00/0004", b"01.00.00.25/0000"), *lines[10:]))
+    text = with_bad_numbers(b"(Gain) _ _ -3.00\n(Gain) _ _ -6.00\n")
     told = (
         "also 07 at line 11: bad number of an index or an entry: such a number is 1 to 32767, in at most six digits; at "
         "column 9 stands: 0; number indexes and entries from 1",
@@ -464,6 +326,7 @@ def further_words(scene: Scene) -> None:
     same("what is told", tuple(scene.run("check", LIST, MEDIA).error.decode().splitlines()[1:]), told)
 
 
+@case("all that is at fault")
 def all_that_is_at_fault(scene: Scene) -> None:
     """With --all every line, file and entry at fault is told, by each command; without, 20 of them by a check alone."""
     count, nothing, second = 40, b"00.00.00.00/0000", b"00.00.01.00/0000"
@@ -491,6 +354,7 @@ def all_that_is_at_fault(scene: Scene) -> None:
     same_outcome(scene.run("check", "--all", LIST, MEDIA), 0, "accepted 1 entries 1 indexes")
 
 
+@case("the rate behind faults")
 def rate_behind_faults(scene: Scene) -> None:
     """The rate of a list holds for its further lines, also where it is told behind the first of them."""
     faders = b"<FADER_LIST>\n(Fader) 1\n</FADER_LIST>\n<SEQUENCE>"
@@ -500,58 +364,195 @@ def rate_behind_faults(scene: Scene) -> None:
         same_outcome(scene.run("check", LIST, MEDIA), 1, "refused 13 at line 3", further=told)
 
 
-OF_LISTS = {
-    "a name in Latin-1": (
-        with_url(b"URL:file://localhost/%E9.wav"), "refused 09 at line 7 index 1",
-        "; the name of the file isn't UTF-8; name the file"),
-    "a path with backslashes": (
-        with_url(rb"URL:file:\\C\A.wav"), "refused 09 at line 7 index 1", "; it holds \\, but / parts folders; name"),
-    "a name of dots": (
-        with_url(b"URL:file://localhost/.."), "refused 09 at line 7 index 1",
-        '; the line is: (Index) 0001 (F) "URL:file://localhost/.." _ 00.00.00.00/0000 _; name the file'),
-    "a list of UTF-16": (
-        FIRST_LIST.decode().encode("utf-16"), "refused 03 at line 1", "; the list is UTF-16: save it as UTF-8;"),
-    "an index of another kind": (
-        FIRST_LIST.replace(b"(F)", b"(M)"), "refused 13 at line 7 index 1", "; of indexes only files, (F), are supported; export"),
-    "an entry of another kind": (
-        FIRST_LIST.replace(b"(Cut)", b"(Silence)"), "refused 13 at line 10 entry 1",
-        "; of entries only (Cut) I is supported, with a capital I; export"),
-    "a curve": (
-        FIRST_LIST.replace(b"</EVENT_LIST>", b"(Infade) 00.00.00.00/0001 COS\n</EVENT_LIST>"),
-        "refused 13 at line 11 entry 1", "; of curves only LIN is supported; export"),
-    "a gain": (
-        FIRST_LIST.replace(b"</EVENT_LIST>", b"(Gain) _ _ -3.00\n</EVENT_LIST>"), "refused 13 at line 11 entry 1",
-        f"; {OF_GAINS}; {NOT_SKIPPED}"),
-    "a line with tabs": (
-        changed(10, b"(Entry)\t0001\t(Cut)\tI"), "refused 10 at line 10 entry 1", "; the line is: (Entry) 0001 (Cut) I;"),
-}
+@case("an empty name of the media")
+def current_folder(scene: Scene) -> None:
+    """An empty name of the media is the current folder, which can be read. Standard error says so, and of another name
+    nothing."""
+    scene.put(FIRST_LIST)
+    told = b"the name of the folder of the media is empty: the current folder was taken\n"
+    for command in model.COMMANDS:
+        got = scene.run(*["" if word == MEDIA else word for word in words_of(command)])
+        same("what is said of the name", got.error[-len(told):], told)
+        same_outcome(got._replace(error=got.error[:-len(told)]), 1, "refused 21 at index 1 file A.wav")
+    (scene.folder / "A.wav").write_bytes(wave())
+    accepted = "accepted 1 entries 1 indexes"
+    room = b"consolidate would write at most 1390 bytes of media\nrender would write 747 bytes\n"
+    for media, said in (("", told), (".", b"")):
+        same("a check", scene.run("check", LIST, media), Outcome(0, f"{accepted}\n".encode(), room + said))
+    same("both of a comparison", scene.run("compare", LIST, "", LIST, ""), Outcome(0, b"same 4 frames 1 channels\n", 2 * told))
 
 
-def run(suite: Suite) -> None:
-    for name, (text, line, said) in OF_LISTS.items():
-        suite.case(f"said of {name}", said_of(text, line, said))
-    suite.case("said of what isn't permitted", not_permitted)
-    suite.case("said of what is no plain file", no_plain_file)
-    suite.case("said of what is in the output", in_the_output)
-    suite.case("an output that is gone or changed", gone_meanwhile)
-    suite.case("marks that are gone", marks_gone_meanwhile)
-    suite.case("a medium that is gone", medium_gone_meanwhile)
-    suite.case("control characters in words", control_characters)
-    suite.case("a name that is nearly the one", nearly_the_name)
-    suite.case("a file in a folder, or behind a backslash", elsewhere)
-    for name, (data, number, said) in OF_FILES.items():
-        suite.case(f"said of a file: {name}", said_of_file(data, number, said))
-    suite.case("said of entries", said_of_entries)
-    suite.case("further faults behind a bad number", further_words)
-    suite.case("all that is at fault", all_that_is_at_fault)
-    suite.case("the rate behind faults", rate_behind_faults)
-    suite.case("an empty name of the media", current_folder)
-    suite.case("said of empty ranges", empty_ranges)
-    suite.case("said of words that fail", words_that_fail)
-    suite.case("said without words", where_to_go_on)
-    suite.case("what isn't honoured", passed_over)
-    suite.case("much that isn't honoured", many_passed_over)
-    suite.case("a source that changed meanwhile", changed_source)
-    suite.case("a source that is cut short meanwhile", cut_source)
-    suite.case("further lines at fault", further_lines)
-    suite.case("further lines behind bad numbers", behind_bad_numbers)
+@case("said of empty ranges")
+def empty_ranges(scene: Scene) -> None:
+    """An empty range is refused, whatever the list has; one with silence alone is rendered."""
+    texts = model.list_text([], []), FIRST_LIST
+    said = ("; name a range by --from and --to, or check the list's entries ",)
+    for text, words in (
+        (texts[0], ()), (texts[0], ("--from", "01.00.00.00/0000")),
+        (texts[1], ("--from", "02.00.00.00/0000")), (texts[1], ("--to", "01.00.00.00/0000")),
+    ):
+        scene.put(text, MEDIA_FILES)
+        expect_said(scene.run("render", LIST, MEDIA, OUT, *words), "refused 58", said, ("no entry has a length",))
+    silent = "--from", "02.00.00.00/0000", "--to", "02.00.00.00/0010"
+    same_outcome(scene.run("render", LIST, MEDIA, OUT, *silent), 0, "rendered 10 frames 1 channels")
+    scene.empty_out()
+    scene.put(texts[0], {})
+    same_outcome(scene.run("render", LIST, MEDIA, OUT, "--to", "00.00.00.00/0010"), 0, "rendered 10 frames 1 channels")
+
+
+@case("said of words that fail")
+def words_that_fail(scene: Scene) -> None:
+    """A word that isn't UTF-8 is named, a mistake names its option, and of a bad time just its option is named."""
+    scene.put(FIRST_LIST, MEDIA_FILES)
+    got = scene.run("check", LIST, b"M\xe9dia")
+    same("a word in Latin-1", got, Outcome(2, b"", b"error: word 3 isn't UTF-8: M%E9dia\n"))
+    for option, value, said in (
+        ("--depth", "24bit", b"a depth is 16, 24 or 32"), ("--channels", "65", b"there are 1 to 64 channels"),
+        ("--order", "name", b"an order is time or source"),
+    ):
+        got = scene.run("render", LIST, MEDIA, OUT, option, value)
+        same(f"status and standard output of {option}", (got.status, got.output), (2, b""))
+        if not got.error.startswith(b"error: " + said + b"\n"):
+            raise Mismatch(f"{option} {value} is answered with {got.error!r}")
+    got = scene.run("render", LIST, MEDIA, OUT, "--from", "1 h")
+    same("a bad time", got, Outcome(2, b"", b"bad time: --from\n"))
+
+
+@case("said without words")
+def where_to_go_on(scene: Scene) -> None:
+    """Without words a terminal is told of help, and nothing else is."""
+    shown = on_terminal(scene, [])
+    told = b"this was a stored example; 'adlcons --help' tells the commands\n"
+    same("what a terminal is told", shown, Outcome(0, STORED_RUN, told))
+    same("what a pipe is told", scene.run(), Outcome(0, STORED_RUN, b""))
+
+
+PASSED = FIRST_LIST.replace(b"<SEQUENCE>", b"""<TRACKLIST>
+(Track) 1 "Dialog (Mute)" _
+(Track) 2 "Music" (MUTE) (Gain) -6.0
+(Track) 3 "Atmos" (Pan) 0
+</TRACKLIST>
+<SYSTEM>
+(SYS_XFADE_LENGTH) 00.00.00.10/0000
+</SYSTEM>
+<LEVEL_LIST>
+(Level) 1 -12.0 dB
+</LEVEL_LIST>
+<SEQUENCE>""", 1).replace(b"01.00.00.00/0004\n", b"01.00.00.00/0004 _ MUTE\n")
+
+HONOURED = FIRST_LIST.replace(b"<SEQUENCE>", b"""<TRACKLIST>
+(Track) 1 Mute "Gain" Pan
+</TRACKLIST>
+<SYSTEM>
+(SYS_XFADE_LENGTH) 00.00.00.00/0000
+</SYSTEM>
+<SEQUENCE>""", 1).replace(b"01.00.00.00/0004\n", b"01.00.00.00/0004 _ R\n")
+
+
+@case("what isn't honoured")
+def passed_over(scene: Scene) -> None:
+    """What may be meant to be heard and is passed over is told by its line, in every command that is done."""
+    told = "".join(f"not honoured at line {line}: {word}\n" for line, word in (
+        (4, "(MUTE) (Gain) -6.0; gain, pan and mute of a track aren't applied"),
+        (5, "(Pan) 0; gain, pan and mute of a track aren't applied"),
+        (8, "(SYS_XFADE_LENGTH) 00.00.00.10/0000; default crossfades aren't heard"),
+        (10, "<LEVEL_LIST>; levels and volumes aren't applied"),
+        (21, "MUTE; what follows the fields of an entry is ignored")))
+    lists = [(PASSED, told), (HONOURED, "")]
+    lists += [(text.replace(b"\n", b"\r\n"), wanted) for text, wanted in lists]
+    for text, wanted in lists:
+        scene.put(text, MEDIA_FILES)
+        for words in (("check", LIST, MEDIA), ("render", LIST, MEDIA, OUT), ("consolidate", LIST, MEDIA, OUT)):
+            got = scene.run(*words)
+            same(f"the status of {words[0]}", got.status, 0)
+            same("what isn't honoured", "".join(
+                line for line in got.error.decode().splitlines(keepends=True) if "honoured" in line), wanted)
+            scene.empty_out()
+
+
+@case("much that isn't honoured")
+def many_passed_over(scene: Scene) -> None:
+    """At most 20 of them are told, and how many more there are."""
+    for count, more in ((20, ""), (21, "and 1 more lines"), (50, "and 30 more lines")):
+        tracks = b"<TRACKLIST>\n" + b"(Mute)\n" * count + b"</TRACKLIST>\n<SEQUENCE>"
+        scene.put(FIRST_LIST.replace(b"<SEQUENCE>", tracks, 1), MEDIA_FILES)
+        got = scene.run("check", LIST, MEDIA)
+        same_outcome(got, 0, "accepted 1 entries 1 indexes")
+        same("the lines", got.error.count(b"not honoured at line "), min(count, 20))
+        same(f"whether {more!r} is told", more.encode() in got.error, True)
+
+
+@case("a source that changed meanwhile")
+def changed_source(scene: Scene) -> None:
+    """A source that is written to or taken away meanwhile is told before the line; the status stays."""
+    frames = put_sound(scene)
+    source, path = scene.folder / MEDIA / "A.wav", scene.folder / OUT / "render.wav"
+    other, whole = scene.folder / "other.wav", source.read_bytes()
+    told = b"the source A.wav changed while the command ran: run it again\n"
+    # Another file takes the name at once: a source that is written in place is short for a moment.
+    for meddle, wanted in (
+        (lambda: os.utime(source, (1, 1)), told), (lambda: other.replace(source), told), (source.unlink, told),
+        (lambda: None, b""),
+    ):
+        other.write_bytes(whole)
+        source.write_bytes(whole)
+        got = meddled(scene, ["render", LIST, MEDIA, OUT, "--depth", "16"], path.exists, meddle)
+        line = b"rendered %d frames 1 channels\n" % frames
+        same("what is told of a source", got, Outcome(0, line, wanted))
+        scene.empty_out()
+
+
+@case("a source that is cut short meanwhile")
+def cut_source(scene: Scene) -> None:
+    """A source that is cut short meanwhile is given up at the first job that reads past its end."""
+    put_sound(scene)
+    source, path = scene.folder / MEDIA / "A.wav", scene.folder / OUT / "render.wav"
+    got = meddled(
+        scene, ["render", LIST, MEDIA, OUT, "--depth", "16"], path.exists, lambda: os.truncate(source, 44 + 3 * 8192))
+    same("the line and the status", (got.output, got.status), (b"refused 66 at job 3\n", 1))
+
+
+@case("further lines at fault")
+def further_lines(scene: Scene) -> None:
+    """A check tells the further lines at fault, 20 of them and whether there are more, and nothing that only follows from
+    the line before."""
+    lines = FIRST_LIST.splitlines(keepends=True)
+    entry = lines[9]
+    fades = b"(Infade) 00.00.00.00/0001 COS _ _ _\n(Gain) _ _ -3.00\n"
+    faulty = [
+        entry.replace(b"(Cut)", b"(Silence)") + b"(Infade) 00.00.00.00/0001 LIN _ _ _\n",
+        entry.replace(b"0001 (Cut)", b"0002 (Cut)") + fades,
+        entry.replace(b"0001 (Cut)", b"0003 (Cut)").replace(b"1 1", b"1 99"),
+        entry.replace(b"0001 (Cut)", b"0004 (Cut)"),
+    ]
+    faders = b"<FADER_LIST>\n(Fader) 1\n(Fader) 2\n</FADER_LIST>\n"
+    text = b"".join((*lines[:9], *faulty, *lines[10:11], faders, *lines[11:]))
+    wanted = (
+        "also 13 at line 13 entry 2", "also 13 at line 14 entry 2", "also 08 at line 15 entry 3", "also 13 at line 19",
+        "also 13 at line 20")
+    same("what the model tells", model.answer("check", text, MEDIA_FILES).further, wanted)
+    expect_refused(scene, text, MEDIA_FILES, "refused 13 at line 10 entry 1")
+    for count, more in ((21, ()), (22, ("and more",)), (40, ("and more",))):
+        text = FIRST_LIST.replace(b"</ADL>", b"<FADER_LIST>\n" + b"(Fader) 1\n" * count + b"</FADER_LIST>\n</ADL>")
+        wanted = (*(f"also 13 at line {line}" for line in range(14, 34)), *more)
+        same("what the model tells", model.answer("check", text, MEDIA_FILES).further, wanted)
+        expect_refused(scene, text, MEDIA_FILES, "refused 13 at line 13")
+
+
+def with_bad_numbers(gains: bytes) -> bytes:
+    """A list with a bad number of an index and of an entry, and further faults behind them, of which these are some."""
+    lines = FIRST_LIST.splitlines(keepends=True)
+    index, entry = lines[6], lines[9]
+    return b"".join((
+        *lines[:6], index.replace(b"0001", b"0"), *lines[6:9],
+        entry.replace(b"0001 (Cut)", b"0 (Cut)") + b"(Infade) 00.00.00.00/0001 COS\n",
+        entry.replace(b"0001 (Cut)", b"0002 (Cut)") + gains,
+        entry.replace(b"0001 (Cut)", b"0003 (Cut)").replace(b"01.00.00.00/0004", b"01.00.00.25/0000"), *lines[10:]))
+
+
+@case("further lines behind bad numbers")
+def behind_bad_numbers(scene: Scene) -> None:
+    """A bad number of an index or of an entry ends no list of faults."""
+    text = with_bad_numbers(b"(Gain) _ _ -3.00\n")
+    same("how many the model tells", len(model.answer("check", text, MEDIA_FILES).further), 3)
+    expect_refused(scene, text, MEDIA_FILES, "refused 07 at line 7")

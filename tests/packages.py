@@ -7,7 +7,10 @@ import subprocess
 import sys
 from pathlib import Path
 
-from harness import Scene, Skipped, Suite, same, same_bytes
+from harness import Cases, Scene, Skipped, same, same_bytes
+
+case = Cases()
+run = case.run
 
 TOP = Path(__file__).resolve().parent.parent
 TIMEOUT = 120
@@ -40,6 +43,7 @@ def unpacked(scene: Scene) -> Path:
     return tree
 
 
+@case("made twice, a package is the same bytes")
 def same_twice(scene: Scene) -> None:
     """Made twice, in other folders and with another mask of modes, it is the same bytes."""
     first = packed(scene, "first")
@@ -52,6 +56,7 @@ def same_twice(scene: Scene) -> None:
     same_bytes("the package", second.read_bytes(), first.read_bytes())
 
 
+@case("lintian finds no error")
 def without_errors(scene: Scene) -> None:
     need("lintian")
     done = subprocess.run(
@@ -61,6 +66,7 @@ def without_errors(scene: Scene) -> None:
          (0, []))
 
 
+@case("the unpacked program shows an example")
 def shows_example(scene: Scene) -> None:
     """The program of the unpacked tree, which knows nothing of the kit, renders the dialogue as its page says."""
     program = unpacked(scene) / "usr/bin/adlcons"
@@ -75,6 +81,7 @@ def shows_example(scene: Scene) -> None:
     same("its size", (examples / "sound/render.wav").stat().st_size, 691890)
 
 
+@case("the unpacked page and completion")
 def pages_and_words(scene: Scene) -> None:
     """The manual page and the completion are there, where the system looks for them."""
     need("man", "gzip")
@@ -86,6 +93,7 @@ def pages_and_words(scene: Scene) -> None:
                (TOP / "share/adlcons.bash").read_bytes())
 
 
+@case("the documents in a package")
 def documents_of_outputs(scene: Scene) -> None:
     """The pages that tell what an output says are there, and each page of docs/ that one of an archive names."""
     folder = unpacked(scene) / "usr/share/doc/adlcons"
@@ -97,17 +105,9 @@ def documents_of_outputs(scene: Scene) -> None:
             same(f"whether {name}, which {page} names, is there", name.removeprefix("docs/") in pages, True)
 
 
+@case("a package tells the program's version")
 def tells_its_version(scene: Scene) -> None:
     package = packed(scene, "made")
     field = subprocess.run(
         ["dpkg-deb", "-f", package, "Version"], check=True, capture_output=True, timeout=TIMEOUT).stdout.decode()
     same("its version", f"adlcons {field}", scene.run("--version").output.decode())
-
-
-def run(suite: Suite) -> None:
-    suite.case("made twice, a package is the same bytes", same_twice)
-    suite.case("lintian finds no error", without_errors)
-    suite.case("the unpacked program shows an example", shows_example)
-    suite.case("the unpacked page and completion", pages_and_words)
-    suite.case("the documents in a package", documents_of_outputs)
-    suite.case("a package tells the program's version", tells_its_version)

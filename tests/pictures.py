@@ -3,17 +3,18 @@
 import shutil
 import struct
 import subprocess
-import tempfile
 import xml.etree.ElementTree as ElementTree
 import zlib
 from pathlib import Path
 from typing import NamedTuple
 
 import model
-from examples import made_media, text_of
-from harness import LIST, MEDIA, Mismatch, Scene, Skipped, Suite, same, same_bytes, same_files
+from examples import media_of_examples, text_of
+from harness import LIST, MEDIA, Cases, Mismatch, Scene, Skipped, Suite, same, same_bytes, same_files
 from model.groups import from_checked, runs_of
 from tables import wave
+
+case = Cases()
 
 TIMEOUT = 60
 TOP = Path(__file__).resolve().parent.parent
@@ -175,6 +176,7 @@ def words_told(text: bytes, media: dict):
     return body
 
 
+@case("a name in a picture")
 def named(scene: Scene) -> None:
     """Names of files are escaped, and what XML can't have is replaced."""
     name = "a<b>&\"'\x01.wav"
@@ -206,6 +208,7 @@ def hatched_in(root: ElementTree.Element) -> list:
     return [(float(each.get("x")), float(each.get("width")), int(each.get("y"))) for each in boxes[:-1]]
 
 
+@case("a list whose text is refused has no picture")
 def refused_text(scene: Scene) -> None:
     """Nothing is drawn of a list whose text is at fault."""
     scene.put(b"no list", {})
@@ -214,6 +217,7 @@ def refused_text(scene: Scene) -> None:
     same("the refusal", got.error.decode().splitlines()[0], "refused 03 at line 1")
 
 
+@case("the picture of entries at fault")
 def refused_entries(scene: Scene) -> None:
     """Entries that play what their file doesn't have are marked, and what is missing is hatched: before the file begins
     and after it ends. One on a channel that its file doesn't have is marked, with nothing missing."""
@@ -235,6 +239,7 @@ def refused_entries(scene: Scene) -> None:
     same("what the description says", words.endswith("; 3 entries are at fault, or their files."), True)
 
 
+@case("the picture of files at fault")
 def refused_files(scene: Scene) -> None:
     """Entries of files that are missing or broken are marked and hatched whole, also by another index of the file."""
     def entry(number: int, index: int, begin: int) -> bytes:
@@ -279,6 +284,7 @@ def titles_in(root: ElementTree.Element) -> list:
     return [each.text.split(":")[0] for each in root.iter(f"{SVG}title")][1:]
 
 
+@case("a part of a picture, cut at its edges")
 def part_cut(scene: Scene) -> None:
     """What reaches into the part is cut at its edges, as high as its fade is there."""
     parted(scene)
@@ -304,6 +310,7 @@ def part_cut(scene: Scene) -> None:
     same("how many marks", len(ruler), 4)
 
 
+@case("what lies outside a part of a picture")
 def part_left_out(scene: Scene) -> None:
     """Entries outside of the part aren't drawn, nor those that only meet its edge; one time may be chosen alone."""
     parted(scene)
@@ -320,6 +327,7 @@ def part_left_out(scene: Scene) -> None:
             same(f"whether {corner} lies in the picture", LEFT <= corner[0] <= LEFT + WIDTH, True)
 
 
+@case("a part of a picture that is empty, or of bad times")
 def part_refused(scene: Scene) -> None:
     """An empty part is 58 and a bad time a mistake, in the words of a rendering, and neither has a picture."""
     parted(scene)
@@ -335,6 +343,7 @@ def part_refused(scene: Scene) -> None:
         same("status and words", (got.status, got.error.splitlines()[0]), (2, f"bad time: {words[-2]}".encode()))
 
 
+@case("a part of a picture of entries at fault")
 def part_at_fault(scene: Scene) -> None:
     """What is missing of an entry at fault is hatched as far as it lies in the part."""
     source = model.source_line(1, "a.wav", model.time_text(100))
@@ -367,19 +376,11 @@ def kept_picture(all_media: dict):
 
 
 def run(suite: Suite) -> None:
-    with tempfile.TemporaryDirectory() as folder:
-        all_media = made_media(Path(folder))
+    all_media = media_of_examples()
     for example in ("dialogue", "music", "exported"):
         text, media = text_of(example), all_media[example]
         suite.case(f"the words of the picture of {example}", words_told(text, media))
         suite.case(f"the entries in the picture of {example}", entries_drawn(text, media))
         suite.case(f"the files in the picture of {example}", files_drawn(text, media, 4800))
-    suite.case("a name in a picture", named)
-    suite.case("a list whose text is refused has no picture", refused_text)
-    suite.case("the picture of entries at fault", refused_entries)
-    suite.case("the picture of files at fault", refused_files)
-    suite.case("a part of a picture, cut at its edges", part_cut)
-    suite.case("what lies outside a part of a picture", part_left_out)
-    suite.case("a part of a picture that is empty, or of bad times", part_refused)
-    suite.case("a part of a picture of entries at fault", part_at_fault)
+    case.run(suite)
     suite.case("README's picture", kept_picture(all_media))

@@ -11,10 +11,13 @@ import subprocess
 
 import model
 from harness import (
-    EXPLANATION, LIST, MEDIA, OUT, SAVED, TIMEOUT, Mismatch, Outcome, Scene, Suite, preloaded, same, same_outcome,
+    EXPLANATION, LIST, MEDIA, OUT, SAVED, TIMEOUT, Cases, Mismatch, Outcome, Scene, preloaded, same, same_outcome,
     same_shape, words_of,
 )
 from tables import wave
+
+case = Cases()
+run = case.run
 
 BLOCK = 4096
 BLOCKS = 10
@@ -105,6 +108,7 @@ def put_stretches(scene: Scene) -> int:
     return STRETCH * STRETCHES
 
 
+@case("progress of a rendering")
 def rendering(scene: Scene) -> None:
     """Each job is told, and nothing where standard error is no terminal."""
     frames = put_sound(scene)
@@ -116,6 +120,7 @@ def rendering(scene: Scene) -> None:
     same_outcome(scene.run(*words_of("render"), env=environment), 0, line)
 
 
+@case("progress, ten times a second")
 def ten_a_second(scene: Scene) -> None:
     """The line is shown once a second has passed, and then as soon as a tenth of a second has."""
     frames = put_sound(scene, MANY_BLOCKS * BLOCK)
@@ -127,6 +132,7 @@ def ten_a_second(scene: Scene) -> None:
     same_outcome(rest, 0, f"rendered {frames} frames 1 channels")
 
 
+@case("progress of a rendering that goes on")
 def resumed(scene: Scene) -> None:
     """What was marked is counted from the first line on."""
     frames = put_sound(scene)
@@ -139,6 +145,7 @@ def resumed(scene: Scene) -> None:
     same_outcome(rest, 0, f"resumed {frames} frames {MARKED} blocks were marked")
 
 
+@case("progress of a consolidation")
 def consolidation(scene: Scene) -> None:
     frames = put_stretches(scene)
     line = f"written {STRETCHES} media {STRETCHES} entries"
@@ -149,6 +156,7 @@ def consolidation(scene: Scene) -> None:
     same_outcome(scene.run(*words, env=environment), 0, line)
 
 
+@case("progress within a medium")
 def long_medium(scene: Scene) -> None:
     """A single medium is seen to come piece by piece."""
     frames = put_sound(scene, PIECES * PIECE)
@@ -156,6 +164,7 @@ def long_medium(scene: Scene) -> None:
     same_outcome(without_lines(shown, frames, multiples(PIECE, PIECES)), 0, "written 1 media 1 entries")
 
 
+@case("progress of a search for silence")
 def looking_for_silence(scene: Scene) -> None:
     """A single entry that sounds in its last frame alone is seen to be looked at, and then its medium to come."""
     frames = SILENT * BLOCK
@@ -172,6 +181,7 @@ def looking_for_silence(scene: Scene) -> None:
     same_outcome(rest, 0, "written 1 media 1 entries")
 
 
+@case("progress of a comparison")
 def comparing(scene: Scene) -> None:
     """Each block that is the same is reported; of a difference the answer comes before the samples are counted."""
     frames = put_sound(scene)
@@ -189,6 +199,7 @@ def comparing(scene: Scene) -> None:
     same_shape("what is reported of it", after, r"[^\r]*\r100 %: 2 of 2 frames\x1b\[K\r\x1b\[Ksamples that differ: 2 on channel 1\n")
 
 
+@case("progress of a search for chunks")
 def looking_for_chunks(scene: Scene) -> None:
     """The bytes of a source up to which its chunks were looked for, before the refusal is explained; and nothing where
     standard error is no terminal."""
@@ -205,6 +216,7 @@ def looking_for_chunks(scene: Scene) -> None:
     same_outcome(scene.run(*words_of("check"), env=environment), 1, "refused 24 at index 1 file A.wav")
 
 
+@case("progress before a refusal")
 def refused(scene: Scene) -> None:
     """Where a job fails later on, the line is taken off before the refusal is explained."""
     frames = put_sound(scene)
@@ -215,6 +227,7 @@ def refused(scene: Scene) -> None:
     same("the answer", (rest.output, rest.status), (b"refused 66 at job %d\n" % len(done), 1))
 
 
+@case("progress of short work")
 def short(scene: Scene) -> None:
     """What is done within a second shows nothing, on a terminal either."""
     environment = preloaded(scene, **QUICK)
@@ -224,16 +237,3 @@ def short(scene: Scene) -> None:
     put_stretches(scene)
     environment = preloaded(scene, SLOW="5000")
     same_shape("the terminal", on_terminal(scene, words_of("consolidate", EXACT), env=environment).error, SAVED)
-
-
-def run(suite: Suite) -> None:
-    suite.case("progress of a rendering", rendering)
-    suite.case("progress, ten times a second", ten_a_second)
-    suite.case("progress of a rendering that goes on", resumed)
-    suite.case("progress of a consolidation", consolidation)
-    suite.case("progress within a medium", long_medium)
-    suite.case("progress of a search for silence", looking_for_silence)
-    suite.case("progress of a comparison", comparing)
-    suite.case("progress of a search for chunks", looking_for_chunks)
-    suite.case("progress before a refusal", refused)
-    suite.case("progress of short work", short)

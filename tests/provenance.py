@@ -3,19 +3,19 @@
 import hashlib
 import json
 import subprocess
-import tempfile
-from pathlib import Path
 from typing import NamedTuple
 
 import model
 from devices import file_size_limit
-from examples import EXAMPLES, made_media, text_of
-from harness import LIST, MEDIA, OUT, Mismatch, Scene, Skipped, Suite, same, same_bytes, same_files, same_outcome
+from examples import EXAMPLES, media_of_examples, text_of
+from harness import LIST, MEDIA, OUT, Cases, Mismatch, Scene, Skipped, Suite, same, same_bytes, same_files, same_outcome
 from model.commands import medium_name
 from model.groups import runs_of, standard_groups
 from random_projects import Dice
 from reports import FORM, SCHEMA, measured, notice_told, within_memory
 from tables import EMPTY_LIST, FIRST_LIST, wave
+
+case = Cases()
 
 REPORT = "consolidated.json"
 SUMS = "SHA256SUMS"
@@ -238,6 +238,7 @@ def tables_of_entries() -> dict:
     }
 
 
+@case("more given entries than are told")
 def more_than_told(scene: Scene) -> None:
     """Of 1,002 cuts that go on from one another the first 1,000 are told."""
     count = MOST_TOLD + 2
@@ -247,6 +248,7 @@ def more_than_told(scene: Scene) -> None:
     same("the groups", report["groups"], [{"given": list(range(1, MOST_TOLD + 1)), "more": 2}])
 
 
+@case("32,767 equal entries")
 def equal_entries(scene: Scene) -> None:
     """As many equal entries as there may be: their group is told once."""
     scene.put(entries_of(*(cut(number, 0, 0, 4) for number in range(1, MOST + 1))), MEDIUM)
@@ -261,6 +263,7 @@ def equal_entries(scene: Scene) -> None:
     same("the entries", report["entries"], [{"entry": number, "group": 0} for number in range(1, MOST + 1)])
 
 
+@case("texts that JSON escapes or can't have")
 def odd_texts(scene: Scene) -> None:
     """Names, URLs and identifiers that JSON has to escape, and those that it can't have."""
     name = 'B "\\\u0001\u00e9.wav'
@@ -277,6 +280,7 @@ def odd_texts(scene: Scene) -> None:
     ])
 
 
+@case("several lines for one file")
 def several_lines(scene: Scene) -> None:
     """Of three lines for one file the one that an entry names and by which it begins earliest is told."""
     lines = [model.source_line(number, "A.wav", model.time_text(base)) for number, base in ((7, 9), (5, 2), (3, 0))]
@@ -290,17 +294,17 @@ def several_lines(scene: Scene) -> None:
 # Where it isn't written
 
 
-def refused(text: bytes, media: dict):
+@case("no report of an entry at fault")
+def refused(scene: Scene) -> None:
     """A list that is refused has no report."""
-    def body(scene: Scene) -> None:
-        scene.put(text, media)
-        plain = scene.run("consolidate", LIST, MEDIA, OUT)
-        same("the answer", scene.run("consolidate", LIST, MEDIA, OUT, "--report"), plain)
-        same("the status", plain.status, 1)
-        same("the files", scene.files(), {})
-    return body
+    scene.put(text_of("overrun"), media_of_examples()["overrun"])
+    plain = scene.run("consolidate", LIST, MEDIA, OUT)
+    same("the answer", scene.run("consolidate", LIST, MEDIA, OUT, "--report"), plain)
+    same("the status", plain.status, 1)
+    same("the files", scene.files(), {})
 
 
+@case("no report over files that are there")
 def in_the_way(scene: Scene) -> None:
     """The output is empty, or nothing is written: no checksums and no report are replaced."""
     scene.put(FIRST_LIST, MEDIUM)
@@ -310,6 +314,7 @@ def in_the_way(scene: Scene) -> None:
         same_files(scene.files(), {name: b"of another project"})
 
 
+@case("a report that is broken off")
 def limited(scene: Scene) -> None:
     """The media and their checksums are whole, and the report, which is longer than each of them, isn't: no list."""
     text = entries_of(*(cut(number, 0, 0, 4) for number in range(1, 41)))
@@ -327,8 +332,7 @@ def limited(scene: Scene) -> None:
 
 
 def run(suite: Suite) -> None:
-    with tempfile.TemporaryDirectory() as folder:
-        all_media = made_media(Path(folder))
+    all_media = media_of_examples()
     for example in EXAMPLES:
         if example != "overrun":
             suite.case(f"where the media of {example} come from", whole(text_of(example), all_media[example]))
@@ -339,10 +343,4 @@ def run(suite: Suite) -> None:
         suite.case(f"where the media of random project {seed} come from", random_project(seed))
     for name, (text, media, wanted) in tables_of_entries().items():
         suite.case(f"entries that are told: {name}", entries_told(text, media, wanted))
-    suite.case("more given entries than are told", more_than_told)
-    suite.case("32,767 equal entries", equal_entries)
-    suite.case("texts that JSON escapes or can't have", odd_texts)
-    suite.case("several lines for one file", several_lines)
-    suite.case("no report of an entry at fault", refused(text_of("overrun"), all_media["overrun"]))
-    suite.case("no report over files that are there", in_the_way)
-    suite.case("a report that is broken off", limited)
+    case.run(suite)

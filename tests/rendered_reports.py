@@ -6,9 +6,12 @@ import json
 import model
 from clipping import SECOND, layered, stored
 from full_disk import disk, make_room
-from harness import LIST, MEDIA, OUT, Scene, Skipped, Suite, preloaded, same, same_outcome
+from harness import LIST, MEDIA, OUT, Cases, Scene, Skipped, preloaded, same, same_outcome
 from model import BLOCK
 from reports import SCHEMA
+
+case = Cases()
+run = case.run
 
 REPORT = "render.json"
 SOUND = "render.wav"
@@ -39,6 +42,7 @@ def put_quiet(scene: Scene, frames: int, begin: int = 0) -> None:
     scene.put(layered(1, frames, 1, begin), {"A.wav": stored([place % 7 for place in range(frames)])})
 
 
+@case("a report of a rendering without a clipped sample")
 def of_nothing_clipped(scene: Scene) -> None:
     """The range and the depth that are chosen; what is printed is as without a report, and so is the file."""
     put_quiet(scene, 100, HOUR)
@@ -54,6 +58,7 @@ def of_nothing_clipped(scene: Scene) -> None:
     expect_report(scene, NOTHING, 16, HOUR + 10, 90, 3)
 
 
+@case("a report has what was clipped")
 def of_clipped(scene: Scene) -> None:
     """Which channels, the first one's time, the loudest sum and how many: two of the samples are clipped."""
     samples = [1, 1, 2 ** 22, 5, 2, -2 ** 22 - 1, -2 ** 22, 2 ** 22 - 1]
@@ -63,6 +68,7 @@ def of_clipped(scene: Scene) -> None:
     expect_report(scene, clipped, 24, HOUR, 4, 2)
 
 
+@case("a report of the last of 64 channels")
 def of_one_channel(scene: Scene) -> None:
     """The last of 64 channels alone, in a last block that is short."""
     frames = 3 * BLOCK + 9
@@ -73,6 +79,7 @@ def of_one_channel(scene: Scene) -> None:
     expect_report(scene, clipped, 24, 0, frames, 64)
 
 
+@case("a report of a resumed rendering")
 def of_resumed(scene: Scene) -> None:
     """A rendering that was stopped: how many blocks were marked, and what was clipped of the others."""
     blocks = 80
@@ -90,6 +97,7 @@ def of_resumed(scene: Scene) -> None:
         expect_report(scene, clipped, 24, 0, blocks * BLOCK, 1, marked)
 
 
+@case("a report of a rendering that is done")
 def of_finished(scene: Scene) -> None:
     """A rendering that is done without one: its blocks were all marked. A report that is there is replaced."""
     put_quiet(scene, 5 * BLOCK)
@@ -101,6 +109,7 @@ def of_finished(scene: Scene) -> None:
     expect_report(scene, NOTHING, 24, 0, 5 * BLOCK, 1, 5)
 
 
+@case("a disk without room for the report")
 def on_a_full_disk(scene: Scene) -> None:
     """No room for the report: the rendering is whole, the refusal names the report, and resume writes it."""
     put_quiet(scene, BLOCK)
@@ -118,6 +127,7 @@ def on_a_full_disk(scene: Scene) -> None:
         expect_report(scene, NOTHING, 24, 0, BLOCK, 1, 1)
 
 
+@case("no report of what is refused")
 def of_what_is_refused(scene: Scene) -> None:
     """A list that is refused has no report, and neither has a time that can't be read."""
     scene.put(layered(1, 4), {})
@@ -125,13 +135,3 @@ def of_what_is_refused(scene: Scene) -> None:
     same("the files", scene.files(), {})
     same("the status", scene.run("render", LIST, MEDIA, OUT, "--report", "--from", "x").status, 2)
     same("the files", scene.files(), {})
-
-
-def run(suite: Suite) -> None:
-    suite.case("a report of a rendering without a clipped sample", of_nothing_clipped)
-    suite.case("a report has what was clipped", of_clipped)
-    suite.case("a report of the last of 64 channels", of_one_channel)
-    suite.case("a report of a resumed rendering", of_resumed)
-    suite.case("a report of a rendering that is done", of_finished)
-    suite.case("a disk without room for the report", on_a_full_disk)
-    suite.case("no report of what is refused", of_what_is_refused)

@@ -5,13 +5,12 @@ import os
 import re
 import subprocess
 import sys
-import tempfile
 from functools import partial
 from pathlib import Path
 from urllib.parse import quote
 
 import model
-from examples import EXAMPLES, made_media, text_of
+from examples import EXAMPLES, media_of_examples, text_of
 from harness import LIST, MEDIA, ROOM, Mismatch, Scene, Skipped, Suite, same, words_of
 from model.binding import bind, faults_of_entries, faults_of_files
 from model.refusal import Refused
@@ -334,8 +333,7 @@ def entry(number: int, index: int, begin: int, end: int) -> bytes:
 
 
 def run(suite: Suite) -> None:
-    with tempfile.TemporaryDirectory() as folder:
-        all_media = made_media(Path(folder))
+    all_media = media_of_examples()
     for example in EXAMPLES:
         if example != "overrun":
             suite.case(f"the report of {example}", accepted(text_of(example), all_media[example]))

@@ -13,11 +13,14 @@ from pathlib import Path
 
 import model
 from harness import (
-    EXPLANATION, LIST, MEDIA, OUT, TIMEOUT, Mismatch, Outcome, Scene, Skipped, Suite, preloaded, same, same_bytes,
+    EXPLANATION, LIST, MEDIA, OUT, TIMEOUT, Cases, Mismatch, Outcome, Scene, Skipped, preloaded, same, same_bytes,
     same_files, same_outcome, same_shape,
 )
 from model import BLOCK, FRONT
 from tables import format_chunk, riff_file, wave
+
+case = Cases()
+run = case.run
 
 SEED = 27
 # How many renderings are killed, and how many of them again once they are gone on with.
@@ -110,6 +113,10 @@ def killed(long: Long):
     return body
 
 
+case.add("kills of a rendering whose jobs are blocks", killed(Long(1, 24)))
+case.add("kills of a rendering whose jobs are several blocks", killed(Long(4, 200)))
+
+
 def plain(blocks: int) -> tuple:
     """A list that plays a mono file of so many blocks from its first frame on, and the file."""
     frames = BLOCK * blocks
@@ -168,6 +175,11 @@ def half_done(blocks: int, marked: set):
     return body
 
 
+case.add("no marked block is read or written", half_done(12, {1, 2, 5, 11}))
+case.add("no marked block of a stretch is read or written", half_done(700, set(range(40, 350)) | {699}))
+
+
+@case("a rendering that is done")
 def done_already(scene: Scene) -> None:
     """All blocks are marked: neither file is touched, and both stay."""
     whole = put_stopped(scene, 5, set(range(5)))
@@ -178,6 +190,7 @@ def done_already(scene: Scene) -> None:
     same("when they were written", [path.stat().st_mtime_ns for path in paths], before)
 
 
+@case("a mark is a byte of one")
 def a_mark_is_a_one(scene: Scene) -> None:
     """Any other byte marks no block, which is rendered again; one that is marked is taken as it stands."""
     whole = put_stopped(scene, 5, {1, 3})
@@ -192,6 +205,7 @@ def a_mark_is_a_one(scene: Scene) -> None:
     same_files(scene.files(), {**files, MARKS: whole[MARKS]})
 
 
+@case("another order")
 def another_order(scene: Scene) -> None:
     """The order isn't of the run: a rendering by source goes on by time."""
     whole = put_stopped(scene, 5, {1, 3})
@@ -199,6 +213,7 @@ def another_order(scene: Scene) -> None:
     same_files(scene.files(), whole)
 
 
+@case("the same range")
 def the_same_range(scene: Scene) -> None:
     """A range that is told is the same as one that is left out."""
     whole = put_stopped(scene, 5, {1, 3})
@@ -207,6 +222,7 @@ def the_same_range(scene: Scene) -> None:
     same_files(scene.files(), whole)
 
 
+@case("a list on standard input")
 def from_standard_input(scene: Scene) -> None:
     whole = put_stopped(scene, 5, {0})
     got = scene.run("resume", "-", MEDIA, OUT, *DEPTH, given=(scene.folder / LIST).read_bytes())
@@ -289,7 +305,15 @@ BROKEN = {
     "a rendered file a byte too long": lambda files: {**files, SOUND: files[SOUND] + b"\0"},
 }
 
+for name, change in UNSTARTED.items():
+    case.add(f"begun anew: {name}", not_started(change))
+for name, (change, words, text) in OTHERS.items():
+    case.add(f"another rendering: {name}", broken(67, ANOTHER, change, words, text))
+for name, change in BROKEN.items():
+    case.add(f"damaged: {name}", broken(68, DAMAGED, change))
 
+
+@case("a head or a pad that was changed")
 def changed_by_hand(scene: Scene) -> None:
     """A byte before or after the samples that isn't the rendering's is told with its position, and stays; the answer and
     all else do too. Where marks aren't started, or the file has another length, nothing is told."""
@@ -323,6 +347,7 @@ def changed_by_hand(scene: Scene) -> None:
 NEWER = "the source %s was written to after render.marks: what was marked by then is of the file as it was before\n"
 
 
+@case("sources that were written to after the marks")
 def newer_sources(scene: Scene) -> None:
     """A source that was written to after the marks is told where the rendering is gone on with, by its time; the answer and
     the file stay. One that the list doesn't name isn't told, nor any where the rendering is refused or no marks are there."""
@@ -349,6 +374,7 @@ def newer_sources(scene: Scene) -> None:
     same("without marks", (got.status, got.error), (0, b""))
 
 
+@case("no folder")
 def no_folder(scene: Scene) -> None:
     """An output that isn't there is 62 at its first file, and never 20; standard error names the folder first."""
     text, media = plain(2)
@@ -360,6 +386,7 @@ def no_folder(scene: Scene) -> None:
         same_outcome(got._replace(error=got.error.removeprefix(told)), 1, f"refused 62 at file {SOUND}")
 
 
+@case("links in the output")
 def links(scene: Scene) -> None:
     """Neither file is followed where it is a link, and what is behind one stays as it is."""
     for name in (SOUND, MARKS):
@@ -373,6 +400,7 @@ def links(scene: Scene) -> None:
         same_bytes("what is behind the link", other.read_bytes(), before)
 
 
+@case("other files in the output")
 def beside_others(scene: Scene) -> None:
     """Other files in the folder stay."""
     whole = put_stopped(scene, 5, {1, 3})
@@ -381,6 +409,7 @@ def beside_others(scene: Scene) -> None:
     same_files(scene.files(), {**whole, "notes.txt": b"mine"})
 
 
+@case("where an unfinished rendering lies")
 def told_where_to_go_on(scene: Scene) -> None:
     """A render into a folder with an unfinished rendering is refused, and told of resume."""
     put_stopped(scene, 5, {1, 3})
@@ -390,6 +419,7 @@ def told_where_to_go_on(scene: Scene) -> None:
         raise Mismatch(f"standard error says {got.error!r}")
 
 
+@case("an output among the media")
 def among_media(scene: Scene) -> None:
     """A source that has the name of the rendered file isn't replaced."""
     text, media = plain(2)
@@ -404,6 +434,7 @@ def among_media(scene: Scene) -> None:
         same_files(scene.files(MEDIA), media)
 
 
+@case("a list that is refused")
 def refused_list(scene: Scene) -> None:
     """Faults of the list come before those of the marks, and change nothing."""
     put_stopped(scene, 5, {1, 3})
@@ -414,36 +445,10 @@ def refused_list(scene: Scene) -> None:
     same_files(scene.files(), files)
 
 
+@case("a time that can't be read")
 def bad_time(scene: Scene) -> None:
     put_stopped(scene, 5, {1, 3})
     files = scene.files()
     got = scene.run(*RESUME, "--from", "1")
     same("status and output", (got.status, got.output, got.error.splitlines()[0]), (2, b"", b"bad time: --from"))
     same_files(scene.files(), files)
-
-
-def run(suite: Suite) -> None:
-    suite.case("kills of a rendering whose jobs are blocks", killed(Long(1, 24)))
-    suite.case("kills of a rendering whose jobs are several blocks", killed(Long(4, 200)))
-    suite.case("no marked block is read or written", half_done(12, {1, 2, 5, 11}))
-    suite.case("no marked block of a stretch is read or written", half_done(700, set(range(40, 350)) | {699}))
-    suite.case("a rendering that is done", done_already)
-    suite.case("a mark is a byte of one", a_mark_is_a_one)
-    suite.case("another order", another_order)
-    suite.case("the same range", the_same_range)
-    suite.case("a list on standard input", from_standard_input)
-    for name, change in UNSTARTED.items():
-        suite.case(f"begun anew: {name}", not_started(change))
-    for name, (change, words, text) in OTHERS.items():
-        suite.case(f"another rendering: {name}", broken(67, ANOTHER, change, words, text))
-    for name, change in BROKEN.items():
-        suite.case(f"damaged: {name}", broken(68, DAMAGED, change))
-    suite.case("a head or a pad that was changed", changed_by_hand)
-    suite.case("sources that were written to after the marks", newer_sources)
-    suite.case("no folder", no_folder)
-    suite.case("links in the output", links)
-    suite.case("other files in the output", beside_others)
-    suite.case("where an unfinished rendering lies", told_where_to_go_on)
-    suite.case("an output among the media", among_media)
-    suite.case("a list that is refused", refused_list)
-    suite.case("a time that can't be read", bad_time)

@@ -101,6 +101,16 @@ def lines_of(text: bytes) -> list:
     return [line[:-1] if line.endswith(b"\r") else line for line in lines]
 
 
+def is_cut(section: str, line: bytes) -> bool:
+    """Whether a line of a section, which isn't its end, is cut into fields; a fault where it may not stand there."""
+    trimmed = line.strip(BLANK)
+    if section not in SECTIONS and trimmed and any(word.decode() in section for word in FORBIDDEN):
+        raise Fault(13)
+    if section in CUT and trimmed.startswith(b"<"):
+        raise Fault(3)
+    return section in CUT
+
+
 class Reader:
     """What was read so far of a list at this rate of frames."""
 
@@ -138,15 +148,10 @@ class Reader:
 
     def take(self, section: str, number: int, line: bytes) -> None:
         """A line of a section, which isn't its end."""
-        trimmed = line.strip(BLANK)
         if section in KEPT:
             self.keep(section, line)
-        elif section not in SECTIONS and trimmed and any(word.decode() in section for word in FORBIDDEN):
-            raise Fault(13)
-        if section not in CUT:
+        if not is_cut(section, line):
             return
-        if trimmed.startswith(b"<"):
-            raise Fault(3)
         if section == "EVENT_LIST" and self.entry is not None:
             self.at = f" entry {self.entry}"
         fields = Fields(line, self.rate)
@@ -280,13 +285,8 @@ class Outline(Reader):
     """Looks for the rate of frames: at sections and at tokens, and at nothing else that lines say."""
 
     def take(self, section: str, number: int, line: bytes) -> None:
-        trimmed = line.strip(BLANK)
-        if section not in SECTIONS and trimmed and any(word.decode() in section for word in FORBIDDEN):
-            raise Fault(13)
-        if section not in CUT:
+        if not is_cut(section, line):
             return
-        if trimmed.startswith(b"<"):
-            raise Fault(3)
         fields = Fields(line)
         head = fields.next()
         if section == "SEQUENCE" and head is not None and head.is_keyword(b"SEQ_FRAME_RATE"):
