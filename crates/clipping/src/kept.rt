@@ -1,5 +1,5 @@
 // What is clipped of sums that are kept at a depth.
-ghost use Rattle.std.specs.Prelude.{◌≡◌, ◌↔◌, ◌-◌, ◌*◌, ◌/◌, ◌^◌, ◌<◌, ◌≤◌, ◌++◌, ◌∷◌, [], ℕ, ℤ, List, IsTrue, length};
+ghost use Rattle.std.specs.Prelude.{◌≡◌, ◌↔◌, ◌-◌, ◌*◌, ◌/◌, ◌^◌, ◌<◌, ◌≤◌, ◌++◌, ◌∷◌, [], ℕ, ℤ, List, IsTrue, false, length};
 ghost use Rattle.std.specs.Int.{IsBitSet};
 ghost use Rattle.std.specs.List.{position};
 ghost use Rattle.sound_terms.specs.Depth.{bits_of};
@@ -56,7 +56,19 @@ impl Outside {
     }
 }
 
-/// Which of these sums lie outside of the depth.
+/// Whether one of these sums lies outside of the depth.
+#[inline(always)]
+fn is_one_outside(sums: &[i32], depth: Depth) -> bool
+    ensures { result ≡ false → AreOutside (bits_of depth) sums.now 0 0 }
+{
+    let mut found = false;
+    for k in 0..sums.len() {
+        found |= is_outside(sums[k], depth);
+    }
+    found
+}
+
+/// Which of these sums lie outside of the depth. Mostly none does: that is asked first, since it is quicker to say.
 #[inline(always)]
 fn outside_by(sums: &[i32], depth: Depth) -> Outside
     ensures { AreOutside (bits_of depth) sums.now result.count result.farthest }
@@ -65,6 +77,9 @@ fn outside_by(sums: &[i32], depth: Depth) -> Outside
         count: 0,
         farthest: 0,
     };
+    if !is_one_outside(sums, depth) {
+        return outside;
+    }
     for k in 0..sums.len() {
         outside = outside.with(sums[k], depth);
     }
