@@ -42,8 +42,9 @@ AreLongest most stretches = (k : ℕ) (d : Stretch) → k + 1 < length stretches
     → (slice_index_or stretches k d).done ≡ (slice_index_or stretches (k + 1) d).done
     → (slice_index_or stretches k d).end - (slice_index_or stretches k d).first ≡ most
 
--- how many blocks of so many bytes a job has: one; or, for speed, what makes 4 MiB, at least one, where there are more
--- than 64
+-- how many blocks of so many bytes a job has: one; or, for speed, where there are more than 64, a thirty-second of them,
+-- but at most 16 MiB, and at least 1 MiB and one block
 abbrev pub blocks_in_job : JobLength → (blocks block_size : ℕ) → ℕ
 blocks_in_job length_of_jobs.OneBlock blocks block_size = 1
-blocks_in_job length_of_jobs.Longer blocks block_size = cond (nat_le blocks 64) 1 (max (4194304 / block_size) 1)
+blocks_in_job length_of_jobs.Longer blocks block_size =
+    cond (nat_le blocks 64) 1 (max (max (min (blocks / 32) (16777216 / block_size)) (1048576 / block_size)) 1)

@@ -11,15 +11,22 @@ use std::alloc::{AllocError, Global};
 pub enum JobLength {
     /// One block, as the rule of the board has it: whatever is lost with a job is lost of one block.
     OneBlock,
-    /// For speed: as many blocks as make 4 MiB, one at least, where there are more than 64; else one.
+    /// For speed, where there are more than 64 blocks: a thirty-second of them, but no more than make 16 MiB, no fewer than
+    /// make 1 MiB, and one at least; else one.
     Longer,
 }
 
 /// The most blocks that are each a job where there are no more.
 const FEW: u32 = 64;
 
-/// The bytes of a longer job.
-const LONGER: u32 = 4_194_304;
+/// The most bytes of a longer job of more than one block.
+const LONGEST: u32 = 16_777_216;
+
+/// The bytes of a longer job of a short file.
+const SHORTEST: u32 = 1_048_576;
+
+/// How many longer jobs there are, where none is bounded by its bytes.
+const JOBS: u32 = 32;
 
 /// How many blocks of so many bytes a job has.
 pub fn blocks_in_job(jobs: JobLength, blocks: u32, block_size: u32) -> u32
@@ -31,7 +38,10 @@ pub fn blocks_in_job(jobs: JobLength, blocks: u32, block_size: u32) -> u32
     match jobs {
         JobLength::OneBlock => 1,
         JobLength::Longer if blocks <= FEW => 1,
-        JobLength::Longer => (LONGER / block_size).max(1),
+        JobLength::Longer => (blocks / JOBS)
+            .min(LONGEST / block_size)
+            .max(SHORTEST / block_size)
+            .max(1),
     }
 }
 
