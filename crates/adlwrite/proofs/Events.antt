@@ -13,7 +13,6 @@ use Rattle.sound_terms.specs.declared.Fade.{Fade}
 use Rattle.list_terms.specs.declared.OpenEntry.{OpenEntry}
 use Rattle.list_terms.specs.declared.Section.TheVariants as section
 use Rattle.list_terms.specs.declared.Stage.TheVariants.{Inside, Outside}
-use Rattle.list_terms.specs.EntryLines.{with_fall, with_rise}
 use Rattle.list_terms.specs.Project.{ListProject, Source}
 use Rattle.list_terms.specs.Text.{Context, Entries, HeaderRead, all_events, entry_line, entry_of, further_line, in_event_list, in_section, with_event, with_line}
 use Rattle.list_terms.specs.Tokens.{token_at}
@@ -21,7 +20,7 @@ use Rattle.list_terms.specs.WholeProject.{AreDistinct, entry_numbers, is_event}
 use Rattle.list_terms.specs.WrittenText.{channels_text, event_line, event_lines, fade_lines, number_text, time_text}
 use Rattle.adlwrite.proofs.Facts.{EventFacts, event_facts}
 use Rattle.adlwrite.proofs.Fields.{number_field-written}
-use Rattle.adlwrite.proofs.Lines.{event_fields-written, fall_is_read, rise_is_read}
+use Rattle.adlwrite.proofs.Lines.{event_fields-written, fade_is_read, fade_keyword, is_told, with_fade}
 use Rattle.adlwrite.proofs.Reading.{Gives, ending, one_line, so_far}
 use Rattle.adlwrite.proofs.Sources.{is_no_end}
 
@@ -76,35 +75,27 @@ module _
         event_fields-written project rate separators event facts,
       )
 
-  -- the last entry with a fade
-  rise_line_is_read :
-      (events : List Event) (entry : OpenEntry) (found : Option (List ℕ)) (length n : ℕ) → length ≤ 4147200000
-      → (length == 0) ≡ false → entry.has_rise ≡ false
-      → with_line project.rate (in_list (opened events entry found))
-      n (codes "(Infade)" ++ (codes " " ++ (time_text project (Some length) ++ codes " LIN _ _ _")))
-      ≡ Ok (in_list
-      (opened events (with_rise entry length) found))
-  unfolding with_line in_section in_event_list further_line token_at
-  rise_line_is_read events entry found length n h some new =
-      let fields = codes " " ++ (time_text project (Some length) ++ codes " LIN _ _ _") in
-      rw (
-        is_no_end (codes "EVENT_LIST") (codes "Infade)" ++ fields),
-        rise_is_read project rate separators entry length h some new,
-      )
+  -- what stands behind the keyword of a fade
+  abbrev fade_end : ℕ → List ℕ
+  fade_end length = codes " " ++ (time_text project (Some length) ++ codes " LIN _ _ _")
 
-  fall_line_is_read :
-      (events : List Event) (entry : OpenEntry) (found : Option (List ℕ)) (length n : ℕ) → length ≤ 4147200000
-      → (length == 0) ≡ false → entry.has_fall ≡ false
-      → with_line project.rate (in_list (opened events entry found))
-      n (codes "(Outfade)" ++ (codes " " ++ (time_text project (Some length) ++ codes " LIN _ _ _")))
-      ≡ Ok (in_list
-      (opened events (with_fall entry length) found))
+  -- the last entry with a fade
+  fade_line_is_read :
+      (is_rise : Bool) (events : List Event) (entry : OpenEntry) (found : Option (List ℕ)) (length n : ℕ)
+      → length ≤ 4147200000 → (length == 0) ≡ false → is_told is_rise entry ≡ false
+      → with_line project.rate (in_list (opened events entry found)) n
+      (codes "(" ++ (fade_keyword is_rise ++ (codes ")" ++ fade_end length)))
+      ≡ Ok (in_list (opened events (with_fade is_rise entry length) found))
   unfolding with_line in_section in_event_list further_line token_at
-  fall_line_is_read events entry found length n h some new =
-      let fields = codes " " ++ (time_text project (Some length) ++ codes " LIN _ _ _") in
+  fade_line_is_read true events entry found length n h some new =
       rw (
-        is_no_end (codes "EVENT_LIST") (codes "Outfade)" ++ fields),
-        fall_is_read project rate separators entry length h some new,
+        is_no_end (codes "EVENT_LIST") (codes "Infade)" ++ fade_end length),
+        fade_is_read project rate separators true entry length h some new,
+      )
+  fade_line_is_read false events entry found length n h some new =
+      rw (
+        is_no_end (codes "EVENT_LIST") (codes "Outfade)" ++ fade_end length),
+        fade_is_read project rate separators false entry length h some new,
       )
 
   -- an entry of this event, whichever of its fades were told
@@ -133,9 +124,8 @@ module _
         fall_of_zero event length (grind (arith, nat_tests)) none in
         rw e (subst (λ ev. GivesBehind events ev found rest result) same gives has_rise false)
     by_test false e =
-        rw e (one_line project.rate _ _ (codes "(Outfade)" ++ (codes " " ++ (time_text project (Some length) ++ codes " LIN _ _ _")))
-        rest result
-        (λ n. fall_line_is_read events (told event has_rise false) found length n h e refl) refl
+        rw e (one_line project.rate _ _ (codes "(Outfade)" ++ fade_end length) rest result
+        (λ n. fade_line_is_read false events (told event has_rise false) found length n h e refl) refl
         (gives has_rise true))
 
   rises_are_read :
@@ -161,10 +151,9 @@ module _
         rw e (falls_are_read events (without_fades event) false found event.fall.length rest result facts.fall refl
         (subst (λ ev. GivesBehind events ev found rest result) (sym same) gives))
     by_test false e =
-        rw e (one_line project.rate _ _ (codes "(Infade)"
-        ++ (codes " " ++ (time_text project (Some event.rise.length) ++ codes " LIN _ _ _")))
+        rw e (one_line project.rate _ _ (codes "(Infade)" ++ fade_end event.rise.length)
         (fade_lines project (codes "(Outfade)") event.fall.length ++ rest) result
-        (λ n. rise_line_is_read events (told (without_fades event) false false)
+        (λ n. fade_line_is_read true events (told (without_fades event) false false)
         found event.rise.length n facts.rise e refl) refl
         (falls_are_read events (record event { fall = record { length = 0 } })
         true found event.fall.length rest result facts.fall refl gives))

@@ -1,7 +1,9 @@
 -- What a crash may leave of a text that grew.
 use Rattle.std.proofs.Common.{◌≡◌, ◌≢◌, ℕ, ◌+◌, ◌≤◌, ◌==◌, if◌then◌else◌, min, Some, None, List, [], ◌∷◌, ◌++◌, length, take, refl, sym, ◌∙◌, arith}
 use Rattle.std.proofs.lemmas.List.{length-append, length-take, take_all, drop_all}
-use Rattle.work_terms.specs.Disk.{Files, Changes, IsTornBehind, HasTornEnd, end_of, IsDurable}
+use Rattle.std.specs.Prelude.{⊤, ◌^◌, true}
+use Rattle.work_terms.specs.Disk.{Files, Changes, IsTornBehind, HasTornEnd, HasWritten, end_of, IsDurable}
+use Rattle.adlwrite.specs.declared.text_file.TextFile.{TextFile}
 use Rattle.adlwrite.specs.LeftText.{IsLeftText, none_there}
 
 -- this text under the empty name, and no other file
@@ -51,15 +53,28 @@ grown text bytes [] c empty left =
     others (first ∷ rest) apart = left.alone first rest
 
 -- no other file is ever there
-pub others_durable : (text name n : List ℕ) → length name ≡ 0 → n ≢ name
+others_durable : (text name n : List ℕ) → length name ≡ 0 → n ≢ name
     → IsDurable n (λ m. if length m == 0 then Some text else None) (IsLeftText text)
 others_durable text (first ∷ rest) n empty apart = absurd (omega (arith, empty))
 others_durable text [] [] empty apart = absurd (apart refl)
 others_durable text [] (first ∷ rest) empty apart = λ c left. left.alone first rest ∙ sym (none_there text first rest)
 
 -- and no other file is read
-pub others_same : (old new name n : List ℕ) → length name ≡ 0 → n ≢ name
+others_same : (old new name n : List ℕ) → length name ≡ 0 → n ≢ name
     → (if length n == 0 then Some new else None) ≡ (if length n == 0 then Some old else None)
 others_same old new (first ∷ rest) n empty apart = absurd (omega (arith, empty))
 others_same old new [] [] empty apart = absurd (apart refl)
 others_same old new [] (first ∷ rest) empty apart = none_there new first rest ∙ sym (none_there old first rest)
+
+-- so only the file of the empty name changes, whether the text grew or not
+pub only_grown : {quiet device failed : Type 0} (old new : TextFile) (name : List ℕ) → length name ≡ 0 → failed
+    → HasWritten (λ file n. if length n == 0 then Some file.text.items else None) (λ _. true) (λ _. 2 ^ 64) (λ _ _. ⊤)
+    (λ file. IsLeftText file.text.items) (λ n. n ≢ name) old new quiet device failed
+only_grown old new name empty there = record {
+  others = λ honest n apart. others_same old.text.items new.text.items name n empty apart;
+  durable = λ honest n apart was. others_durable new.text.items name n empty apart;
+  honest_same = refl;
+  cause = record { later = omega arith; left = λ quiet. refl; rose = λ device below. absurd (omega (arith, below)) };
+  keeps = λ n f. f;
+  failed_there = there;
+}

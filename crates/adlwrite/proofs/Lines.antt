@@ -1,5 +1,5 @@
 -- The lines of a source, of an entry and of a fade are read as they were written.
-use Rattle.std.proofs.Common.{◌≡◌, ℕ, ◌≤◌, false, List, [], ◌∷◌, ◌++◌, length, Option, Some, Ok, IsTrue, refl, ap, sym, ◌∙◌, arith}
+use Rattle.std.proofs.Common.{◌≡◌, ℕ, ◌≤◌, Bool, true, false, List, [], ◌∷◌, ◌++◌, length, Option, Some, Ok, IsTrue, refl, ap, sym, ◌∙◌, arith}
 use Rattle.std.specs.Prelude.{codes, ◌==◌}
 use Rattle.std.proofs.lemmas.Bool.Decides.{nat_tests}
 use Rattle.std.proofs.lemmas.List.{append-nil}
@@ -55,6 +55,19 @@ curve_is_read :
 unfolding reads
 curve_is_read length some =
     ap (λ form. reads form (codes " LIN _ _ _")) (long_curve length some) ∙ rw (linear_is_read, curve_ends) refl
+
+-- the fade in of an entry, or its fade out: its keyword, the entry with it, and whether it was told
+abbrev pub fade_keyword : (is_rise : Bool) → List ℕ
+fade_keyword true = codes "Infade"
+fade_keyword false = codes "Outfade"
+
+abbrev pub with_fade : (is_rise : Bool) → OpenEntry → ℕ → OpenEntry
+with_fade true = with_rise
+with_fade false = with_fall
+
+abbrev pub is_told : (is_rise : Bool) → OpenEntry → Bool
+is_told true entry = entry.has_rise
+is_told false entry = entry.has_fall
 
 -- ---- a source
 
@@ -139,20 +152,14 @@ module _ (project : ListProject) (rate : IsTrue (is_rate project.rate)) (separat
         (grind (arith, nat_tests)) refl)
         (curve_is_read length some)
 
-    pub rise_is_read :
-        (entry : OpenEntry) (length : ℕ) → length ≤ day → (length == 0) ≡ false → entry.has_rise ≡ false
-        → reads (entry_with project.rate entry (record { kind = Keyword; content = codes "Infade" }))
+    pub fade_is_read :
+        (is_rise : Bool) (entry : OpenEntry) (length : ℕ) → length ≤ day → (length == 0) ≡ false
+        → is_told is_rise entry ≡ false
+        → reads (entry_with project.rate entry (record { kind = Keyword; content = fade_keyword is_rise }))
         (codes " " ++ (time_text project (Some length) ++ codes " LIN _ _ _"))
-        ≡ Ok (with_rise entry length)
+        ≡ Ok (with_fade is_rise entry length)
     unfolding entry_with
-    rise_is_read entry length h some new =
+    fade_is_read true entry length h some new =
         told_read (with_rise entry) entry.has_rise RepeatedFade (fade_fields project.rate) _ length new (fade_fields-written length h some)
-
-    pub fall_is_read :
-        (entry : OpenEntry) (length : ℕ) → length ≤ day → (length == 0) ≡ false → entry.has_fall ≡ false
-        → reads (entry_with project.rate entry (record { kind = Keyword; content = codes "Outfade" }))
-        (codes " " ++ (time_text project (Some length) ++ codes " LIN _ _ _"))
-        ≡ Ok (with_fall entry length)
-    unfolding entry_with
-    fall_is_read entry length h some new =
+    fade_is_read false entry length h some new =
         told_read (with_fall entry) entry.has_fall RepeatedFade (fade_fields project.rate) _ length new (fade_fields-written length h some)

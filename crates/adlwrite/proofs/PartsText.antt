@@ -1,10 +1,11 @@
 -- The parts of a list, one after another, are its text.
-use Rattle.std.proofs.Common.{◌≡◌, ℕ, Bool, true, false, List, [], ◌∷◌, ◌++◌, Option, None, Some, refl, sym, ap, ◌∙◌, append_assoc}
+use Rattle.std.proofs.Common.{◌≡◌, ◌≢◌, ℕ, Bool, true, false, List, [], ◌∷◌, ◌++◌, Option, None, Some, refl, sym, ap, ◌∙◌, append_assoc, arith}
 use Rattle.std.specs.Prelude.{codes, flat_map, ◌==◌}
+use Rattle.std.proofs.lemmas.Bool.Decides.{nat_tests}
 use Rattle.std.proofs.lemmas.List.{append-nil}
 use Rattle.sound_terms.specs.declared.Event.{Event}
 use Rattle.list_terms.specs.Project.{Header, ListProject, Source}
-use Rattle.list_terms.specs.WrittenText.{event_line, event_lines, fade_lines, line, section, source_line, text_of_project}
+use Rattle.list_terms.specs.WrittenText.{event_line, event_lines, fade_lines, line, number_text, section, source_line, text_of_project, time_text}
 use Rattle.adlwrite.specs.Parts.{channels_behind, curve_text, ending_text, entry_numbers, entry_text, entry_times, event_text, fade_line, fade_text, file_text, head_text, header_text, index_text, list_text, opening_text, section_text, source_text, source_times}
 
 source_is_its_line :
@@ -112,9 +113,50 @@ whole_list project =
     (line (codes "<EVENT_LIST>")) (flat_map line (flat_map (event_lines project) project.events))
     (line (codes "</EVENT_LIST>")) (line (codes "</ADL>")))
 
+-- ---- a fade, a source, an entry and the header, by the parts that are put
+
 pub no_fade : (project : ListProject) (keyword : List ℕ) (n length : ℕ) → n ≡ 0 → n ≡ length → [] ≡ fade_text project keyword length
 unfolding fade_text
 no_fade project keyword n length none same = rw (sym same ∙ none) refl
+
+pub fade_of_parts :
+    (project : ListProject) (keyword time : List ℕ) (n length : ℕ) → n ≢ 0 → n ≡ length
+    → time ≡ time_text project (Some length)
+    → keyword ++ (time ++ (codes " LIN _ _ _\r\n" ++ [])) ≡ fade_text project keyword length
+unfolding fade_text fade_line curve_text
+fade_of_parts project keyword time n length some same is =
+    let there : (length == 0) ≡ false = grind (arith, nat_tests) in rw (there, is) refl
+
+pub source_of_parts :
+    (project : ListProject) (source : Source) (number : ℕ) (url uid : List ℕ) (start length : Option ℕ)
+    → number ≡ source.number → url ≡ source.url → uid ≡ source.uid → start ≡ source.start → length ≡ source.length
+    → codes "(Index) " ++ (number_text number ++ (codes " (F) \"" ++ (url ++ (codes "\" " ++ (uid
+    ++ (codes " " ++ (time_text project start ++ (codes " " ++ (time_text project length ++ (codes "\r\n" ++ []))))))))))
+    ≡ source_text project source
+unfolding source_text index_text file_text source_times
+source_of_parts project source number url uid start length one two three four five =
+    rw (one, two, three, four, five) (simp append_assoc)
+
+pub event_of_parts :
+    (project : ListProject) (event : Event)
+    → codes "(Entry) " ++ (number_text event.number ++ (codes " (Cut) I " ++ (number_text event.index
+    ++ (channels_behind event.source ++ (channels_behind event.dest
+    ++ (codes " " ++ (time_text project (Some event.source_in) ++ (codes " " ++ (time_text project (Some event.dest_in)
+    ++ (codes " " ++ (time_text project (Some event.dest_out) ++ (codes "\r\n"
+    ++ (fade_text project (codes "(Infade) ") event.rise.length
+    ++ (fade_text project (codes "(Outfade) ") event.fall.length ++ []))))))))))))))
+    ≡ event_text project event
+unfolding event_text entry_text entry_numbers entry_times
+event_of_parts project event = simp (append_assoc, append-nil)
+
+pub head_of_parts :
+    (header : Header)
+    → header_text (codes "VERSION") header.version ++ (header_text (codes "PROJECT") header.project
+    ++ (header_text (codes "SYSTEM") header.system ++ (header_text (codes "SEQUENCE") header.sequence
+    ++ (header_text (codes "TRACKLIST") header.track_list ++ []))))
+    ≡ head_text header
+unfolding head_text
+head_of_parts header = simp append-nil
 
 pub list_is_its_text :
     (project : ListProject) (header : Header) (sources : List Source) (events : List Event)

@@ -34,7 +34,7 @@ so_far stage name header has_index sources has_events entries = record {
 abbrev pub in_head : Stage → List ℕ → HeaderRead → Context
 in_head stage name header = so_far stage name header false [] false no_entry
 
-abbrev read_to : Header → ℕ → Rates → HeaderRead
+abbrev pub read_to : Header → ℕ → Rates → HeaderRead
 read_to lines kept rates = record { lines = lines; kept = kept; rates = rates }
 
 -- the line that opens a section, and the one that ends it

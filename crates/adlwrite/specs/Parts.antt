@@ -1,14 +1,11 @@
 -- The parts of a written list, as they follow one another.
 use Rattle.std.specs.Prelude.{ℕ, ◌==◌, List, [], ◌++◌, Option, None, Some, if◌then◌else◌, codes, flat_map}
-use Rattle.std.specs.Borrow.{Bor}
 use Rattle.sound_terms.specs.declared.Channels.{Channels}
 use Rattle.sound_terms.specs.declared.Event.{Event}
 use Rattle.list_terms.specs.Project.{Header, ListProject, Source}
 use Rattle.list_terms.specs.WrittenText.{channels_text, line, number_text, time_text}
-
--- these texts, one after another
-unfoldable pub all_of : List (Bor (List ℕ)) → List ℕ
-all_of texts = flat_map (λ text. text.now) texts
+use Rattle.adlwrite.specs.declared.parts.Part.{Part}
+use Rattle.adlwrite.specs.declared.parts.Part.TheVariants.{Fade, Number, Plain, Run, Time}
 
 -- a run of channels behind a blank
 unfoldable pub channels_behind : Channels → List ℕ
@@ -57,6 +54,14 @@ fade_line project keyword length = keyword ++ curve_text project length
 -- a fade longer than zero
 unfoldable pub fade_text : ListProject → List ℕ → ℕ → List ℕ
 fade_text project keyword length = if length == 0 then [] else fade_line project keyword length
+
+-- a part of a line: a text, a number, a run of channels, a time or the line of a fade
+abbrev pub part_text : ListProject → Part → List ℕ
+part_text project (Plain text) = text.now
+part_text project (Number number) = number_text number
+part_text project (Run channels) = channels_behind channels
+part_text project (Time time) = time_text project time
+part_text project (Fade keyword length) = fade_text project keyword.now length
 
 unfoldable pub event_text : ListProject → Event → List ℕ
 event_text project event =

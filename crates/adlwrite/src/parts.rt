@@ -2,31 +2,94 @@
 ghost use Rattle.std.specs.Prelude.{◌≡◌, ◌-◌, ℕ, IsSome, IsTrue, List, OnOk, codes, flat_map, length, replicate};
 ghost use Rattle.list_terms.specs.Project.{ListProject};
 ghost use Rattle.list_terms.specs.WrittenText as written;
-ghost use Rattle.list_terms.specs.WrittenText.{text_of_project, time_text};
+ghost use Rattle.list_terms.specs.WrittenText.{number_text, text_of_project, time_text};
 ghost use Rattle.adlmodel.specs.Header.{header_view};
 ghost use Rattle.devices.specs.Frame.{Appends};
-ghost use Rattle.adlwrite.specs.Parts.{all_of, channels_behind, curve_text, ending_text, entry_numbers, entry_text, entry_times, event_text, fade_line, fade_text, file_text, head_text, header_text, index_text, list_text, opening_text, section_text, source_text, source_times};
+ghost use Rattle.adlwrite.specs.Parts.{channels_behind, event_text, fade_text, head_text, header_text, list_text, part_text, section_text, source_text};
 
 use adlmodel::{Bytes, Channels, Event, Header, KeptLines, Project, Source};
 use devices::{Bench, DeviceFault};
 use itoa::Buffer;
 use sampletime::{SampleTime, text_of};
 
-/// This text.
-fn put_text<B: Bench>(bench: &mut B, name: &str, text: &[u8]) -> Result<(), DeviceFault>
-    ensures { Appends B.Bench name.now text.now bench.old bench.new result }
-{
-    bench.append(name, text)
+/// The file that a list is added to, and the project that it is the list of: its times have the rate and the separators
+/// of that project.
+#[derive(Clone, Copy)]
+struct ListFile<'a> {
+    name: &'a str,
+    project: &'a Project,
 }
 
-/// These texts, one after another.
-fn put<B: Bench>(bench: &mut B, name: &str, texts: &[&[u8]]) -> Result<(), DeviceFault>
-    ensures { Appends B.Bench name.now (all_of texts.now) bench.old bench.new result }
+/// What is written into a list.
+trait Written {
+    /// Its text, in a list of this project.
+    ghost text: { ListProject → Self → List ℕ };
+
+    /// Adds it.
+    fn put<B: Bench>(&self, bench: &mut B, file: &ListFile<'_>) -> Result<(), DeviceFault>
+        ensures { Appends B.Bench file.now.name.now (text file.now.project.now self.now) bench.old bench.new result };
+}
+
+/// All of these, one after another.
+fn put_all<B: Bench, W: Written>(
+    bench: &mut B,
+    file: &ListFile<'_>,
+    all: &[W],
+) -> Result<(), DeviceFault>
+    ensures { Appends B.Bench file.now.name.now (flat_map (W.text file.now.project.now) all.now) bench.old bench.new result }
 {
-    for text in texts {
-        put_text(bench, name, text)?;
+    for one in all {
+        one.put(bench, file)?;
     }
     Ok(())
+}
+
+/// A text as it stands.
+impl Written for &[u8] {
+    ghost text = { λ _ text. text.now };
+
+    fn put<B: Bench>(&self, bench: &mut B, file: &ListFile<'_>) -> Result<(), DeviceFault> {
+        bench.append(file.name, *self)
+    }
+}
+
+/// A part of a line.
+#[derive(Clone, Copy)]
+enum Part<'a> {
+    /// A text as it stands.
+    Plain(&'a [u8]),
+    /// A number with at least four digits.
+    Number(u32),
+    /// A run of channels behind a blank: `n` for one, else `a~b`.
+    Run(Channels),
+    /// A time with the separators of the project, and `_` where it is missing.
+    Time(Option<SampleTime>),
+    /// The line of a fade, where it is longer than zero: its keyword, and its length.
+    Fade(&'a [u8], SampleTime),
+}
+
+/// A part, by its texts.
+impl Written for Part<'_> {
+    ghost text = { part_text };
+
+    fn put<B: Bench>(&self, bench: &mut B, file: &ListFile<'_>) -> Result<(), DeviceFault> {
+        match *self {
+            Part::Plain(text) => text.put(bench, file),
+            Part::Number(number) => put_number(bench, file, number),
+            Part::Run(channels) => put_channels(bench, file, channels),
+            Part::Time(time) => time_in(&mut [0; 16], file.project, time).put(bench, file),
+            Part::Fade(keyword, length) => put_fade(bench, file, keyword, length),
+        }
+    }
+}
+
+/// A number with at least four digits.
+fn put_number<B: Bench>(bench: &mut B, file: &ListFile<'_>, number: u32) -> Result<(), DeviceFault>
+    ensures { Appends B.Bench file.now.name.now (number_text number) bench.old bench.new result }
+{
+    let mut buffer = Buffer::new();
+    let digits = buffer.format(number).as_bytes();
+    put_all(bench, file, &[zeros_for(digits), digits])
 }
 
 /// The zeros that fill a number up to four digits.
@@ -57,290 +120,146 @@ fn time_in<'a>(room: &'a mut [u8; 16], project: &Project, time: Option<SampleTim
 }
 
 /// The channels behind a blank: `n` for one, else `a~b`.
-#[tactic(auto, unfolding(crate::specs::Parts::channels_behind, crate::specs::Parts::all_of))]
-fn put_channels<B: Bench>(bench: &mut B, name: &str, channels: Channels) -> Result<(), DeviceFault>
-    ensures { Appends B.Bench name.now (channels_behind channels) bench.old bench.new result }
+#[tactic(auto, unfolding(crate::specs::Parts::channels_behind))]
+fn put_channels<B: Bench>(
+    bench: &mut B,
+    file: &ListFile<'_>,
+    channels: Channels,
+) -> Result<(), DeviceFault>
+    ensures { Appends B.Bench file.now.name.now (channels_behind channels) bench.old bench.new result }
 {
     let mut buffer = Buffer::new();
     let first = buffer.format(channels.first).as_bytes();
     if channels.first == channels.last {
-        return put(bench, name, &[b" ", first]);
+        return put_all(bench, file, &[b" ", first]);
     }
     let mut buffer = Buffer::new();
     let last = buffer.format(channels.last).as_bytes();
-    put(bench, name, &[b" ", first, b"~", last])
-}
-
-/// The number of a source.
-#[tactic(auto, unfolding(crate::specs::Parts::index_text, crate::specs::Parts::all_of))]
-fn put_index<B: Bench>(bench: &mut B, name: &str, source: &Source) -> Result<(), DeviceFault>
-    ensures { Appends B.Bench name.now (index_text source.now) bench.old bench.new result }
-{
-    let mut buffer = Buffer::new();
-    let digits = buffer.format(source.number()).as_bytes();
-    put(bench, name, &[b"(Index) ", zeros_for(digits), digits])
-}
-
-/// The file of a source.
-#[tactic(auto, unfolding(crate::specs::Parts::file_text, crate::specs::Parts::all_of))]
-fn put_file<B: Bench>(bench: &mut B, name: &str, source: &Source) -> Result<(), DeviceFault>
-    ensures { Appends B.Bench name.now (file_text source.now) bench.old bench.new result }
-{
-    put(
-        bench,
-        name,
-        &[b" (F) \"", source.url(), b"\" ", source.uid()],
-    )
-}
-
-/// The times of a source, and the end of its line.
-#[tactic(auto, unfolding(crate::specs::Parts::source_times, crate::specs::Parts::all_of))]
-fn put_source_times<B: Bench>(
-    bench: &mut B,
-    name: &str,
-    project: &Project,
-    source: &Source,
-) -> Result<(), DeviceFault>
-    ensures { Appends B.Bench name.now (source_times project.now source.now) bench.old bench.new result }
-{
-    let (mut first, mut second) = ([0; 16], [0; 16]);
-    let start = time_in(&mut first, project, source.start());
-    let length = time_in(&mut second, project, source.length());
-    put(bench, name, &[b" ", start, b" ", length, b"\r\n"])
-}
-
-/// The numbers of an entry.
-#[tactic(auto, unfolding(crate::specs::Parts::entry_numbers, crate::specs::Parts::all_of))]
-fn put_numbers<B: Bench>(bench: &mut B, name: &str, event: &Event) -> Result<(), DeviceFault>
-    ensures { Appends B.Bench name.now (entry_numbers event.now) bench.old bench.new result }
-{
-    let (mut first, mut second) = (Buffer::new(), Buffer::new());
-    let number = first.format(event.number).as_bytes();
-    let index = second.format(event.index).as_bytes();
-    let texts: [&[u8]; 6] = [
-        b"(Entry) ",
-        zeros_for(number),
-        number,
-        b" (Cut) I ",
-        zeros_for(index),
-        index,
-    ];
-    put(bench, name, &texts)
-}
-
-/// The times of an entry, and the end of its line.
-#[tactic(auto, unfolding(crate::specs::Parts::entry_times, crate::specs::Parts::all_of))]
-fn put_entry_times<B: Bench>(
-    bench: &mut B,
-    name: &str,
-    project: &Project,
-    event: &Event,
-) -> Result<(), DeviceFault>
-    ensures { Appends B.Bench name.now (entry_times project.now event.now) bench.old bench.new result }
-{
-    let (mut first, mut second, mut third) = ([0; 16], [0; 16], [0; 16]);
-    let from = time_in(&mut first, project, Some(event.source_in));
-    let begin = time_in(&mut second, project, Some(event.dest_in));
-    let end = time_in(&mut third, project, Some(event.dest_out));
-    put(bench, name, &[b" ", from, b" ", begin, b" ", end, b"\r\n"])
-}
-
-/// The line of an entry, without its fades.
-fn put_entry<B: Bench>(
-    bench: &mut B,
-    name: &str,
-    project: &Project,
-    event: &Event,
-) -> Result<(), DeviceFault>
-    ensures { Appends B.Bench name.now (entry_text project.now event.now) bench.old bench.new result }
-{
-    put_numbers(bench, name, event)?;
-    put_channels(bench, name, event.source)?;
-    put_channels(bench, name, event.dest)?;
-    put_entry_times(bench, name, project, event)
-}
-
-/// What stands behind the keyword of a fade, up to the end of its line.
-#[tactic(auto, unfolding(crate::specs::Parts::curve_text, crate::specs::Parts::all_of))]
-fn put_curve<B: Bench>(
-    bench: &mut B,
-    name: &str,
-    project: &Project,
-    length: SampleTime,
-) -> Result<(), DeviceFault>
-    ensures { Appends B.Bench name.now (curve_text project.now length) bench.old bench.new result }
-{
-    let mut room = [0; 16];
-    let length = time_in(&mut room, project, Some(length));
-    put(bench, name, &[length, b" LIN _ _ _\r\n"])
-}
-
-/// The line of a fade.
-fn put_fade_line<B: Bench>(
-    bench: &mut B,
-    name: &str,
-    project: &Project,
-    keyword: &[u8],
-    length: SampleTime,
-) -> Result<(), DeviceFault>
-    ensures { Appends B.Bench name.now (fade_line project.now keyword.now length) bench.old bench.new result }
-{
-    put_text(bench, name, keyword)?;
-    put_curve(bench, name, project, length)
+    put_all(bench, file, &[b" ", first, b"~", last])
 }
 
 /// The line of a fade, where it is longer than zero.
-#[tactic(auto, unfolding(crate::specs::Parts::fade_text))]
 fn put_fade<B: Bench>(
     bench: &mut B,
-    name: &str,
-    project: &Project,
+    file: &ListFile<'_>,
     keyword: &[u8],
     length: SampleTime,
 ) -> Result<(), DeviceFault>
-    ensures { Appends B.Bench name.now (fade_text project.now keyword.now length) bench.old bench.new result }
+    ensures { Appends B.Bench file.now.name.now (fade_text file.now.project.now keyword.now length) bench.old bench.new result }
 {
     if length.get() == 0 {
         return Ok(());
     }
-    put_fade_line(bench, name, project, keyword, length)
-}
-
-/// The line that opens a section.
-#[tactic(auto, unfolding(crate::specs::Parts::opening_text, crate::specs::Parts::all_of))]
-fn put_opening<B: Bench>(bench: &mut B, name: &str, section: &[u8]) -> Result<(), DeviceFault>
-    ensures { Appends B.Bench name.now (opening_text section.now) bench.old bench.new result }
-{
-    put(bench, name, &[b"<", section, b">\r\n"])
-}
-
-/// The line that ends a section.
-#[tactic(auto, unfolding(crate::specs::Parts::ending_text, crate::specs::Parts::all_of))]
-fn put_ending<B: Bench>(bench: &mut B, name: &str, section: &[u8]) -> Result<(), DeviceFault>
-    ensures { Appends B.Bench name.now (ending_text section.now) bench.old bench.new result }
-{
-    put(bench, name, &[b"</", section, b">\r\n"])
-}
-
-/// What is written as lines of their own.
-trait InLines {
-    /// These lines, in a list of this project.
-    ghost text: { ListProject → Self → List ℕ };
-
-    /// Adds them.
-    fn put<B: Bench>(&self, bench: &mut B, name: &str, project: &Project) -> Result<(), DeviceFault>
-        ensures { Appends B.Bench name.now (text project.now self.now) bench.old bench.new result };
+    let mut room = [0; 16];
+    let time = time_in(&mut room, file.project, Some(length));
+    put_all(bench, file, &[keyword, time, b" LIN _ _ _\r\n"])
 }
 
 /// A line as it stands.
-impl InLines for Bytes {
+impl Written for Bytes {
     ghost text = { λ _ line. written.line line };
 
-    #[tactic(auto, unfolding(crate::specs::Parts::all_of))]
-    fn put<B: Bench>(
-        &self,
-        bench: &mut B,
-        name: &str,
-        _project: &Project,
-    ) -> Result<(), DeviceFault> {
-        put(bench, name, &[self.as_slice(), b"\r\n"])
+    fn put<B: Bench>(&self, bench: &mut B, file: &ListFile<'_>) -> Result<(), DeviceFault> {
+        put_all(bench, file, &[self.as_slice(), b"\r\n"])
     }
 }
 
 /// The line of a source.
-impl InLines for Source {
+impl Written for Source {
     ghost text = { source_text };
 
-    fn put<B: Bench>(
-        &self,
-        bench: &mut B,
-        name: &str,
-        project: &Project,
-    ) -> Result<(), DeviceFault> {
-        put_index(bench, name, self)?;
-        put_file(bench, name, self)?;
-        put_source_times(bench, name, project, self)
+    fn put<B: Bench>(&self, bench: &mut B, file: &ListFile<'_>) -> Result<(), DeviceFault> {
+        let parts = [
+            Part::Plain(b"(Index) "),
+            Part::Number(self.number()),
+            Part::Plain(b" (F) \""),
+            Part::Plain(self.url()),
+            Part::Plain(b"\" "),
+            Part::Plain(self.uid()),
+            Part::Plain(b" "),
+            Part::Time(self.start()),
+            Part::Plain(b" "),
+            Part::Time(self.length()),
+            Part::Plain(b"\r\n"),
+        ];
+        put_all(bench, file, &parts)
     }
 }
 
-/// The lines of an entry.
-impl InLines for Event {
+/// The line of an entry, and those of its fades.
+impl Written for Event {
     ghost text = { event_text };
 
-    fn put<B: Bench>(
-        &self,
-        bench: &mut B,
-        name: &str,
-        project: &Project,
-    ) -> Result<(), DeviceFault> {
-        put_entry(bench, name, project, self)?;
-        put_fade(bench, name, project, b"(Infade) ", self.rise.length)?;
-        put_fade(bench, name, project, b"(Outfade) ", self.fall.length)
+    fn put<B: Bench>(&self, bench: &mut B, file: &ListFile<'_>) -> Result<(), DeviceFault> {
+        let parts = [
+            Part::Plain(b"(Entry) "),
+            Part::Number(self.number),
+            Part::Plain(b" (Cut) I "),
+            Part::Number(self.index),
+            Part::Run(self.source),
+            Part::Run(self.dest),
+            Part::Plain(b" "),
+            Part::Time(Some(self.source_in)),
+            Part::Plain(b" "),
+            Part::Time(Some(self.dest_in)),
+            Part::Plain(b" "),
+            Part::Time(Some(self.dest_out)),
+            Part::Plain(b"\r\n"),
+            Part::Fade(b"(Infade) ", self.rise.length),
+            Part::Fade(b"(Outfade) ", self.fall.length),
+        ];
+        put_all(bench, file, &parts)
     }
-}
-
-/// The lines of all of these.
-fn put_lines<B: Bench, L: InLines>(
-    bench: &mut B,
-    name: &str,
-    project: &Project,
-    content: &[L],
-) -> Result<(), DeviceFault>
-    ensures { Appends B.Bench name.now (flat_map (L.text project.now) content.now) bench.old bench.new result }
-{
-    for lines in content {
-        lines.put(bench, name, project)?;
-    }
-    Ok(())
 }
 
 /// A section of these lines.
-fn put_section<B: Bench, L: InLines>(
+fn put_section<B: Bench, W: Written>(
     bench: &mut B,
-    name: &str,
-    project: &Project,
+    file: &ListFile<'_>,
     section: &[u8],
-    content: &[L],
+    content: &[W],
 ) -> Result<(), DeviceFault>
-    ensures { Appends B.Bench name.now
-        (section_text section.now (flat_map (L.text project.now) content.now)) bench.old bench.new result }
+    ensures { Appends B.Bench file.now.name.now
+        (section_text section.now (flat_map (W.text file.now.project.now) content.now)) bench.old bench.new result }
 {
-    put_opening(bench, name, section)?;
-    put_lines(bench, name, project, content)?;
-    put_ending(bench, name, section)
+    put_all(bench, file, &[b"<", section, b">\r\n"])?;
+    put_all(bench, file, content)?;
+    put_all(bench, file, &[b"</", section, b">\r\n"])
 }
 
+/// A section of the header: its name, and its lines where it is there.
+#[derive(Clone, Copy)]
+struct HeaderSection<'a>(&'a [u8], &'a Option<KeptLines>);
+
 /// A section of the header, where it is there.
-#[tactic(auto, unfolding(crate::specs::Parts::header_text))]
-fn put_header<B: Bench>(
-    bench: &mut B,
-    name: &str,
-    project: &Project,
-    section: &[u8],
-    lines: &Option<KeptLines>,
-) -> Result<(), DeviceFault>
-    ensures { Appends B.Bench name.now (header_text section.now lines.now) bench.old bench.new result }
-{
-    match lines {
-        Some(lines) => put_section(bench, name, project, section, lines.as_slice()),
-        None => Ok(()),
+impl Written for HeaderSection<'_> {
+    ghost text = { λ _ section. header_text section.0.now section.1.now };
+
+    #[tactic(auto, unfolding(crate::specs::Parts::header_text))]
+    fn put<B: Bench>(&self, bench: &mut B, file: &ListFile<'_>) -> Result<(), DeviceFault> {
+        match self.1 {
+            Some(lines) => put_section(bench, file, self.0, lines.as_slice()),
+            None => Ok(()),
+        }
     }
 }
 
 /// The sections of the header.
 fn put_head<B: Bench>(
     bench: &mut B,
-    name: &str,
-    project: &Project,
+    file: &ListFile<'_>,
     header: &Header,
 ) -> Result<(), DeviceFault>
-    ensures { Appends B.Bench name.now (head_text (header_view header.now)) bench.old bench.new result }
+    ensures { Appends B.Bench file.now.name.now (head_text (header_view header.now)) bench.old bench.new result }
 {
-    put_header(bench, name, project, b"VERSION", &header.version)?;
-    put_header(bench, name, project, b"PROJECT", &header.project)?;
-    put_header(bench, name, project, b"SYSTEM", &header.system)?;
-    put_header(bench, name, project, b"SEQUENCE", &header.sequence)?;
-    put_header(bench, name, project, b"TRACKLIST", &header.track_list)
+    let sections = [
+        HeaderSection(b"VERSION", &header.version),
+        HeaderSection(b"PROJECT", &header.project),
+        HeaderSection(b"SYSTEM", &header.system),
+        HeaderSection(b"SEQUENCE", &header.sequence),
+        HeaderSection(b"TRACKLIST", &header.track_list),
+    ];
+    put_all(bench, file, &sections)
 }
 
 /// The first line of a list, at the end of the file, which has to be there.
@@ -351,24 +270,24 @@ fn put_start<B: Bench>(bench: &mut B, name: &str) -> Result<(), DeviceFault>
     bench.append(name, b"<ADL>\r\n")
 }
 
-/// A list of these parts, with the rate and the separators of the project.
+/// A list of these parts.
 fn put_parts<B: Bench>(
     bench: &mut B,
-    name: &str,
-    project: &Project,
+    file: &ListFile<'_>,
     header: &Header,
     sources: &[Source],
     events: &[Event],
 ) -> Result<(), DeviceFault>
-    ensures appends { Appends B.Bench name.now
-        (list_text project.now (header_view header.now) sources.now events.now) bench.old bench.new result }
-    ensures there { IsTrue (B.honest bench.old) → OnOk result (IsSome (B.stored bench.old name.now)) }
+    ensures appends { Appends B.Bench file.now.name.now
+        (list_text file.now.project.now (header_view header.now) sources.now events.now) bench.old bench.new result }
+    ensures there { IsTrue (B.honest bench.old) → OnOk result (IsSome (B.stored bench.old file.now.name.now)) }
 {
-    put_start(bench, name)?;
-    put_head(bench, name, project, header)?;
-    put_section(bench, name, project, b"SOURCE_INDEX", sources)?;
-    put_section(bench, name, project, b"EVENT_LIST", events)?;
-    put_text(bench, name, b"</ADL>\r\n")
+    put_start(bench, file.name)?;
+    put_head(bench, file, header)?;
+    put_section(bench, file, b"SOURCE_INDEX", sources)?;
+    put_section(bench, file, b"EVENT_LIST", events)?;
+    let end: &[u8] = b"</ADL>\r\n";
+    end.put(bench, file)
 }
 
 /// The whole list, at the end of the file, which has to be there.
@@ -376,11 +295,11 @@ pub fn put_list<B: Bench>(bench: &mut B, name: &str, project: &Project) -> Resul
     ensures appends { Appends B.Bench name.now (text_of_project project.now) bench.old bench.new result }
     ensures there { IsTrue (B.honest bench.old) → OnOk result (IsSome (B.stored bench.old name.now)) }
 {
+    let file = ListFile { name, project };
     let header = project.header();
     put_parts(
         bench,
-        name,
-        project,
+        &file,
         header,
         project.sources().as_slice(),
         project.events(),

@@ -1,6 +1,6 @@
-use Rattle.std.proofs.Common.{rules, List, ℕ, subst}
+use Rattle.std.proofs.Common.{List, ℕ, subst}
 use Rattle.adlwrite.specs.LeftText.{IsLeftText}
-use Rattle.adlwrite.proofs.LeftText.{grown, others_durable, others_same}
+use Rattle.adlwrite.proofs.LeftText.{grown, only_grown}
 use Rattle.adlwrite.proofs.text_file.TextFileBench.append.Goals as goal
 
 pub returns-clause-crash : goal.returns-clause-crash
@@ -9,25 +9,7 @@ returns-clause-crash c = λ d left.
     (subst (λ (text : List ℕ). IsLeftText text d) c.in-Ok.ensures.items left)
 
 pub returns-clause-only_writes : goal.returns-clause-only_writes
-returns-clause-only_writes c = record {
-  others = λ honest n apart.
-      others_same c.args.self.now.text.items c.extend_from_slice.new.self.items c.args.name.now n c.if-name-ne0.false apart;
-  durable = λ honest n apart was.
-      others_durable c.extend_from_slice.new.self.items c.args.name.now n c.if-name-ne0.false apart;
-  honest_same = search rules;
-  cause = search rules;
-  keeps = search rules;
-  failed_there = search rules;
-}
+returns-clause-only_writes c = only_grown c.args.self.now _ c.args.name.now c.if-name-ne0.false tt
 
 pub returns-in-Err-clause-only_writes : goal.returns-in-Err-clause-only_writes
-returns-in-Err-clause-only_writes c = record {
-  others = λ honest n apart.
-      others_same c.args.self.now.text.items c.extend_from_slice.new.self.items c.args.name.now n c.if-name-ne0.false apart;
-  durable = λ honest n apart was.
-      others_durable c.extend_from_slice.new.self.items c.args.name.now n c.if-name-ne0.false apart;
-  honest_same = search rules;
-  cause = search rules;
-  keeps = search rules;
-  failed_there = search rules;
-}
+returns-in-Err-clause-only_writes c = only_grown c.args.self.now _ c.args.name.now c.if-name-ne0.false (λ device. tt)

@@ -1,9 +1,0 @@
-use Rattle.std.proofs.Common.{take, Ok}
-use Rattle.devices.specs.Frame.{Appends}
-use Rattle.adlwrite.specs.Parts.{all_of}
-use Rattle.adlwrite.proofs.parts.put.Given as goal
-
--- the texts before the place
-abbrev pub invariant-loop-text : goal.invariant-loop-text
-invariant-loop-text g l =
-    Appends g.B.Bench l.name (all_of (take l.text-index l.texts)) l.initial.bench l.bench (Ok tt)
