@@ -1,5 +1,5 @@
 -- One run after another.
-use Rattle.std.proofs.Common.{◌≡◌, ◌∙◌, ℕ, ◌<◌, Bool, true, false, cond, IsTrue, Option, Some, None, Err, List, [], ◌∷◌, ◌++◌, length, length-set, take, get_or, ◌+◌, refl, sym, ap, subst, arith, eq-eqb}
+use Rattle.std.proofs.Common.{◌≡◌, ◌∙◌, ℕ, ◌<◌, ◌≤◌, Bool, true, false, cond, IsTrue, Option, Some, None, Err, List, [], ◌∷◌, ◌++◌, length, length-set, take, get_or, ◌+◌, refl, sym, ap, subst, arith, eq-eqb}
 use Rattle.std.proofs.lemmas.List.{append-nil, take_more}
 use Rattle.std.specs.Prelude.{IsErrOf}
 use Rattle.work_terms.specs.Disk.{Files}
@@ -14,7 +14,7 @@ use Rattle.execution.specs.EventRun.{ActionStep, IsConfined, MarkFails, Performe
 use Rattle.job_terms.specs.declared.BoardEvent.TheVariants as event
 use Rattle.job_terms.specs.Board.{Board, is_out, job_at, reopened}
 use Rattle.job_terms.specs.Workers.{Jobs, World}
-use Rattle.execution.specs.Ends.{NeedsPlace, NeedsRoom, end_of, ended_of, events_of, fault_of}
+use Rattle.execution.specs.Ends.{NeedsPlace, NeedsRoom, StopsBefore, end_of, ended_of, events_of, fault_of}
 use Rattle.execution.specs.declared.fault.JobFault.{JobFault}
 use Rattle.execution.specs.declared.fault.JobFault.TheVariants as job_fault
 use Rattle.execution.specs.declared.fault.ExecutionFault.{ExecutionFault}
@@ -28,7 +28,7 @@ use Rattle.execution.proofs.LeadLaws.{leads-append, leads-keeps, leads-none}
 use Rattle.execution.proofs.MarkSteps.{marks-quiet}
 use Rattle.execution.proofs.Marked.{leaves-wider}
 use Rattle.execution.proofs.Rights.{leads-right}
-use Rattle.execution.proofs.Runs.{hand-leads, leads-more}
+use Rattle.execution.proofs.Runs.{TurnsHand, hand-leads, leads-one}
 use Rattle.execution.proofs.TurnLaws.{turns-one, turns-then}
 
 -- ---- what holds of the plan and of the sources of one snapshot holds of another's
@@ -144,21 +144,20 @@ acts marks sources p Fault number s t had has h = h
 acts marks sources p Lose number s t had has h = h
 
 pub run-step : (a b : Snapshot) (action : Action) (number : ℕ) (had has : ℕ → Hand) (hand now : Hand) (e : Option End)
-    → hand ≡ had number → ((v : ℕ) → has v ≡ with_hand had number now v)
+    → TurnsHand had number hand now has
     → WorkerStep (ActionStep a.plan.marks (jobs_of a) action) (ActionTurn action) a hand b now e → EventRun a had
     (event_of action number ∷ []) b has e
-run-step a b action number had has hand now e is after h = record {
+run-step a b action number had has hand now e turned h = record {
   kept = h.kept;
   turned = λ none. turns-one action number a.board b.board had has (subst (λ (x : Hand). ActionTurn action a.board x
-      b.board (has number)) is (subst (λ (x : Hand). ActionTurn action a.board hand b.board x) (sym (after number ∙ here number))
+      b.board (has number)) turned.was (subst (λ (x : Hand). ActionTurn action a.board hand b.board x) (sym (turned.after number ∙ here number))
       (h.turned none)));
-  run = λ honest whole. leads-more a.plan.marks (jobs_of a) [] (event_of action number) (state_at a None)
-      (state_at a None) (state_at b e) had had has refl
-      (leads-none a.plan.marks (jobs_of a) (state_at a None) had had (λ v. refl))
+  run = λ honest whole. leads-one a.plan.marks (jobs_of a) (event_of action number) (state_at a None) (state_at b e)
+      had has refl
       (acts a.plan.marks a.source.files a.plan action number (state_at a None) (state_at b e) had has
       (hand-leads (ActionStep a.plan.marks (jobs_of a) action) number (state_at a None) had (state_at b e) hand now has
-      is (h.taken honest whole) after));
-  marks = λ honest whole right run. h.marks honest whole (subst (IsRight (jobs_of a)) (sym is) (right number)) run;
+      turned (h.taken honest whole)));
+  marks = λ honest whole right run. h.marks honest whole (subst (IsRight (jobs_of a)) (sym turned.was) (right number)) run;
 }
   where
     here : (w : ℕ) → with_hand had w now w ≡ now
@@ -221,14 +220,13 @@ reclaimed p board board' stale s o had k only is size = record {
     output = writes_none (Stays p) o;
     mark = λ e. cc;
   };
-  run = λ honest whole. leads-more p.marks (jobs_over p.jobs s.files) [] (event.Reclaim k) old old new had had had refl
-      (leads-none p.marks (jobs_over p.jobs s.files) old had had (λ v. refl)) (record {
-        leads = λ world at. (
-          record { state = new; hands = world.hands },
-          (ap (λ b. state_of b o.files stale s.failures o.failures None) is ∙ step world at, refl),
-          record { state_is = refl; hands_are = at.hands_are },
-        );
-      });
+  run = λ honest whole. leads-one p.marks (jobs_over p.jobs s.files) (event.Reclaim k) old new had had refl (record {
+    leads = λ world at. (
+      record { state = new; hands = world.hands },
+      (ap (λ b. state_of b o.files stale s.failures o.failures None) is ∙ step world at, refl),
+      record { state_is = refl; hands_are = at.hands_are },
+    );
+  });
   marks = λ honest whole right run. marks-quiet (p.marking s.files) (done_of board) (done_of board') o None only
       (λ e. cc) (λ j. sym (reclaim-done old k new (ap (λ b. state_of b o.files stale s.failures o.failures None) is ∙
       same (is_out (job_at board k).standing)) j)) run;
@@ -312,38 +310,22 @@ performed-ended in_rounds events i stale this f a b c ha hb hc lt is g h place r
     before r = subst (λ (es : List BoardEvent). EventRun a ha es (c stale) hc None) (append-nil (take i events))
         (run-then a b (c stale) ha hb hc (take i events) [] None g r)
 
+    ends : (x : ExecutionFault) (count : ℕ) → count ≤ length events
+        → EventRun a ha (take count events) (c stale) hc (end_of {X = Unit {0}} (Err x)) → StopsBefore events count x
+        → Performed in_rounds events a ha c hc (Err x)
+    ends x count few ran stops = record { count = count; few = few; stale = stale; ran = ran; stops = stops }
+
     go : (f : ExecutionFault)
         → EventRun b hb (events_of {X = Unit {0}} (Err f) this) (c stale) hc (end_of {X = Unit {0}} (Err f))
         → (IsErrOf {T = Unit {0}} (Err f) fault.Memory → NeedsPlace this)
         → (IsErrOf {T = Unit {0}} (Err f) fault.JobMemory → NeedsRoom this)
         → ((file : ℕ) → IsErrOf {T = Unit {0}} (Err f) (fault.Output file) → ⊥)
         → Performed in_rounds events a ha c hc (Err f)
-    go fault.Memory r place room none = record {
-      count = i;
-      few = omega (arith, lt);
-      stale = stale;
-      ran = before r;
-      stops = (lt, subst NeedsPlace is (place refl));
-    }
-    go fault.JobMemory r place room none = record {
-      count = i;
-      few = omega (arith, lt);
-      stale = stale;
-      ran = before r;
-      stops = (lt, subst NeedsRoom is (room refl));
-    }
-    go (fault.GivenUp job) r place room none = record {
-      count = i + 1;
-      few = omega (arith, lt);
-      stale = stale;
-      ran = last (Some (GivenUp job)) r;
-      stops = tt;
-    }
-    go fault.Mark r place room none = record {
-      count = i + 1;
-      few = omega (arith, lt);
-      stale = stale;
-      ran = last (Some MarkFailed) r;
-      stops = tt;
-    }
+    go fault.Memory r place room none =
+        ends fault.Memory i (omega (arith, lt)) (before r) (lt, subst NeedsPlace is (place refl))
+    go fault.JobMemory r place room none =
+        ends fault.JobMemory i (omega (arith, lt)) (before r) (lt, subst NeedsRoom is (room refl))
+    go (fault.GivenUp job) r place room none =
+        ends (fault.GivenUp job) (i + 1) (omega (arith, lt)) (last (Some (GivenUp job)) r) tt
+    go fault.Mark r place room none = ends fault.Mark (i + 1) (omega (arith, lt)) (last (Some MarkFailed) r) tt
     go (fault.Output file) r place room none = absurd (none file refl)

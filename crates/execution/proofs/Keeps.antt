@@ -1,5 +1,5 @@
 -- What is done stays done, along each run.
-use Rattle.std.proofs.Common.{◌≡◌, ◌∙◌, ℕ, ◌+◌, ◌<◌, Bool, true, false, cond, ◌&&◌, nat_lt, ◌==◌, MatchBool, is_none, Some, None, List, [], ◌∷◌, length, get_or-set_same, get_or-set_other, refl, sym, ap, inl, inr}
+use Rattle.std.proofs.Common.{◌≡◌, ◌∙◌, ℕ, ◌+◌, ◌<◌, Bool, true, false, cond, ◌&&◌, nat_lt, ◌==◌, Some, None, List, length, get_or-set_same, get_or-set_other, refl, sym, ap, inl, inr}
 use Rattle.std.proofs.lemmas.Bool.{cases_eq, cases_lt}
 use Rattle.std.proofs.lemmas.List.{get_or_past}
 use Rattle.job_terms.specs.declared.Job.{Job}
@@ -16,6 +16,7 @@ use Rattle.execution.specs.Worlds.{state_of}
 use Rattle.execution.proofs.Firsts.{givable-there}
 use Rattle.execution.proofs.Marked.{current-there, done-accepted, fault-done}
 use Rattle.execution.proofs.Rests.{open-not_done}
+use Rattle.execution.proofs.Runs.{run-holds}
 
 apart : true ≡ false → ⊥
 apart h = cc
@@ -158,14 +159,5 @@ step-keeps marks jobs old (Reclaim k) new s j on = reclaim-done old.state k new.
 pub run-keeps : (marks : Bool) (jobs : Jobs) (events : List BoardEvent) (old new : w.World) → w.BoardRun marks jobs
     old events new
     → (j : ℕ) → done_of old.state.board j ≡ true → done_of new.state.board j ≡ true
-run-keeps marks jobs [] old new r j on = ap (λ (x : w.World). done_of x.state.board j) r ∙ on
-run-keeps marks jobs (event ∷ events) old new r j on =
-    go (is_none old.state.ended) r (λ mid s rest. run-keeps marks jobs events mid new rest j (step-keeps marks jobs
-    old event mid s j on))
-  where
-    go : (b : Bool) → MatchBool b ((mid : w.World) × w.BoardStep marks jobs old event mid × w.BoardRun marks jobs mid
-        events new) (new ≡ old)
-        → ((mid : w.World) → w.BoardStep marks jobs old event mid → w.BoardRun marks jobs mid events new → done_of
-        new.state.board j ≡ true) → done_of new.state.board j ≡ true
-    go true s f = f s.0 s.1 s.2
-    go false s f = ap (λ (x : w.World). done_of x.state.board j) s ∙ on
+run-keeps marks jobs events old new run j = run-holds (λ x. done_of x.state.board j ≡ true) marks jobs
+    (λ before event after step. step-keeps marks jobs before event after step j) events old new run

@@ -1,11 +1,12 @@
 -- What is noted of jobs, along steps.
-use Rattle.std.proofs.Common.{◌≡◌, ◌∙◌, ◌⊎◌, ◌==◌, ℕ, Bool, true, false, cond, IsTrue, List, inl, inr, refl, sym, ap, subst}
+use Rattle.std.proofs.Common.{◌≡◌, ◌∙◌, ◌==◌, ℕ, Bool, true, false, cond, IsTrue, List, inl, inr, refl, sym, ap, subst}
 use Rattle.std.proofs.lemmas.Bool.Decides.{eqb_tells}
 use Rattle.job_terms.specs.declared.Ticket.{Ticket}
-use Rattle.job_terms.specs.Workers.{Busy, GiveStep, Gives, Hand, Holds, Made, NoneLeft, Nothing, State, with_hand}
+use Rattle.job_terms.specs.Workers.{Busy, GiveStep, Gives, Hand, Holds, Made, NoneLeft, Nothing, State}
 use Rattle.work_terms.specs.Disk.{Files}
 use Rattle.execution.specs.Marking.{with_done}
 use Rattle.execution.specs.Noted.{IsNoted, KeepsNotes, alone}
+use Rattle.execution.proofs.Runs.{TurnsHand}
 
 noted-more : (P Q : ℕ → Type 0) → ((k : ℕ) → P k → Q k) → (hand : Hand) → IsNoted P hand → IsNoted Q hand
 noted-more P Q f Nothing h = tt
@@ -38,17 +39,17 @@ notes-then F G H P Q R a b c ha hb hc g h = record {
 
 -- one of many workers
 pub notes-of : {W : Type 0} (F G : W → Type 0) (P Q : ℕ → Type 0) (was now : ℕ → Bool) (had has : ℕ → Hand) (number : ℕ) (hand next : Hand)
-    → hand ≡ had number → ((v : ℕ) → has v ≡ with_hand had number next v)
+    → TurnsHand had number hand next has
     → KeepsNotes F G P Q was now (alone hand) (alone next) → KeepsNotes F G P Q was now had has
-notes-of F G P Q was now had has number hand next is after h = record {
+notes-of F G P Q was now had has number hand next turned h = record {
   same = h.same;
   kept = h.kept;
-  hands = λ noted w. subst (IsNoted Q) (sym (after w)) (go noted w (w == number));
-  done = λ noted. h.done (λ w. subst (IsNoted P) (sym is) (noted number));
+  hands = λ noted w. subst (IsNoted Q) (sym (turned.after w)) (go noted w (w == number));
+  done = λ noted. h.done (λ w. subst (IsNoted P) (sym turned.was) (noted number));
 }
   where
     go : ((w : ℕ) → IsNoted P (had w)) → (w : ℕ) (b : Bool) → IsNoted Q (cond b next (had w))
-    go noted w true = h.hands (λ v. subst (IsNoted P) (sym is) (noted number)) w
+    go noted w true = h.hands (λ v. subst (IsNoted P) (sym turned.was) (noted number)) w
     go noted w false = noted-more P Q h.kept (had w) (noted w)
 
 -- the hands are the same, whatever they are called

@@ -242,9 +242,16 @@ module _ (in_rounds : Bool) (events : List BoardEvent) (p p2 p3 : JobPlan) (boar
       (done-stay in_rounds events p p2 board board2 s s2 o o2 had has (Ok progress) h size honest whole) (λ k d. d))
       (fin.any_moment (on whole) s.files (done_of board2) (marked honest whole none running).now))
 
+  -- the plan is the same, after the events too
+  planned : (r : Result (Unit {0}) OutputFault) → Finishes p2 o2 o3 r → Finishes p o2 o3 r
+  planned r = subst (λ (q : JobPlan). Finishes q o2 o3 r) h.ran.kept.plan
+
+  wrote-planned : (r : Result (Unit {0}) OutputFault) → Wrote (IsForeign p2) p2 o2 o3 r → Wrote (IsForeign p) p o2 o3 r
+  wrote-planned r = subst (λ (q : JobPlan). Wrote (IsForeign q) q o2 o3 r) h.ran.kept.plan
+
   pub finished-all : Finishes p2 o2 o3 (Ok tt) → Wrote (IsForeign p2) p2 o2 o3 (Ok tt)
       → Resumed events (snapshot_of p board 0 s o) had (snapshot_of p3 board2 0 s2 o3) (Ok progress)
-  finished-all fin2 wrote2 = record {
+  finished-all fin2 wrote2 = let fin = planned (Ok tt) fin2 in let wrote_on = wrote-planned (Ok tt) wrote2 in record {
     bounded = record {
       plan = same ∙ h.ran.kept.plan;
       size = h.ran.kept.size;
@@ -267,17 +274,12 @@ module _ (in_rounds : Bool) (events : List BoardEvent) (p p2 p3 : JobPlan) (boar
         resting.marked.running).now);
     moments = λ honest whole running. moments-on (Ok tt) fin honest whole running.idle running.running;
   }
-    where
-      fin : Finishes p o2 o3 (Ok tt)
-      fin = subst (λ (q : JobPlan). Finishes q o2 o3 (Ok tt)) h.ran.kept.plan fin2
-
-      wrote_on : Wrote (IsForeign p) p o2 o3 (Ok tt)
-      wrote_on = subst (λ (q : JobPlan). Wrote (IsForeign q) q o2 o3 (Ok tt)) h.ran.kept.plan wrote2
 
   pub finish-failed : (f : OutputFault) (reported : ExecutionFault) → reported ≡ fault.Output f.file
       → Finishes p2 o2 o3 (Err f) → Wrote (IsForeign p2) p2 o2 o3 (Err f)
       → Resumed events (snapshot_of p board 0 s o) had (snapshot_of p3 board2 0 s2 o3) (Err reported)
-  finish-failed f reported is fin2 wrote2 = subst (λ (x : ExecutionFault). Resumed events (snapshot_of p board 0 s o) had
+  finish-failed f reported is fin2 wrote2 =
+      let fin = planned (Err f) fin2 in let wrote_on = wrote-planned (Err f) wrote2 in subst (λ (x : ExecutionFault). Resumed events (snapshot_of p board 0 s o) had
       (snapshot_of p3 board2 0 s2 o3) (Err x)) (sym is) (record {
         bounded = record {
           plan = same ∙ h.ran.kept.plan;
@@ -300,12 +302,6 @@ module _ (in_rounds : Bool) (events : List BoardEvent) (p p2 p3 : JobPlan) (boar
             resting.marked.running).now);
         moments = λ honest whole running. moments-on (Err f) fin honest whole running.idle running.running;
       })
-    where
-      fin : Finishes p o2 o3 (Err f)
-      fin = subst (λ (q : JobPlan). Finishes q o2 o3 (Err f)) h.ran.kept.plan fin2
-
-      wrote_on : Wrote (IsForeign p) p o2 o3 (Err f)
-      wrote_on = subst (λ (q : JobPlan). Wrote (IsForeign q) q o2 o3 (Err f)) h.ran.kept.plan wrote2
 
 -- ---- outputs that are laid out first
 

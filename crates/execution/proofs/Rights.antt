@@ -1,11 +1,12 @@
 -- Right bytes in the hands along each run; and the events that leave what is done as it is.
-use Rattle.std.proofs.Common.{◌≡◌, ℕ, Bool, true, false, cond, ◌==◌, MatchBool, is_none, List, [], ◌∷◌, refl, sym, subst}
+use Rattle.std.proofs.Common.{ℕ, Bool, List, refl, sym, subst}
 use Rattle.job_terms.specs.declared.BoardEvent.{BoardEvent}
 use Rattle.job_terms.specs.declared.BoardEvent.TheVariants.{Give, Work, Deliver, Fault, Lose, Reclaim}
 use Rattle.job_terms.specs.Workers as w
 use Rattle.job_terms.specs.Workers.{Jobs, Hand, State, DeliverStep, Delivers, CantWrite, CantMark, IsStale, HasNoBytes}
 use Rattle.execution.specs.Marking.{IsRight}
 use Rattle.execution.specs.Worlds.{Leads}
+use Rattle.execution.proofs.Runs.{each-hand, run-holds}
 use Rattle.job_terms.specs.Workers.{GiveStep, Gives, NoneLeft, Busy, WorkStep, Makes, CantMake, HasNoJob}
 
 give-right : (jobs : Jobs) (old new : State) (hand now : Hand) → GiveStep old hand new now → IsRight jobs hand →
@@ -35,49 +36,25 @@ fault-right jobs old new w.Nothing now s = subst (IsRight jobs) (sym s.1) tt
 fault-right jobs old new (w.Holds t) now s = subst (IsRight jobs) (sym s.1) tt
 fault-right jobs old new (w.Made t b) now s = subst (IsRight jobs) (sym s.1) tt
 
-hands-right : (jobs : Jobs) (old new : ℕ → Hand) (number : ℕ) (now : Hand) → new ≡ w.with_hand old number now
-    → IsRight jobs now → ((v : ℕ) → IsRight jobs (old v)) → (v : ℕ) → IsRight jobs (new v)
-hands-right jobs old new number now is good all v = subst (λ (h : ℕ → Hand). IsRight jobs (h v)) (sym is)
-    (go (v == number))
-  where
-    go : (b : Bool) → IsRight jobs (cond b now (old v))
-    go true = good
-    go false = all v
-
 step-right : (marks : Bool) (jobs : Jobs) (old : w.World) (event : BoardEvent) (new : w.World) → w.BoardStep marks
     jobs old event new
     → ((v : ℕ) → IsRight jobs (old.hands v)) → (v : ℕ) → IsRight jobs (new.hands v)
-step-right marks jobs old (Give n) new s r = hands-right jobs old.hands new.hands n s.0 s.2 (give-right jobs old.state
+step-right marks jobs old (Give n) new s r = each-hand (IsRight jobs) old.hands new.hands n s.0 s.2 (give-right jobs old.state
     new.state (old.hands n) s.0 s.1 (r n)) r
-step-right marks jobs old (Work n) new s r = hands-right jobs old.hands new.hands n s.0 s.2 (work-right jobs old.state
+step-right marks jobs old (Work n) new s r = each-hand (IsRight jobs) old.hands new.hands n s.0 s.2 (work-right jobs old.state
     new.state (old.hands n) s.0 s.1 (r n)) r
-step-right marks jobs old (Deliver n) new s r = hands-right jobs old.hands new.hands n s.0 s.2 (deliver-right marks
+step-right marks jobs old (Deliver n) new s r = each-hand (IsRight jobs) old.hands new.hands n s.0 s.2 (deliver-right marks
     jobs old.state new.state (old.hands n) s.0 s.1 (r n)) r
-step-right marks jobs old (Fault n) new s r = hands-right jobs old.hands new.hands n s.0 s.2 (fault-right jobs
+step-right marks jobs old (Fault n) new s r = each-hand (IsRight jobs) old.hands new.hands n s.0 s.2 (fault-right jobs
     old.state new.state (old.hands n) s.0 s.1) r
-step-right marks jobs old (Lose n) new s r = hands-right jobs old.hands new.hands n s.0 s.2 (subst (IsRight jobs)
+step-right marks jobs old (Lose n) new s r = each-hand (IsRight jobs) old.hands new.hands n s.0 s.2 (subst (IsRight jobs)
     (sym s.1.1) tt) r
 step-right marks jobs old (Reclaim k) new s r = λ v. subst (λ (h : ℕ → Hand). IsRight jobs (h v)) (sym s.1) (r v)
-
-run-right : (marks : Bool) (jobs : Jobs) (events : List BoardEvent) (old new : w.World) → w.BoardRun marks jobs old
-    events new
-    → ((v : ℕ) → IsRight jobs (old.hands v)) → (v : ℕ) → IsRight jobs (new.hands v)
-run-right marks jobs [] old new run r = λ v. subst (λ (x : w.World). IsRight jobs (x.hands v)) (sym run) (r v)
-run-right marks jobs (event ∷ events) old new run r =
-    go (is_none old.state.ended) run (λ mid s rest. run-right marks jobs events mid new rest (step-right marks jobs
-    old event mid s r))
-  where
-    go : (b : Bool) → MatchBool b ((mid : w.World) × w.BoardStep marks jobs old event mid × w.BoardRun marks jobs mid
-        events new) (new ≡ old)
-        → ((mid : w.World) → w.BoardStep marks jobs old event mid → w.BoardRun marks jobs mid events new → (v : ℕ) →
-        IsRight jobs (new.hands v)) → (v : ℕ) → IsRight jobs (new.hands v)
-    go true s f = f s.0 s.1 s.2
-    go false s f = λ v. subst (λ (x : w.World). IsRight jobs (x.hands v)) (sym s) (r v)
 
 pub leads-right : (marks : Bool) (jobs : Jobs) (events : List BoardEvent) (old new : State) (had has : ℕ → Hand)
     → Leads (λ world next. w.BoardRun marks jobs world events next) old had new has → ((v : ℕ) → IsRight jobs (had v))
     → (v : ℕ) → IsRight jobs (has v)
 leads-right marks jobs events old new had has lead right v =
     let r = lead.leads (record { state = old; hands = had }) (record { state_is = refl; hands_are = λ v. refl }) in
-    subst (IsRight jobs) (r.2.hands_are v) (run-right marks jobs events (record { state = old; hands = had }) r.0 r.1
-    right v)
+    subst (IsRight jobs) (r.2.hands_are v) (run-holds (λ x. (u : ℕ) → IsRight jobs (x.hands u)) marks jobs
+    (step-right marks jobs) events (record { state = old; hands = had }) r.0 r.1 right v)

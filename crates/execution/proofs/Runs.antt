@@ -1,84 +1,95 @@
--- Runs, one event longer.
-use Rattle.std.proofs.Common.{◌≡◌, ◌≢◌, ◌∙◌, ℕ, Bool, true, false, cond, MatchBool, is_none, None, List, [], ◌∷◌, ◌++◌, ◌==◌, refl, sym, ap, subst, inl, inr}
+-- Runs: what holds along them, and one of a single event.
+use Rattle.std.proofs.Common.{◌≡◌, ◌≢◌, ◌∙◌, ℕ, Bool, true, false, cond, MatchBool, is_none, None, List, [], ◌∷◌, ◌==◌, refl, sym, ap, subst, inl, inr}
 use Rattle.std.proofs.lemmas.Bool.Decides.{eqb_tells}
 use Rattle.job_terms.specs.declared.BoardEvent.{BoardEvent}
 use Rattle.job_terms.specs.Workers.{Jobs, Hand, State, World, BoardStep, BoardRun, HandStep, with_hand}
 use Rattle.execution.specs.Worlds.{Leads}
 
-apart : true ≡ false → ⊥
-apart h = cc
-
-pub run-more : (marks : Bool) (jobs : Jobs) (events : List BoardEvent) (event : BoardEvent) (old mid new : World)
-    → BoardRun marks jobs old events mid → mid.state.ended ≡ None → BoardStep marks jobs mid event new
-    → BoardRun marks jobs old (events ++ event ∷ []) new
-run-more marks jobs [] event old mid new run none step =
-    let open_still : true ≡ is_none old.state.ended = sym (ap (λ (w : World). is_none w.state.ended) (sym run) ∙ ap
-    is_none none) in
-    subst (λ b. MatchBool b ((m : World) × BoardStep marks jobs old event m × (new ≡ m)) (new ≡ old)) open_still
-    (new, subst (λ (w : World). BoardStep marks jobs w event new) run step, refl)
-run-more marks jobs (first ∷ events) event old mid new run none step =
-    go (is_none old.state.ended) refl run (λ m rest. run-more marks jobs events event m mid new rest none step)
+-- what each event keeps is kept along a run
+pub run-holds : (P : World → Type 0) (marks : Bool) (jobs : Jobs)
+    → ((old : World) (event : BoardEvent) (new : World) → BoardStep marks jobs old event new → P old → P new)
+    → (events : List BoardEvent) (old new : World) → BoardRun marks jobs old events new → P old → P new
+run-holds P marks jobs step [] old new run holds = subst P (sym run) holds
+run-holds P marks jobs step (event ∷ events) old new run holds =
+    go (is_none old.state.ended) run (λ mid s rest. run-holds P marks jobs step events mid new rest
+    (step old event mid s holds))
   where
-    go : (b : Bool) → is_none old.state.ended ≡ b
-        → MatchBool b ((m : World) × BoardStep marks jobs old first m × BoardRun marks jobs m events mid) (mid ≡ old)
-        → ((m : World) → BoardRun marks jobs m events mid → BoardRun marks jobs m (events ++ event ∷ []) new)
-        → MatchBool b ((m : World) × BoardStep marks jobs old first m × BoardRun marks jobs m (events ++ event ∷ [])
-        new) (new ≡ old)
-    go true e r ih = (r.0, r.1, ih r.0 r.2)
-    go false e r ih = absurd (apart (sym (ap (λ (w : World). is_none w.state.ended) (sym r) ∙ ap is_none none) ∙ e))
+    go : (b : Bool)
+        → MatchBool b ((mid : World) × BoardStep marks jobs old event mid × BoardRun marks jobs mid events new) (new ≡ old)
+        → ((mid : World) → BoardStep marks jobs old event mid → BoardRun marks jobs mid events new → P new) → P new
+    go true s f = f s.0 s.1 s.2
+    go false s f = subst P (sym s) holds
+
+-- what holds of each hand still does, where it holds of what one worker has now
+pub each-hand : (P : Hand → Type 0) (old new : ℕ → Hand) (number : ℕ) (now : Hand) → new ≡ with_hand old number now
+    → P now → ((v : ℕ) → P (old v)) → (v : ℕ) → P (new v)
+each-hand P old new number now is good all v = subst (λ (h : ℕ → Hand). P (h v)) (sym is) (go (v == number))
+  where
+    go : (b : Bool) → P (cond b now (old v))
+    go true = good
+    go false = all v
+
+-- of these hands one worker's was this, and is that now
+pub record TurnsHand (old : ℕ → Hand) (number : ℕ) (hand now : Hand) (new : ℕ → Hand) : Type 0 where
+  pub was : hand ≡ old number
+  pub after : (v : ℕ) → new v ≡ with_hand old number now v
 
 -- a step of one worker, from its own hand
 pub hand-leads : (step : State → Hand → State → Hand → Type 0) (number : ℕ) (old : State) (had : ℕ → Hand) (new : State)
-    (hand now : Hand) (has : ℕ → Hand) → hand ≡ had number → step old hand new now
-    → ((v : ℕ) → has v ≡ with_hand had number now v)
+    (hand now : Hand) (has : ℕ → Hand) → TurnsHand had number hand now has → step old hand new now
     → Leads (λ world next. HandStep step world number next) old had new has
-hand-leads step number old had new hand now has is taken after = record {
+hand-leads step number old had new hand now has turned taken = record {
   leads = λ world at. (
     record { state = new; hands = with_hand world.hands number now },
     (
       now,
       subst (λ (s : State). step s (world.hands number) new now) (sym at.state_is)
-          (subst (λ (h : Hand). step old h new now) (is ∙ sym (at.hands_are number)) taken),
+          (subst (λ (h : Hand). step old h new now) (turned.was ∙ sym (at.hands_are number)) taken),
       refl,
     ),
     record {
       state_is = refl;
-      hands_are = λ v. ap (λ (h : Hand). cond (v == number) now h) (at.hands_are v) ∙ sym
-          (after v);
+      hands_are = λ v. ap (λ (h : Hand). cond (v == number) now h) (at.hands_are v) ∙ sym (turned.after v);
     },
   );
 }
 
-pub leads-more : (marks : Bool) (jobs : Jobs) (events : List BoardEvent) (event : BoardEvent) (old mid new : State)
-    (had held has : ℕ → Hand) → mid.ended ≡ None
-    → Leads (λ world next. BoardRun marks jobs world events next) old had mid held
-    → Leads (λ world next. BoardStep marks jobs world event next) mid held new has
-    → Leads (λ world next. BoardRun marks jobs world (events ++ event ∷ []) next) old had new has
-leads-more marks jobs events event old mid new had held has none run step = record {
+-- a step is a run of one event
+pub leads-one : (marks : Bool) (jobs : Jobs) (event : BoardEvent) (old new : State) (had has : ℕ → Hand)
+    → old.ended ≡ None → Leads (λ world next. BoardStep marks jobs world event next) old had new has
+    → Leads (λ world next. BoardRun marks jobs world (event ∷ []) next) old had new has
+leads-one marks jobs event old new had has none step = record {
   leads = λ world at.
-      let before = run.leads world at in
-      let after = step.leads before.0 before.2 in (
+      let after = step.leads world at in (
         after.0,
-        run-more marks jobs events event world before.0 after.0 before.1 (ap (λ (s : State). s.ended)
-            before.2.state_is ∙ none) after.1,
+        subst (λ b. MatchBool b ((m : World) × BoardStep marks jobs world event m × (after.0 ≡ m)) (after.0 ≡ world))
+            (sym (ap (λ (s : State). is_none s.ended) at.state_is ∙ ap is_none none)) (after.0, after.1, refl),
         after.2,
       );
 }
 
 -- the hands after one worker was taken out and put back
-pub hand-after : (old taken new : ℕ → Hand) (number : ℕ) (now : Hand) → ((v : ℕ) → v ≢ number → taken v ≡ old v)
+hand-after : (old taken new : ℕ → Hand) (number : ℕ) (now : Hand) → ((v : ℕ) → v ≢ number → taken v ≡ old v)
     → ((v : ℕ) → new v ≡ with_hand taken number now v) → (v : ℕ) → new v ≡ with_hand old number now v
 hand-after old taken new number now others put v = put v ∙ elim (eqb_tells v number) [
   | inl e ↦ ap (λ b. cond b now (taken v)) e.0 ∙ sym (ap (λ b. cond b now (old v)) e.0)
   | inr e ↦ ap (λ (h : Hand). cond (v == number) now h) (others v e.1)
 ]
 
--- ---- what fits a worker
+-- and so, where it was given a place first
+pub hand-placed : (old placed taken new : ℕ → Hand) (number : ℕ) (hand now : Hand) → ((v : ℕ) → placed v ≡ old v)
+    → hand ≡ placed number → ((v : ℕ) → v ≢ number → taken v ≡ placed v)
+    → ((v : ℕ) → new v ≡ with_hand taken number now v) → TurnsHand old number hand now new
+hand-placed old placed taken new number hand now same is others put = record {
+  was = is ∙ same number;
+  after = λ v. hand-after placed taken new number now others put v
+      ∙ ap (λ (h : Hand). cond (v == number) now h) (same v);
+}
 
 -- a worker that was taken out and put back as it was
-pub hand-back : (old new : ℕ → Hand) (number : ℕ) (now : Hand) → ((v : ℕ) → new v ≡ with_hand old number now v)
-    → now ≡ old number → (v : ℕ) → new v ≡ old v
-hand-back old new number now put same v = put v ∙ elim (eqb_tells v number) [
-  | inl e ↦ ap (λ b. cond b now (old v)) e.0 ∙ same ∙ ap old (sym e.1)
-  | inr e ↦ ap (λ b. cond b now (old v)) e.0
+pub hand-back : (old new : ℕ → Hand) (number : ℕ) (hand : Hand) → TurnsHand old number hand hand new → (v : ℕ)
+    → new v ≡ old v
+hand-back old new number hand turned v = turned.after v ∙ elim (eqb_tells v number) [
+  | inl e ↦ ap (λ b. cond b hand (old v)) e.0 ∙ turned.was ∙ ap old (sym e.1)
+  | inr e ↦ ap (λ b. cond b hand (old v)) e.0
 ]

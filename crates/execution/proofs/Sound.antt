@@ -1,5 +1,5 @@
 -- What holds along each run: right bytes in the hands, and outputs filled as far as their jobs are done.
-use Rattle.std.proofs.Common.{◌≡◌, ◌≢◌, ◌∙◌, ◌⊎◌, ℕ, ◌+◌, ◌<◌, Bool, true, false, cond, ◌==◌, MatchBool, is_none, Option, Some, None, List, [], ◌∷◌, length, length-set, get_or-set_same, get_or-set_other, refl, sym, ap, subst, inl, inr}
+use Rattle.std.proofs.Common.{◌≡◌, ◌≢◌, ◌∙◌, ◌⊎◌, ℕ, ◌+◌, ◌<◌, Bool, true, false, cond, Option, Some, None, List, length, length-set, get_or-set_same, get_or-set_other, refl, sym, ap, subst, inl, inr}
 use Rattle.std.proofs.lemmas.Bool.Decides.{eqb_tells}
 use Rattle.std.proofs.lemmas.Bool.{cases_eq, cases_lt}
 use Rattle.std.proofs.lemmas.List.{get_or_past}
@@ -18,6 +18,7 @@ use Rattle.execution.proofs.Firsts.{givable-there}
 use Rattle.execution.specs.Filled.{AreFilled, IsFilled, IsGood, IsGoodHand, IsPartOf, IsSound}
 use Rattle.execution.specs.Marking.{done_of}
 use Rattle.execution.proofs.Fills.{filled-torn, filled-written}
+use Rattle.execution.proofs.Runs.{each-hand, run-holds}
 use Rattle.execution.proofs.Marked.{current-open, current-there, done-accepted}
 
 -- the same file, filled for fewer done jobs of this name
@@ -184,17 +185,26 @@ work-good jobs whole old new hand now (w.HasNoJob h n m) g good = (
       (IsGoodHand jobs) (sym m) good,
 )
 
+-- the bytes of the job stand at its place, and it is done
+accepted-good : (jobs : Jobs) (whole : List ℕ → List ℕ) (parts : (k : ℕ) → k < jobs.count → IsPartOf jobs k
+    (whole (jobs.name k))) (old new : State) (t : Ticket) (bytes : List ℕ) → new.board ≡ accepted old.board t.job
+    → is_current old.board t ≡ true → IsGoodHand jobs (Made t bytes)
+    → Puts (IsWritten (jobs.at t.job) bytes) jobs.name t.job old.files new.files → IsGood jobs whole old
+    → IsGood jobs whole new
+accepted-good jobs whole parts old new t bytes is cur made puts g = record {
+  board = ap (λ (b : Board). length b.jobs) is ∙ length-set old.board.jobs t.job _ ∙ g.board;
+  filled = subst (λ (b : Board). AreFilled jobs whole (done_of b) new.files) (sym is)
+      (filled-delivered jobs whole names old.board t bytes old.files new.files cur (parts t.job made.0) made.1 puts
+      g.filled);
+}
+
 pub deliver-good : (marks : Bool) (jobs : Jobs) (whole : List ℕ → List ℕ) (parts : (k : ℕ) → k < jobs.count → IsPartOf
     jobs k (whole (jobs.name k)))
     (old new : State) (hand now : Hand) → DeliverStep marks jobs old hand new now
     → IsGood jobs whole old → IsGoodHand jobs hand → IsGood jobs whole new × IsGoodHand jobs now
 deliver-good marks jobs whole parts old new hand now (Delivers t bytes files h cur puts n m) g good =
     let made = subst (IsGoodHand jobs) h good in (
-      subst (IsGood jobs whole) (sym n) (record {
-        board = length-set old.board.jobs t.job _ ∙ g.board;
-        filled = filled-delivered jobs whole names old.board t bytes old.files files cur (parts t.job made.0) made.1
-            puts g.filled;
-      }),
+      subst (IsGood jobs whole) (sym n) (accepted-good jobs whole parts old _ t bytes refl cur made puts g),
       subst (IsGoodHand jobs) (sym m) tt,
     )
 deliver-good marks jobs whole parts old new hand now (CantWrite t bytes files failures h cur puts r n m) g good =
@@ -211,11 +221,7 @@ deliver-good marks jobs whole parts old new hand now (CantWrite t bytes files fa
     )
 deliver-good marks jobs whole parts old new hand now (CantMark t bytes files failures on h cur puts r n m) g good =
     let made = subst (IsGoodHand jobs) h good in (
-      subst (IsGood jobs whole) (sym n) (record {
-        board = length-set old.board.jobs t.job _ ∙ g.board;
-        filled = filled-delivered jobs whole names old.board t bytes old.files files cur (parts t.job made.0) made.1
-            puts g.filled;
-      }),
+      subst (IsGood jobs whole) (sym n) (accepted-good jobs whole parts old _ t bytes refl cur made puts g),
       subst (IsGoodHand jobs) (sym m) tt,
     )
 deliver-good marks jobs whole parts old new hand now (IsStale t bytes h cur n m) g good = (
@@ -228,31 +234,22 @@ deliver-good marks jobs whole parts old new hand now (HasNoBytes h n m) g good =
   subst (IsGoodHand jobs) (sym m) good,
 )
 
-hands-sound : (jobs : Jobs) (old new : ℕ → Hand) (number : ℕ) (now : Hand) → new ≡ w.with_hand old number now
-    → IsGoodHand jobs now → ((v : ℕ) → IsGoodHand jobs (old v)) → (v : ℕ) → IsGoodHand jobs (new v)
-hands-sound jobs old new number now is good all v = subst (λ (h : ℕ → Hand). IsGoodHand jobs (h v)) (sym is)
-    (go (v == number))
-  where
-    go : (b : Bool) → IsGoodHand jobs (cond b now (old v))
-    go true = good
-    go false = all v
-
 pub step-sound : (marks : Bool) (jobs : Jobs) (whole : List ℕ → List ℕ) (parts : (k : ℕ) → k < jobs.count → IsPartOf
     jobs k (whole (jobs.name k)))
     (old : w.World) (event : BoardEvent) (new : w.World) → w.BoardStep marks jobs old event new → IsSound jobs whole
     old → IsSound jobs whole new
 step-sound marks jobs whole parts old (Give n) new s good =
     let r = give-good jobs whole old.state new.state (old.hands n) s.0 s.1 good.good (good.hands n) in
-    record { good = r.0; hands = hands-sound jobs old.hands new.hands n s.0 s.2 r.1 good.hands }
+    record { good = r.0; hands = each-hand (IsGoodHand jobs) old.hands new.hands n s.0 s.2 r.1 good.hands }
 step-sound marks jobs whole parts old (Work n) new s good =
     let r = work-good jobs whole old.state new.state (old.hands n) s.0 s.1 good.good (good.hands n) in
-    record { good = r.0; hands = hands-sound jobs old.hands new.hands n s.0 s.2 r.1 good.hands }
+    record { good = r.0; hands = each-hand (IsGoodHand jobs) old.hands new.hands n s.0 s.2 r.1 good.hands }
 step-sound marks jobs whole parts old (Deliver n) new s good =
     let r = deliver-good marks jobs whole parts old.state new.state (old.hands n) s.0 s.1 good.good (good.hands n) in
-    record { good = r.0; hands = hands-sound jobs old.hands new.hands n s.0 s.2 r.1 good.hands }
+    record { good = r.0; hands = each-hand (IsGoodHand jobs) old.hands new.hands n s.0 s.2 r.1 good.hands }
 step-sound marks jobs whole parts old (Fault n) new s good = record {
   good = go (old.hands n) s.1;
-  hands = hands-sound jobs old.hands new.hands n s.0 s.2 (nothing (old.hands n) s.1) good.hands;
+  hands = each-hand (IsGoodHand jobs) old.hands new.hands n s.0 s.2 (nothing (old.hands n) s.1) good.hands;
 }
   where
     go : (h : Hand) → w.FaultStep old.state h new.state s.0 → IsGood jobs whole new.state
@@ -266,7 +263,7 @@ step-sound marks jobs whole parts old (Fault n) new s good = record {
     nothing (Made ticket bytes) t = subst (IsGoodHand jobs) (sym t.1) tt
 step-sound marks jobs whole parts old (Lose n) new s good = record {
   good = subst (IsGood jobs whole) (sym s.1.0) good.good;
-  hands = hands-sound jobs old.hands new.hands n s.0 s.2 (subst (IsGoodHand jobs) (sym s.1.1) tt) good.hands;
+  hands = each-hand (IsGoodHand jobs) old.hands new.hands n s.0 s.2 (subst (IsGoodHand jobs) (sym s.1.1) tt) good.hands;
 }
 step-sound marks jobs whole parts old (Reclaim k) new s good = record {
   good = subst (IsGood jobs whole) (sym s.0) (go (is_out (job_at old.state.board k).standing) refl);
@@ -285,14 +282,4 @@ pub run-sound : (marks : Bool) (jobs : Jobs) (whole : List ℕ → List ℕ) (pa
     jobs k (whole (jobs.name k)))
     (events : List BoardEvent) (old new : w.World) → w.BoardRun marks jobs old events new → IsSound jobs whole old →
     IsSound jobs whole new
-run-sound marks jobs whole parts [] old new r good = subst (IsSound jobs whole) (sym r) good
-run-sound marks jobs whole parts (event ∷ events) old new r good =
-    go (is_none old.state.ended) r (λ mid s rest. run-sound marks jobs whole parts events mid new rest
-    (step-sound marks jobs whole parts old event mid s good))
-  where
-    go : (b : Bool) → MatchBool b ((mid : w.World) × w.BoardStep marks jobs old event mid × w.BoardRun marks jobs mid
-        events new) (new ≡ old)
-        → ((mid : w.World) → w.BoardStep marks jobs old event mid → w.BoardRun marks jobs mid events new → IsSound
-        jobs whole new) → IsSound jobs whole new
-    go true s f = f s.0 s.1 s.2
-    go false s f = subst (IsSound jobs whole) (sym s) good
+run-sound marks jobs whole parts = run-holds (IsSound jobs whole) marks jobs (step-sound marks jobs whole parts)

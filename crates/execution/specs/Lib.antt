@@ -14,6 +14,7 @@ pub mod Noted
 pub mod Outcome
 pub mod OutcomeLaws
 pub mod Plan
+pub mod Shops
 pub mod Turns
 pub mod View
 pub mod Worlds

@@ -1,7 +1,10 @@
 -- What a work notes of its jobs, and that a run loses nothing of it.
-use Rattle.std.specs.Prelude.{◌≡◌, ◌⊎◌, ℕ, Bool, true, ⊤}
+use Rattle.std.specs.Prelude.{◌≡◌, ◌⊎◌, ℕ, Bool, true, IsTrue, ⊤}
 use Rattle.work_terms.specs.Disk.{Files}
+use Rattle.devices.specs.Views.{SourceView}
+use Rattle.job_terms.specs.Board.{Board}
 use Rattle.job_terms.specs.Workers.{Hand, Holds, Made, Nothing}
+use Rattle.execution.specs.Marking.{done_of}
 
 -- a work is still each that it was
 abbrev pub StillIs : {W : Type 0} → (W → W → Type 0) → W → W → Type 0
@@ -29,3 +32,10 @@ pub record KeepsNotes {W : Type 0} (was is : W → Type 0) (before after : ℕ �
   pub kept : (k : ℕ) → before k → after k
   pub hands : ((w : ℕ) → IsNoted before (had w)) → (w : ℕ) → IsNoted after (has w)
   pub done : ((w : ℕ) → IsNoted before (had w)) → (k : ℕ) → is_done k ≡ true → (was_done k ≡ true) ⊎ after k
+
+-- so a work does, between two boards and what workers hold at each, over sources that are honest
+abbrev pub StaysNoted : {W : Type 0} → (W → W → Type 0) → (W → Files → ℕ → Type 0) → SourceView → W → Board → (ℕ → Hand)
+    → W → Board → (ℕ → Hand) → Type 0
+StaysNoted remains noted source old board had new next has = IsTrue source.honest
+    → KeepsNotes (λ first. remains first old) (λ first. remains first new) (noted old source.files)
+    (noted new source.files) (done_of board) (done_of next) had has

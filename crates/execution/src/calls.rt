@@ -1,13 +1,11 @@
 // The calls of an execution.
-ghost use Rattle.std.specs.Prelude.{◌≡◌, ◌*◌, ℕ, IfErr, IfOk, IsTrue, false, length, ◌<◌, slice_index_or};
+ghost use Rattle.std.specs.Prelude.{◌≡◌, ◌*◌, ℕ, IfErr, IfOk, false, length, ◌<◌, slice_index_or};
 ghost use Rattle.job_terms.specs.Workers.{rounds};
 ghost use Rattle.execution.specs.Ends.{IsMemory, WantsNoPlace, WantsNoRoom};
 ghost use Rattle.execution.specs.Boards.{ReportsOf, board_with, fresh_board};
 ghost use Rattle.execution.specs.Marking.{done_of};
-ghost use Rattle.execution.specs.Noted.{KeepsNotes};
-ghost use Rattle.execution.specs.View.{DoesAll, IsIdle, IsResting, hands_at};
+ghost use Rattle.execution.specs.View.{DoesAll, IsIdle, IsResting, RunStaysNoted, hands_at, run_at};
 ghost use Rattle.execution.specs.Outcome.{Executed, Resumed};
-ghost use Rattle.execution.specs.EventRun.{snapshot_of};
 ghost use Rattle.execution.specs.Desks.{HasRoom};
 ghost use Rattle.execution.specs.Held.{AreIdle};
 ghost use Rattle.devices.specs.Views.{output_view, source_view};
@@ -143,15 +141,11 @@ impl<W: JobMaker> Execution<W> {
         bench: &mut B,
         watch: &mut T,
     ) -> Result<Progress, ExecutionFault>
-        ensures notes { IsTrue (S.honest shelf.old)
-            → KeepsNotes (λ first. W.remains first self.old.work) (λ first. W.remains first self.new.work)
-            (W.noted self.old.work (S.stored shelf.old)) (W.noted self.new.work (S.stored shelf.old))
-            (done_of self.old.board) (done_of self.new.board) (hands_at self.old) (hands_at self.new) }
+        ensures notes { RunStaysNoted W.remains W.noted (source_view S.Shelf shelf.old) self.old self.new }
         ensures executed { Executed (rounds (3 * (W.plan self.old.work).jobs.count))
-            (snapshot_of (W.plan self.old.work) self.old.board 0 (source_view S.Shelf shelf.old)
-            (output_view B.Bench bench.old)) (hands_at self.old)
-            (snapshot_of (W.plan self.new.work) self.new.board 0 (source_view S.Shelf shelf.new)
-            (output_view B.Bench bench.new)) (shelf.new ≡ shelf.old) result }
+            (run_at W.plan self.old (source_view S.Shelf shelf.old) (output_view B.Bench bench.old)) (hands_at self.old)
+            (run_at W.plan self.new (source_view S.Shelf shelf.new) (output_view B.Bench bench.new))
+            (shelf.new ≡ shelf.old) result }
         ensures finished { DoesAll self.old self.new result }
         ensures reported { IfOk result (ReportsOf self.new.board) }
         ensures memory { WantsNoPlace result }
@@ -169,14 +163,11 @@ impl<W: JobMaker> Execution<W> {
         bench: &mut B,
         watch: &mut T,
     ) -> Result<Progress, ExecutionFault>
-        ensures notes { IsTrue (S.honest shelf.old)
-            → KeepsNotes (λ first. W.remains first self.old.work) (λ first. W.remains first self.new.work)
-            (W.noted self.old.work (S.stored shelf.old)) (W.noted self.new.work (S.stored shelf.old))
-            (done_of self.old.board) (done_of self.new.board) (hands_at self.old) (hands_at self.new) }
-        ensures executed { Executed events.now (snapshot_of (W.plan self.old.work) self.old.board 0 (source_view S.Shelf shelf.old)
-            (output_view B.Bench bench.old)) (hands_at self.old)
-            (snapshot_of (W.plan self.new.work) self.new.board 0 (source_view S.Shelf shelf.new)
-            (output_view B.Bench bench.new)) (shelf.new ≡ shelf.old) result }
+        ensures notes { RunStaysNoted W.remains W.noted (source_view S.Shelf shelf.old) self.old self.new }
+        ensures executed { Executed events.now
+            (run_at W.plan self.old (source_view S.Shelf shelf.old) (output_view B.Bench bench.old)) (hands_at self.old)
+            (run_at W.plan self.new (source_view S.Shelf shelf.new) (output_view B.Bench bench.new))
+            (shelf.new ≡ shelf.old) result }
     {
         execute(&mut self.shop, false, events, shelf, bench, watch)
     }
@@ -189,15 +180,10 @@ impl<W: JobMaker> Execution<W> {
         bench: &mut B,
         watch: &mut T,
     ) -> Result<Progress, ExecutionFault>
-        ensures notes { IsTrue (S.honest shelf.old)
-            → KeepsNotes (λ first. W.remains first self.old.work) (λ first. W.remains first self.new.work)
-            (W.noted self.old.work (S.stored shelf.old)) (W.noted self.new.work (S.stored shelf.old))
-            (done_of self.old.board) (done_of self.new.board) (hands_at self.old) (hands_at self.new) }
+        ensures notes { RunStaysNoted W.remains W.noted (source_view S.Shelf shelf.old) self.old self.new }
         ensures resumed { Resumed (rounds (3 * (W.plan self.old.work).jobs.count))
-            (snapshot_of (W.plan self.old.work) self.old.board 0 (source_view S.Shelf shelf.old)
-            (output_view B.Bench bench.old)) (hands_at self.old)
-            (snapshot_of (W.plan self.new.work) self.new.board 0 (source_view S.Shelf shelf.new)
-            (output_view B.Bench bench.new)) result }
+            (run_at W.plan self.old (source_view S.Shelf shelf.old) (output_view B.Bench bench.old)) (hands_at self.old)
+            (run_at W.plan self.new (source_view S.Shelf shelf.new) (output_view B.Bench bench.new)) result }
         ensures finished { DoesAll self.old self.new result }
         ensures reported { IfOk result (ReportsOf self.new.board) }
         ensures memory { WantsNoPlace result }
@@ -214,14 +200,10 @@ impl<W: JobMaker> Execution<W> {
         bench: &mut B,
         watch: &mut T,
     ) -> Result<Progress, ExecutionFault>
-        ensures notes { IsTrue (S.honest shelf.old)
-            → KeepsNotes (λ first. W.remains first self.old.work) (λ first. W.remains first self.new.work)
-            (W.noted self.old.work (S.stored shelf.old)) (W.noted self.new.work (S.stored shelf.old))
-            (done_of self.old.board) (done_of self.new.board) (hands_at self.old) (hands_at self.new) }
-        ensures resumed { Resumed events.now (snapshot_of (W.plan self.old.work) self.old.board 0 (source_view S.Shelf shelf.old)
-            (output_view B.Bench bench.old)) (hands_at self.old)
-            (snapshot_of (W.plan self.new.work) self.new.board 0 (source_view S.Shelf shelf.new)
-            (output_view B.Bench bench.new)) result }
+        ensures notes { RunStaysNoted W.remains W.noted (source_view S.Shelf shelf.old) self.old self.new }
+        ensures resumed { Resumed events.now
+            (run_at W.plan self.old (source_view S.Shelf shelf.old) (output_view B.Bench bench.old)) (hands_at self.old)
+            (run_at W.plan self.new (source_view S.Shelf shelf.new) (output_view B.Bench bench.new)) result }
     {
         resume(&mut self.shop, false, events, shelf, bench, watch)
     }

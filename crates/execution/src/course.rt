@@ -1,16 +1,15 @@
 // The course of a work: its outputs laid out, its jobs done, and what comes last.
-ghost use Rattle.std.specs.Prelude.{◌≡◌, IfOk, IsTrue, OnOk, true};
+ghost use Rattle.std.specs.Prelude.{◌≡◌, IfOk, OnOk, true};
 ghost use Rattle.devices.specs.Views.{output_view, source_view};
 ghost use Rattle.job_terms.specs.Board.{is_finished};
 ghost use Rattle.job_terms.specs.Workers.{Nothing};
 ghost use Rattle.execution.specs.Alone.{AtRest};
 ghost use Rattle.execution.specs.Boards.{ReportsOf};
 ghost use Rattle.execution.specs.Ends.{OnlyInEvents};
-ghost use Rattle.execution.specs.EventRun.{listed, snapshot_of};
+ghost use Rattle.execution.specs.EventRun.{listed};
 ghost use Rattle.execution.specs.Held.{IsWorkshop, hands_in};
-ghost use Rattle.execution.specs.Marking.{done_of};
-ghost use Rattle.execution.specs.Noted.{KeepsNotes};
 ghost use Rattle.execution.specs.Outcome.{Executed, Resumed};
+ghost use Rattle.execution.specs.Shops.{ShopStaysNoted, shop_at};
 
 use crate::performance::perform;
 use crate::workshop::Workshop;
@@ -29,17 +28,14 @@ pub fn resume<W: JobMaker, S: Shelf, B: Bench, T: Watch>(
 ) -> Result<Progress, ExecutionFault>
     requires { IsWorkshop W.plan shop.old }
     ensures resumed { Resumed (listed in_rounds (W.plan shop.old.work).jobs.count events.now)
-        (snapshot_of (W.plan shop.old.work) shop.old.board 0 (source_view S.Shelf shelf.old) (output_view B.Bench bench.old))
+        (shop_at W.plan shop.old 0 (source_view S.Shelf shelf.old) (output_view B.Bench bench.old))
         (hands_in shop.old.hands)
-        (snapshot_of (W.plan shop.new.work) shop.new.board 0 (source_view S.Shelf shelf.new) (output_view B.Bench bench.new))
+        (shop_at W.plan shop.new 0 (source_view S.Shelf shelf.new) (output_view B.Bench bench.new))
         result }
     ensures finished { in_rounds ≡ true → AtRest shop.old.board → hands_in shop.old.hands 1 ≡ Nothing
         → OnOk result (is_finished shop.new.board ≡ true) }
     ensures reported { IfOk result (ReportsOf shop.new.board) }
-    ensures notes { IsTrue (S.honest shelf.old)
-        → KeepsNotes (λ first. W.remains first shop.old.work) (λ first. W.remains first shop.new.work)
-        (W.noted shop.old.work (S.stored shelf.old)) (W.noted shop.new.work (S.stored shelf.old))
-        (done_of shop.old.board) (done_of shop.new.board) (hands_in shop.old.hands) (hands_in shop.new.hands) }
+    ensures notes { ShopStaysNoted W.remains W.noted (source_view S.Shelf shelf.old) shop.old shop.new }
     ensures ready { IsWorkshop W.plan shop.new }
     ensures memory { OnlyInEvents in_rounds result }
 {
@@ -67,17 +63,14 @@ pub fn execute<W: JobMaker, S: Shelf, B: Bench, T: Watch>(
 ) -> Result<Progress, ExecutionFault>
     requires { IsWorkshop W.plan shop.old }
     ensures executed { Executed (listed in_rounds (W.plan shop.old.work).jobs.count events.now)
-        (snapshot_of (W.plan shop.old.work) shop.old.board 0 (source_view S.Shelf shelf.old) (output_view B.Bench bench.old))
+        (shop_at W.plan shop.old 0 (source_view S.Shelf shelf.old) (output_view B.Bench bench.old))
         (hands_in shop.old.hands)
-        (snapshot_of (W.plan shop.new.work) shop.new.board 0 (source_view S.Shelf shelf.new) (output_view B.Bench bench.new))
+        (shop_at W.plan shop.new 0 (source_view S.Shelf shelf.new) (output_view B.Bench bench.new))
         (shelf.new ≡ shelf.old) result }
     ensures finished { in_rounds ≡ true → AtRest shop.old.board → hands_in shop.old.hands 1 ≡ Nothing
         → OnOk result (is_finished shop.new.board ≡ true) }
     ensures reported { IfOk result (ReportsOf shop.new.board) }
-    ensures notes { IsTrue (S.honest shelf.old)
-        → KeepsNotes (λ first. W.remains first shop.old.work) (λ first. W.remains first shop.new.work)
-        (W.noted shop.old.work (S.stored shelf.old)) (W.noted shop.new.work (S.stored shelf.old))
-        (done_of shop.old.board) (done_of shop.new.board) (hands_in shop.old.hands) (hands_in shop.new.hands) }
+    ensures notes { ShopStaysNoted W.remains W.noted (source_view S.Shelf shelf.old) shop.old shop.new }
     ensures ready { IsWorkshop W.plan shop.new }
     ensures memory { OnlyInEvents in_rounds result }
 {

@@ -1,11 +1,11 @@
 // One event.
-ghost use Rattle.std.specs.Prelude.{◌≡◌, ◌≢◌, ◌<◌, ◌≤◌, ◌+◌, ◌^◌, ◌∷◌, [], IsErr, IsErrOf, IsOk, IsTrue, None, OnOk, length};
+ghost use Rattle.std.specs.Prelude.{◌≡◌, ◌≢◌, ◌<◌, ◌≤◌, ◌+◌, ◌^◌, ◌∷◌, [], IsErr, IsErrOf, IsOk, None, OnOk, length};
 ghost use Rattle.job_terms.specs.Workers.{jobs_over};
 ghost use Rattle.execution.specs.Ends.{FailsNoOutput, NeedsPlace, NeedsRoom, end_of, ended_of, events_of};
-ghost use Rattle.execution.specs.Held.{IsAtWork, IsReady, MayStep, hands_in};
-ghost use Rattle.execution.specs.Marking.{done_of};
-ghost use Rattle.execution.specs.Noted.{KeepsNotes, alone};
-ghost use Rattle.execution.specs.EventRun.{ActionStep, EventRun, WorkerStep, event_of, snapshot_of};
+ghost use Rattle.execution.specs.Held.{IsAtWork, IsReady, MayStep};
+ghost use Rattle.execution.specs.Noted.{StaysNoted, alone};
+ghost use Rattle.execution.specs.EventRun.{ActionStep, WorkerStep, event_of, snapshot_of};
+ghost use Rattle.execution.specs.Shops.{ShopRuns, ShopStaysNoted};
 ghost use Rattle.execution.specs.Desks.{FitsHand, FitsRoom};
 ghost use Rattle.execution.specs.Turns.{ActionTurn};
 ghost use Rattle.devices.specs.Views.{output_view, source_view};
@@ -43,10 +43,8 @@ fn turn<W: JobMaker, S: Shelf, B: Bench>(
         worker.old.hand
         (snapshot_of (W.plan maker.new) board.new stale.new (source_view S.Shelf shelf.new) (output_view B.Bench bench.new))
         worker.new.hand (ended_of result) }
-    ensures notes { IsTrue (S.honest shelf.old)
-        → KeepsNotes (λ first. W.remains first maker.old) (λ first. W.remains first maker.new)
-        (W.noted maker.old (S.stored shelf.old)) (W.noted maker.new (S.stored shelf.old))
-        (done_of board.old) (done_of board.new) (alone worker.old.hand) (alone worker.new.hand) }
+    ensures notes { StaysNoted W.remains W.noted (source_view S.Shelf shelf.old) maker.old board.old
+        (alone worker.old.hand) maker.new board.new (alone worker.new.hand) }
     ensures fits { FitsHand (W.plan maker.old).jobs worker.new.hand }
     ensures same_room { worker.new.room ≡ worker.old.room }
     ensures counted { stale.new ≤ stale.old + 1 }
@@ -114,15 +112,10 @@ fn act<W: JobMaker, S: Shelf, B: Bench>(
     bench: &mut B,
 ) -> Result<(), ExecutionFault>
     requires { MayStep W.plan shop.old stale.old }
-    ensures ran { EventRun
-        (snapshot_of (W.plan shop.old.work) shop.old.board stale.old (source_view S.Shelf shelf.old) (output_view B.Bench bench.old))
-        (hands_in shop.old.hands) (events_of result (event_of action number))
-        (snapshot_of (W.plan shop.new.work) shop.new.board stale.new (source_view S.Shelf shelf.new) (output_view B.Bench bench.new))
-        (hands_in shop.new.hands) (end_of result) }
-    ensures notes { IsTrue (S.honest shelf.old)
-        → KeepsNotes (λ first. W.remains first shop.old.work) (λ first. W.remains first shop.new.work)
-        (W.noted shop.old.work (S.stored shelf.old)) (W.noted shop.new.work (S.stored shelf.old))
-        (done_of shop.old.board) (done_of shop.new.board) (hands_in shop.old.hands) (hands_in shop.new.hands) }
+    ensures ran { ShopRuns W.plan (events_of result (event_of action number)) (end_of result)
+        shop.old stale.old (source_view S.Shelf shelf.old) (output_view B.Bench bench.old)
+        shop.new stale.new (source_view S.Shelf shelf.new) (output_view B.Bench bench.new) }
+    ensures notes { ShopStaysNoted W.remains W.noted (source_view S.Shelf shelf.old) shop.old shop.new }
     ensures ready { IsReady (W.plan shop.old.work).jobs shop.new.board shop.new.hands }
     ensures counted { stale.new ≤ stale.old + 1 }
     ensures memory { IsErrOf result execution_fault.Memory → number ≢ 1 }
@@ -167,15 +160,10 @@ pub fn step<W: JobMaker, S: Shelf, B: Bench>(
     bench: &mut B,
 ) -> Result<(), ExecutionFault>
     requires { MayStep W.plan shop.old stale.old }
-    ensures ran { EventRun
-        (snapshot_of (W.plan shop.old.work) shop.old.board stale.old (source_view S.Shelf shelf.old) (output_view B.Bench bench.old))
-        (hands_in shop.old.hands) (events_of result event)
-        (snapshot_of (W.plan shop.new.work) shop.new.board stale.new (source_view S.Shelf shelf.new) (output_view B.Bench bench.new))
-        (hands_in shop.new.hands) (end_of result) }
-    ensures notes { IsTrue (S.honest shelf.old)
-        → KeepsNotes (λ first. W.remains first shop.old.work) (λ first. W.remains first shop.new.work)
-        (W.noted shop.old.work (S.stored shelf.old)) (W.noted shop.new.work (S.stored shelf.old))
-        (done_of shop.old.board) (done_of shop.new.board) (hands_in shop.old.hands) (hands_in shop.new.hands) }
+    ensures ran { ShopRuns W.plan (events_of result event) (end_of result)
+        shop.old stale.old (source_view S.Shelf shelf.old) (output_view B.Bench bench.old)
+        shop.new stale.new (source_view S.Shelf shelf.new) (output_view B.Bench bench.new) }
+    ensures notes { ShopStaysNoted W.remains W.noted (source_view S.Shelf shelf.old) shop.old shop.new }
     ensures ready { IsReady (W.plan shop.old.work).jobs shop.new.board shop.new.hands }
     ensures counted { stale.new ≤ stale.old + 1 }
     ensures memory { IsErrOf result execution_fault.Memory → NeedsPlace event }

@@ -1,13 +1,12 @@
 // Events, one after the other.
-ghost use Rattle.std.specs.Prelude.{◌≡◌, ◌<◌, ◌*◌, ◌+◌, ℕ, Bool, true, cond, IsTrue, length, slice_index_or};
+ghost use Rattle.std.specs.Prelude.{◌≡◌, ◌<◌, ◌*◌, ◌+◌, ℕ, Bool, true, cond, length, slice_index_or};
 ghost use Rattle.job_terms.specs.declared.BoardEvent.TheVariants as event_kind;
 ghost use Rattle.job_terms.specs.Workers.{rounds};
 ghost use Rattle.execution.specs.Ends.{FailsNoOutput, NeedsPlace, NeedsRoom, OnlyInEvents};
 ghost use Rattle.execution.specs.Boards as spec;
 ghost use Rattle.execution.specs.Held.{IsWorkshop, hands_in};
-ghost use Rattle.execution.specs.Marking.{done_of};
-ghost use Rattle.execution.specs.Noted.{KeepsNotes};
-ghost use Rattle.execution.specs.EventRun.{Performed, listed, snapshot_of};
+ghost use Rattle.execution.specs.EventRun.{Performed, listed};
+ghost use Rattle.execution.specs.Shops.{ShopStaysNoted, shop_at};
 ghost use Rattle.devices.specs.Views.{output_view, source_view};
 
 use crate::events::step;
@@ -136,14 +135,11 @@ pub fn perform<W: JobMaker, S: Shelf, B: Bench, T: Watch>(
 ) -> Result<Progress, ExecutionFault>
     requires { IsWorkshop W.plan shop.old }
     ensures performed { Performed in_rounds (listed in_rounds (W.plan shop.old.work).jobs.count events.now)
-        (snapshot_of (W.plan shop.old.work) shop.old.board 0 (source_view S.Shelf shelf.old) (output_view B.Bench bench.old))
+        (shop_at W.plan shop.old 0 (source_view S.Shelf shelf.old) (output_view B.Bench bench.old))
         (hands_in shop.old.hands)
-        (λ stale. snapshot_of (W.plan shop.new.work) shop.new.board stale (source_view S.Shelf shelf.new) (output_view B.Bench bench.new))
+        (λ stale. shop_at W.plan shop.new stale (source_view S.Shelf shelf.new) (output_view B.Bench bench.new))
         (hands_in shop.new.hands) result }
-    ensures notes { IsTrue (S.honest shelf.old)
-        → KeepsNotes (λ first. W.remains first shop.old.work) (λ first. W.remains first shop.new.work)
-        (W.noted shop.old.work (S.stored shelf.old)) (W.noted shop.new.work (S.stored shelf.old))
-        (done_of shop.old.board) (done_of shop.new.board) (hands_in shop.old.hands) (hands_in shop.new.hands) }
+    ensures notes { ShopStaysNoted W.remains W.noted (source_view S.Shelf shelf.old) shop.old shop.new }
     ensures ready { IsWorkshop W.plan shop.new }
     ensures memory { OnlyInEvents in_rounds result }
     ensures no_output { FailsNoOutput result }

@@ -3,7 +3,7 @@ ghost use Rattle.std.specs.Prelude.{◌≡◌, ◌<◌, ◌+◌, ◌^◌, ◌≤
 ghost use Rattle.work_terms.specs.Disk.{Files};
 ghost use Rattle.devices.specs.Frame.{OnlyReads};
 ghost use Rattle.execution.specs.Marking.{IsRight, IsRunningBy, MarksOn, done_of};
-ghost use Rattle.execution.specs.Noted.{KeepsNotes, alone};
+ghost use Rattle.execution.specs.Noted.{KeepsNotes, StaysNoted, alone};
 ghost use Rattle.job_terms.specs.Workers.{JobsBy, DeliverStep, FaultStep, GiveStep, Nothing, State, WorkStep, after_fault, jobs_over};
 ghost use Rattle.job_terms.specs.Board.{accepted, is_current};
 ghost use Rattle.execution.specs.Boards.{HasAsMany};
@@ -103,10 +103,8 @@ pub fn make<W: JobMaker, S: Shelf>(
     ensures turned { ended_of result ≡ None → WorkTurn board.old worker.old.hand board.new worker.new.hand }
     ensures fits { FitsHand (W.plan maker.old).jobs worker.new.hand }
     ensures same { W.plan maker.new ≡ W.plan maker.old }
-    ensures notes { IsTrue (S.honest shelf.old)
-        → KeepsNotes (λ first. W.remains first maker.old) (λ first. W.remains first maker.new)
-        (W.noted maker.old (S.stored shelf.old)) (W.noted maker.new (S.stored shelf.old))
-        (done_of board.old) (done_of board.new) (alone worker.old.hand) (alone worker.new.hand) }
+    ensures notes { StaysNoted W.remains W.noted (source_view S.Shelf shelf.old) maker.old board.old
+        (alone worker.old.hand) maker.new board.new (alone worker.new.hand) }
     ensures source { Reads (source_view S.Shelf shelf.old) (source_view S.Shelf shelf.new) }
     ensures no_mark { IsErrOf result fault.Mark → ⊥ }
     ensures same_room { worker.new.room ≡ worker.old.room }

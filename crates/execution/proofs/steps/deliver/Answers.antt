@@ -1,16 +1,23 @@
-use Rattle.std.proofs.Common.{◌∙◌, ℕ, List, take, refl, sym, ap, subst, Some, None, true}
+use Rattle.std.proofs.Common.{◌≡◌, ◌∙◌, ℕ, List, take, refl, sym, ap, subst, Some, None, true}
+use Rattle.job_terms.specs.declared.Ticket.{Ticket}
 use Rattle.job_terms.specs.Board.{Board, accepted}
-use Rattle.job_terms.specs.Workers.{IsStale, Delivers, CantWrite, CantMark, State, MarkFailed, Puts, jobs_over}
+use Rattle.job_terms.specs.Workers.{IsStale, Delivers, CantWrite, CantMark, Hand, Jobs, Made, State, MarkFailed, Puts, jobs_over}
 use Rattle.work_terms.specs.Disk.{IsWritten}
 use Rattle.execution.specs.Ends.{ended_of}
 use Rattle.execution.specs.Worlds.{state_of}
 use Rattle.execution.proofs.Firsts.{placed-mark, placed-write, raised, worker-hand}
-use Rattle.execution.specs.Marking.{done_of}
+use Rattle.execution.specs.Marking.{IsRight, done_of}
 use Rattle.execution.proofs.MarkSteps.{marks-broken, marks-placed, marks-quiet, marks-unwritten}
 use Rattle.execution.proofs.Marked.{current-open, current-there, done-accepted, fault-done, right-made}
 use Rattle.execution.proofs.Firsts.{no-mark}
 use Rattle.execution.proofs.Notes.{notes-done, notes-quiet}
 use Rattle.execution.proofs.steps.deliver.Goals as goal
+
+-- what was made is the job's bytes, as the writer sees them
+seen-right : (jobs : Jobs) (hand : Hand) (t : Ticket) (size : ℕ) (seen bytes : List ℕ) → seen ≡ bytes
+    → hand ≡ Made t (take size bytes) → IsRight jobs hand → take size seen ≡ jobs.bytes t.job
+seen-right jobs hand t size seen bytes same is right =
+    ap (λ (x : List ℕ). take size x) same ∙ right-made jobs hand t (take size bytes) is right
 
 pub returns-then-not-is_current-clause-step : goal.returns-then-not-is_current-clause-step
 returns-then-not-is_current-clause-step g c honest sources shelf = IsStale c.in-Some.ticket _
@@ -73,8 +80,7 @@ returns-in-Ok-clause-marks g c honest sources right run = marks-placed _ _ _ c.i
     (λ j. done-accepted c.args.board.now c.in-Some.ticket.job (current-there c.args.board.now c.in-Some.ticket
     (sym c.is_current.ensures ∙ c.if-not-is_current.false)) j ∙ ap (λ (b : Board). done_of b j) (sym c.accept.ensures.done))
     (c.in-Ok.ensures.marks honest sources _
-    ((ap (λ (x : List ℕ). take c.worker.inside.size x) c.deref.ensures.value) ∙ right-made
-    (jobs_over (g.W.JobMaker.plan c.args.maker.now).jobs sources) _ c.in-Some.ticket _
+    (seen-right (jobs_over (g.W.JobMaker.plan c.args.maker.now).jobs sources) _ c.in-Some.ticket _ _ _ c.deref.ensures.value
     (worker-hand _ _ c.in-Some.ticket _ true _ _ c.worker.view_is c.in-Some.is c.if-not-worker.false) right)
     (current-open c.args.board.now c.in-Some.ticket (sym c.is_current.ensures ∙ c.if-not-is_current.false)) run)
 
@@ -86,8 +92,7 @@ returns-in-Err-Write-clause-marks g c honest sources right run = marks-unwritten
     (sym c.is_current.ensures ∙ c.if-not-is_current.false) j))
     (no-mark c.failed.result c.in-Some.ticket.job c.failed.ensures.only)
     (c.in-Err-Write.ensures.marks honest sources _
-    ((ap (λ (x : List ℕ). take c.worker.inside.size x) c.deref.ensures.value) ∙ right-made
-    (jobs_over (g.W.JobMaker.plan c.args.maker.now).jobs sources) _ c.in-Some.ticket _
+    (seen-right (jobs_over (g.W.JobMaker.plan c.args.maker.now).jobs sources) _ c.in-Some.ticket _ _ _ c.deref.ensures.value
     (worker-hand _ _ c.in-Some.ticket _ true _ _ c.worker.view_is c.in-Some.is c.if-not-worker.false) right)
     (current-open c.args.board.now c.in-Some.ticket (sym c.is_current.ensures ∙ c.if-not-is_current.false)) run)
 
@@ -97,8 +102,7 @@ returns-in-Err-Mark-clause-marks g c honest sources right run = marks-broken _ _
     (λ j. done-accepted c.args.board.now c.in-Some.ticket.job (current-there c.args.board.now c.in-Some.ticket
     (sym c.is_current.ensures ∙ c.if-not-is_current.false)) j ∙ ap (λ (b : Board). done_of b j) (sym c.accept-in-Err-Mark.ensures.done))
     (c.in-Err-Mark.ensures.marks honest sources _
-    ((ap (λ (x : List ℕ). take c.worker.inside.size x) c.deref.ensures.value) ∙ right-made
-    (jobs_over (g.W.JobMaker.plan c.args.maker.now).jobs sources) _ c.in-Some.ticket _
+    (seen-right (jobs_over (g.W.JobMaker.plan c.args.maker.now).jobs sources) _ c.in-Some.ticket _ _ _ c.deref.ensures.value
     (worker-hand _ _ c.in-Some.ticket _ true _ _ c.worker.view_is c.in-Some.is c.if-not-worker.false) right)
     (current-open c.args.board.now c.in-Some.ticket (sym c.is_current.ensures ∙ c.if-not-is_current.false)) run)
 
