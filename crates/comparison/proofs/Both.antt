@@ -1,14 +1,19 @@
 -- Two sides by what a call leaves of them, and the sums of a block of both by their mixes.
 use Rattle.std.proofs.Common.{◌≡◌, ℕ, ◌+◌, IsTrue, subst, sym}
-use Rattle.std.specs.Prelude.{ℤ}
+use Rattle.std.specs.Prelude.{ℤ, Result}
+use Rattle.std.specs.List.{All}
 use Rattle.sound_terms.specs.Blocks.{block_frames, block_start}
+use Rattle.sound_terms.specs.Mix.{Reading}
 use Rattle.sound_terms.specs.Render.{Range}
+use Rattle.sound_terms.specs.Sounds.{reading_by}
 use Rattle.work_terms.specs.Disk.{Files}
 use Rattle.devices.specs.declared.source.Shelf as source
 use Rattle.blockmachine.specs.Exact.{AreSumsOf}
 use Rattle.comparison.specs.declared.block.BlockSums.{BlockSums}
 use Rattle.comparison.specs.declared.sides.Sides.{Sides}
-use Rattle.comparison.specs.Both.{AreSummed, AreSumsOfBlock, IsBlock, OfBoth}
+use Rattle.comparison.specs.declared.fault.CompareFault.{CompareFault}
+use Rattle.comparison.specs.Both.{AreKept, AreMatched, AreSummed, AreSumsOfBlock, IsBlock, OfBoth}
+use Rattle.comparison.specs.Matched.{AreSameFrames}
 use Rattle.comparison.specs.Side.{SideWork, first_sums, heard}
 
 -- what holds of two sides held of them before
@@ -28,7 +33,7 @@ of_both shelf stock first first' second second' old new P one two files honest o
     subst (λ (f : Files). P (heard old.first.work (shelf.stored first)) (heard old.second.work f)) others read
 
 -- the sums of a block by the mixes that were summed
-pub block_summed : (sides : Sides) (k : ℕ) (block : BlockSums) (mix other : ℕ → ℕ → ℤ) → IsBlock sides k block
+block_summed : (sides : Sides) (k : ℕ) (block : BlockSums) (mix other : ℕ → ℕ → ℤ) → IsBlock sides k block
     → AreSummed sides k mix other → AreSumsOfBlock block mix other
 block_summed sides k block mix other is summed = record {
   sums = rw (is.frames, is.channels, is.sums, is.start) summed.sums;
@@ -37,3 +42,23 @@ block_summed sides k block mix other is summed = record {
       (first_sums sides.second.work.planned.range k sides.second.sums)
       (λ i channel. other channel (block_start r k + i))) sides.same summed.others);
 }
+
+-- those of a block that is summed after a call that kept both sides
+pub block_after : {S T X : Type 0} (shelf : source.Ghosts S) (stock : source.Ghosts T) (first first' : S)
+    (second second' : T) (sides mid new : Sides) (k : ℕ) (block : BlockSums) (result : Result X CompareFault)
+    → AreKept shelf stock first first' second second' sides mid result
+    → OfBoth shelf stock first' second' mid (AreSummed new k) → IsBlock new k block
+    → OfBoth shelf stock first second sides (AreSumsOfBlock block)
+block_after shelf stock first first' second second' sides mid new k block result kept summed is = λ honest sure.
+    block_summed new k block (heard sides.first.work (shelf.stored first)) (heard sides.second.work (stock.stored second)) is
+    (of_both shelf stock first first' second second' sides mid (AreSummed new k) kept.first_work kept.second_work
+    kept.files.first_read.same kept.files.first_read.honest_same kept.files.second_read.same
+    kept.files.second_read.honest_same summed honest sure)
+
+-- sides with no match
+pub none_matched : {S T : Type 0} (shelf : source.Ghosts S) (stock : source.Ghosts T) (first : S) (second : T)
+    (sides : Sides) → ((reading other : Reading) → All (AreSameFrames reading other) sides.stored.matches)
+    → AreMatched shelf stock first second sides
+none_matched shelf stock first second sides none = λ honest sure.
+    none (reading_by (shelf.stored first) sides.first.work.sounds)
+    (reading_by (stock.stored second) sides.second.work.sounds)

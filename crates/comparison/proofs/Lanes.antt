@@ -24,7 +24,17 @@ low24 : (a b c : ℕ) (rest : List ℕ) → a < 256 → b < 256 → c < 256
     → full_scale 32 (sample_of 32 (0 ∷ a ∷ b ∷ c ∷ rest)) ≡ full_scale 24 (sample_of 24 (a ∷ b ∷ c ∷ []))
 low24 a b c rest first second third = grind (arith, ints, nat_tests)
 
-module _ (bytes : List ℕ) (small : (k : ℕ) → get_or bytes k 0 < 256) (position : ℕ) (rest : List ℕ) where
+-- the bytes of a vector
+small_bytes : (bytes : List ℕ) → Each1 (Fits w8) bytes → (k : ℕ) → get_or bytes k 0 < 256
+small_bytes bytes fit k = by_position (cases_lt k (length bytes)) where
+  by_position : (k < length bytes) ⊎ (length bytes ≤ k) → get_or bytes k 0 < 256
+  by_position (inl below) = (Each1-get_or (Fits w8) bytes k 0 below fit).fits
+  by_position (inr past) = omega (arith, get_or_past bytes k 0 past)
+
+module _ (bytes : List ℕ) (fit : Each1 (Fits w8) bytes) (position : ℕ) (rest : List ℕ) where
+  small : (k : ℕ) → get_or bytes k 0 < 256
+  small = small_bytes bytes fit
+
   pub upper16 : full_scale 32 (sample_of 32 (0 ∷ 0 ∷ get_or bytes (position + 0) 0 ∷ get_or bytes (position + 1) 0 ∷ rest))
       ≡ full_scale 16 (sample_of 16 (drop position bytes))
   upper16 =
@@ -38,16 +48,23 @@ module _ (bytes : List ℕ) (small : (k : ℕ) → get_or bytes k 0 < 256) (posi
       (low24 (get_or bytes (position + 0) 0) (get_or bytes (position + 1) 0) (get_or bytes (position + 2) 0) rest
       (small (position + 0)) (small (position + 1)) (small (position + 2)))
 
--- the bytes of a vector
-pub small_bytes : (bytes : List ℕ) → Each1 (Fits w8) bytes → (k : ℕ) → get_or bytes k 0 < 256
-small_bytes bytes fit k = by_position (cases_lt k (length bytes)) where
-  by_position : (k < length bytes) ⊎ (length bytes ≤ k) → get_or bytes k 0 < 256
-  by_position (inl below) = (Each1-get_or (Fits w8) bytes k 0 below fit).fits
-  by_position (inr past) = omega (arith, get_or_past bytes k 0 past)
-
-pub four_alike : (a b c d e f g h : ℤ) → a ≡ e → b ≡ f → c ≡ g → d ≡ h
+four_alike : (a b c d e f g h : ℤ) → a ≡ e → b ≡ f → c ≡ g → d ≡ h
     → ◌≡◌ {A = List ℤ} (a ∷ b ∷ c ∷ d ∷ []) (e ∷ f ∷ g ∷ h ∷ [])
 four_alike a b c d e f g h one two three four = cc
+
+-- four samples of a depth, w bytes each
+pub four_as : (depth w : ℕ) (bytes : List ℕ) (a b c d : ℤ) → a ≡ full_scale depth (sample_of depth bytes)
+    → b ≡ full_scale depth (sample_of depth (drop w bytes)) → c ≡ full_scale depth (sample_of depth (drop (w + w) bytes))
+    → d ≡ full_scale depth (sample_of depth (drop (w + w + w) bytes))
+    → ◌≡◌ {A = List ℤ} (a ∷ b ∷ c ∷ d ∷ [])
+    (full_scale depth (sample_of depth bytes) ∷ full_scale depth (sample_of depth (drop w bytes))
+    ∷ full_scale depth (sample_of depth (drop w (drop w bytes)))
+    ∷ full_scale depth (sample_of depth (drop w (drop w (drop w bytes)))) ∷ [])
+four_as depth w bytes a b c d one two three four =
+    let sample : List ℕ → ℤ = λ l. full_scale depth (sample_of depth l) in
+    let after = drop-drop w w bytes in
+    let last = ap (drop w) after ∙ drop-drop w (w + w) bytes in
+    four_alike _ _ _ _ _ _ _ _ one two (three ∙ ap sample (sym after)) (four ∙ ap sample (sym last))
 
 -- ---- vectors of bytes
 
@@ -112,8 +129,20 @@ four_more depth n bytes narrow =
     (sym (samples_in-take depth 4 16 (drop (n * (depth / 8)) bytes) (omega arith)))
 
 -- one more
-pub one_more : (depth n : ℕ) (bytes : List ℕ) → full_samples depth (n + 1) bytes
+one_more : (depth n : ℕ) (bytes : List ℕ) → full_samples depth (n + 1) bytes
     ≡ full_samples depth n bytes ++ full_scale depth (sample_of depth (drop (n * (depth / 8)) bytes)) ∷ []
 one_more depth n bytes =
     ap (map (full_scale depth)) (samples_in_more depth n bytes)
     ∙ map-append (full_scale depth) (samples_in depth n bytes) (sample_of depth (drop (n * (depth / 8)) bytes) ∷ [])
+
+-- one more that is the same at 32 bits
+pub one_same : (depth other n : ℕ) (bytes others : List ℕ) (sample counterpart : ℤ)
+    → full_scale 32 sample ≡ full_scale depth (sample_of depth (drop (n * (depth / 8)) bytes))
+    → full_scale 32 counterpart ≡ full_scale other (sample_of other (drop (n * (other / 8)) others))
+    → sample ≡ counterpart → full_samples depth n bytes ≡ full_samples other n others
+    → full_samples depth (n + 1) bytes ≡ full_samples other (n + 1) others
+one_same depth other n bytes others sample counterpart is other_is equal so_far =
+    let same : full_scale depth (sample_of depth (drop (n * (depth / 8)) bytes))
+    ≡ full_scale other (sample_of other (drop (n * (other / 8)) others)) =
+    sym is ∙ ap (full_scale 32) equal ∙ other_is in
+    one_more depth n bytes ∙ rw (so_far, same) (sym (one_more other n others))

@@ -75,25 +75,13 @@ rest_lies e (event ∷ events) others lie = rest_lies e events others lie.4
 both_lie : (events : List Event) → list_all is_event events ≡ true → LieIn (extent_of events) events
 both_lie events whole = events_lie (extent_of events) events whole (omega arith) (omega arith) (omega arith)
 
--- outside of where the events of two projects may be heard the first one is silent
-pub first_silent : (files : Files) (project : ListProject) (binding : Binding) (events others : List Event)
-    → events ≡ project.events → list_all is_event (events ++ others) ≡ true
-    → (channel time : ℕ) → is_inside (extent_of (events ++ others)) channel time ≡ false
+-- outside of where its events may be heard a project is silent
+one_silent : (files : Files) (project : ListProject) (binding : Binding) (e : Extent) (events : List Event)
+    → events ≡ project.events → LieIn e events → (channel time : ℕ) → is_inside e channel time ≡ false
     → project_mix files project binding channel time ≡ pos 0
-first_silent files project binding events others same whole channel time none =
+one_silent files project binding e events same lie channel time none =
     subst (λ (es : List Event). mix_at (reading_of files binding) binding.indexes es channel time ≡ pos 0) same
-    (silent_mix (reading_of files binding) binding.indexes (extent_of (events ++ others)) events channel time
-    (front_lies (extent_of (events ++ others)) events others (both_lie (events ++ others) whole)) none)
-
--- and so is the second one
-pub second_silent : (files : Files) (project : ListProject) (binding : Binding) (events others : List Event)
-    → others ≡ project.events → list_all is_event (events ++ others) ≡ true
-    → (channel time : ℕ) → is_inside (extent_of (events ++ others)) channel time ≡ false
-    → project_mix files project binding channel time ≡ pos 0
-second_silent files project binding events others same whole channel time none =
-    subst (λ (es : List Event). mix_at (reading_of files binding) binding.indexes es channel time ≡ pos 0) same
-    (silent_mix (reading_of files binding) binding.indexes (extent_of (events ++ others)) others channel time
-    (rest_lies (extent_of (events ++ others)) events others (both_lie (events ++ others) whole)) none)
+    (silent_mix (reading_of files binding) binding.indexes e events channel time lie none)
 
 -- what was chosen, or else a default, in both directions
 from_chosen : (choice : Option ℕ) (least time : ℕ) → IfSome choice (λ from. from ≤ time) → least ≤ time
@@ -227,14 +215,14 @@ module _ (selection : Selection) (events others : List Event) (mix mixed : ℕ �
           to_last = lower_chosen selection.channels lower channel less is_chosen.to_last;
         }) (rw none refl)
 
-  pub found_alike : (found : Option Difference) → found ≡ None → IsCompared from to channels mix mixed found
+  found_alike : (found : Option Difference) → found ≡ None → IsCompared from to channels mix mixed found
       → SoundAlike selection mix mixed
   found_alike found none told =
       let e = compared_in selection events others in
       alike_everywhere (subst (λ (f : Option Difference). IsCompared e.from e.to e.channels mix mixed f) none
       (as_extent found told))
 
-  pub found_differing : (found : Option Difference) (difference : Difference) → found ≡ Some difference
+  found_differing : (found : Option Difference) (difference : Difference) → found ≡ Some difference
       → IsCompared from to channels mix mixed found
       → DifferAt selection mix mixed difference.at difference.channel difference.first difference.second
   found_differing found difference some told =
@@ -242,7 +230,41 @@ module _ (selection : Selection) (events others : List Event) (mix mixed : ℕ �
       differ_everywhere difference
       (subst (λ (f : Option Difference). IsCompared e.from e.to e.channels mix mixed f) some (as_extent found told))
 
-  pub found_in_day : (found : Option Difference) (difference : Difference) → found ≡ Some difference
+  found_in_day : (found : Option Difference) (difference : Difference) → found ≡ Some difference
       → IsCompared from to channels mix mixed found → difference.at < to
   found_in_day found difference some told =
       (subst (λ (f : Option Difference). IsCompared from to channels mix mixed f) some told).before_end
+
+-- The same of two projects.
+module _ (selection : Selection) (files stored : Files) (project other : ListProject) (binding bound : Binding)
+    (events others : List Event) (own : events ≡ project.events) (others_own : others ≡ other.events)
+    (whole : list_all is_event (events ++ others) ≡ true) (from to channels : ℕ)
+    (begins : from ≡ (compared_in selection events others).from) (ends : to ≡ (compared_in selection events others).to)
+    (wide : channels ≡ (compared_in selection events others).channels) (found : Option Difference)
+    (told : IsCompared from to channels (project_mix files project binding) (project_mix stored other bound) found) where
+  silent : (channel time : ℕ) → is_inside (extent_of (events ++ others)) channel time ≡ false
+      → project_mix files project binding channel time ≡ pos 0
+  silent =
+      one_silent files project binding (extent_of (events ++ others)) events own
+      (front_lies (extent_of (events ++ others)) events others (both_lie (events ++ others) whole))
+
+  others_silent : (channel time : ℕ) → is_inside (extent_of (events ++ others)) channel time ≡ false
+      → project_mix stored other bound channel time ≡ pos 0
+  others_silent =
+      one_silent stored other bound (extent_of (events ++ others)) others others_own
+      (rest_lies (extent_of (events ++ others)) events others (both_lie (events ++ others) whole))
+
+  pub are_alike : found ≡ None → SoundAlike selection (project_mix files project binding) (project_mix stored other bound)
+  are_alike none =
+      found_alike selection events others (project_mix files project binding) (project_mix stored other bound) silent
+      others_silent from to channels begins ends wide found none told
+
+  pub differ : (difference : Difference) → found ≡ Some difference
+      → DifferAt selection (project_mix files project binding) (project_mix stored other bound) difference.at
+      difference.channel difference.first difference.second × (difference.at < to)
+  differ difference some = (
+    found_differing selection events others (project_mix files project binding) (project_mix stored other bound) silent
+        others_silent from to channels begins ends wide found difference some told,
+    found_in_day selection events others (project_mix files project binding) (project_mix stored other bound) silent
+        others_silent from to channels begins ends wide found difference some told,
+  )

@@ -2,6 +2,7 @@
 use Rattle.std.specs.Prelude.{◌≡◌, ℕ, ◌+◌, ℤ, List, IsTrue, Result, IfErr, OnOk, length}
 use Rattle.sound_terms.specs.Blocks.{block_frames, block_start}
 use Rattle.devices.specs.declared.source.Shelf as source
+use Rattle.devices.specs.Frame.{IsQuiet}
 use Rattle.blockmachine.specs.Exact.{AreSumsOf}
 use Rattle.comparison.specs.declared.block.BlockSums.{BlockSums}
 use Rattle.comparison.specs.declared.fault.CompareFault.{CompareFault}
@@ -30,6 +31,15 @@ pub record AreKept {S T X : Type 0} (shelf : source.Ghosts S) (stock : source.Gh
   pub matched : OnOk result (AreMatched shelf stock first' second' new)
   pub source : IfErr result (OfEither IsSource)
   pub files : ReadFiles shelf stock first first' second second' old.first.work.sounds old.second.work.sounds result
+
+-- calls so far kept the plans and the files, the matches are of the same frames, and nothing has failed
+pub record AreGoneOver {S T : Type 0} (shelf : source.Ghosts S) (stock : source.Ghosts T) (first first' : S)
+    (second second' : T) (old new : Sides) : Type 0 where
+  pub first_work : new.first.work ≡ old.first.work
+  pub second_work : new.second.work ≡ old.second.work
+  pub first_quiet : IsQuiet shelf first first'
+  pub second_quiet : IsQuiet stock second second'
+  pub matched : AreMatched shelf stock first' second' new
 
 -- there is a count for each of the channels
 abbrev pub HasCounts : Sides → List ℕ → Type 0

@@ -109,41 +109,35 @@ fn are_same_in(pair: &Counterparts) -> bool
     true
 }
 
+/// The same where the depths are these, which the loop over it then knows.
+#[inline(always)]
+fn are_same_of(pair: &Counterparts, depth: Depth, other: Depth) -> bool
+    ensures { IsTrue result → SoundSame pair.now }
+{
+    if pair.depth == depth && pair.other == other {
+        are_same_in(&Counterparts {
+            depth,
+            bytes: pair.bytes,
+            other,
+            others: pair.others,
+            count: pair.count,
+        })
+    } else {
+        are_same_in(pair)
+    }
+}
+
 /// The same of a depth and a deeper one. Each pair of them has a separate loop.
 fn are_same_deeper(pair: &Counterparts) -> bool
     ensures { IsTrue result → SoundSame pair.now }
 {
-    let (bytes, others, count) = (pair.bytes, pair.others, pair.count);
     match (pair.depth, pair.other) {
         (Depth::Sixteen, Depth::TwentyFour) => {
-            let (depth, other) = (Depth::Sixteen, Depth::TwentyFour);
-            are_same_in(&Counterparts {
-                depth,
-                bytes,
-                other,
-                others,
-                count,
-            })
+            are_same_of(pair, Depth::Sixteen, Depth::TwentyFour)
         }
-        (Depth::Sixteen, Depth::ThirtyTwo) => {
-            let (depth, other) = (Depth::Sixteen, Depth::ThirtyTwo);
-            are_same_in(&Counterparts {
-                depth,
-                bytes,
-                other,
-                others,
-                count,
-            })
-        }
+        (Depth::Sixteen, Depth::ThirtyTwo) => are_same_of(pair, Depth::Sixteen, Depth::ThirtyTwo),
         (Depth::TwentyFour, Depth::ThirtyTwo) => {
-            let (depth, other) = (Depth::TwentyFour, Depth::ThirtyTwo);
-            are_same_in(&Counterparts {
-                depth,
-                bytes,
-                other,
-                others,
-                count,
-            })
+            are_same_of(pair, Depth::TwentyFour, Depth::ThirtyTwo)
         }
         _ => are_same_in(pair),
     }

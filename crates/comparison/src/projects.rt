@@ -76,14 +76,19 @@ fn plan_of(alloc: Global, checked: &Checked, region: &Region) -> Result<Plan, Si
     }
 }
 
-/// A side of a region of a project.
-fn side_of<'a>(alloc: Global, checked: &'a Checked, region: &Region) -> Result<Side<'a>, SideFault>
-    ensures side { IfOk result (IsSideOf checked.now.project checked.now.bound region.now) }
+/// A side of a region of a project, and bytes for what of its files is read as it is stored.
+fn side_of<'a>(
+    alloc: Global,
+    checked: &'a Checked,
+    region: &Region,
+) -> Result<(Side<'a>, Vec<u8>), SideFault>
+    ensures side { IfOk result (λ made. IsSideOf checked.now.project checked.now.bound region.now made.0) }
     ensures only_memory { IfErr result IsMemory }
 {
     let plan = plan_of(alloc, checked, region)?;
     let side = Side::new(alloc, plan, checked.bound().sounds())?;
-    Ok(side)
+    let bytes = side.bytes(alloc)?;
+    Ok((side, bytes))
 }
 
 /// Both sides of a region of two projects.
@@ -100,20 +105,12 @@ pub fn sides_of<'a, 'b>(
         → All (AreSameFrames reading other) sides.stored.matches) }
     ensures only_memory { IfErr result (OfEither IsMemory) }
 {
-    let first = match side_of(alloc, first, region) {
-        Ok(side) => side,
+    let (first, bytes) = match side_of(alloc, first, region) {
+        Ok(made) => made,
         Err(fault) => return Err(CompareFault::First(fault)),
     };
-    let bytes = match first.bytes(alloc) {
-        Ok(bytes) => bytes,
-        Err(fault) => return Err(CompareFault::First(fault)),
-    };
-    let second = match side_of(alloc, second, region) {
-        Ok(side) => side,
-        Err(fault) => return Err(CompareFault::Second(fault)),
-    };
-    let other_bytes = match second.bytes(alloc) {
-        Ok(bytes) => bytes,
+    let (second, other_bytes) = match side_of(alloc, second, region) {
+        Ok(made) => made,
         Err(fault) => return Err(CompareFault::Second(fault)),
     };
     Ok(Sides {

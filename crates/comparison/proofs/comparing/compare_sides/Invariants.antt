@@ -1,18 +1,13 @@
-use Rattle.std.proofs.Common.{◌≡◌}
-use Rattle.devices.specs.Frame.{IsQuiet}
 use Rattle.comparison.specs.Alike.{AreAlike}
-use Rattle.comparison.specs.Both.{AreMatched, OfBoth}
+use Rattle.comparison.specs.Both.{AreGoneOver, OfBoth}
 use Rattle.comparison.specs.Side.{reached}
 use Rattle.comparison.proofs.comparing.compare_sides.Given as goal
 
 -- the blocks before k are alike
 abbrev pub invariant-loop-k : goal.invariant-loop-k
 invariant-loop-k g l = record {
-  first_work : l.sides.first.work ≡ l.fn.sides.first.work;
-  second_work : l.sides.second.work ≡ l.fn.sides.second.work;
-  first_quiet : IsQuiet g.S.Shelf l.fn.first_shelf l.first_shelf;
-  second_quiet : IsQuiet g.T.Shelf l.fn.second_shelf l.second_shelf;
-  matched : AreMatched g.S.Shelf g.T.Shelf l.first_shelf l.second_shelf l.sides;
+  gone_over : AreGoneOver g.S.Shelf g.T.Shelf l.fn.first_shelf l.first_shelf l.fn.second_shelf l.second_shelf l.fn.sides
+      l.sides;
   alike : OfBoth g.S.Shelf g.T.Shelf l.fn.first_shelf l.fn.second_shelf l.fn.sides
       (AreAlike l.fn.sides.first.work.planned.range.from (reached l.fn.sides.first.work.planned.range l.k)
       l.fn.sides.first.work.planned.range.channels);

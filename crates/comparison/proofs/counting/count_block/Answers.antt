@@ -1,9 +1,8 @@
 use Rattle.std.proofs.Common.{◌≡◌, ℕ, ◌+◌, ◌≤◌, ap, ◌∙◌, subst, sym, get_or, length}
 use Rattle.sound_terms.specs.Blocks.{block_frames, block_start}
-use Rattle.comparison.specs.Both.{AreSummed}
 use Rattle.comparison.specs.Counted.{HasCounted, of_channel}
 use Rattle.comparison.specs.Side.{SideWork, heard}
-use Rattle.comparison.proofs.Both.{block_summed, of_both}
+use Rattle.comparison.proofs.Both.{block_after}
 use Rattle.comparison.proofs.Counts.{alike_counted, few_more, sums_counted}
 use Rattle.comparison.proofs.counting.count_block.Goals as goal
 
@@ -17,24 +16,20 @@ returns-then-alike-clause-counted g c = λ honest sure.
 
 pub returns-clause-counted : goal.returns-clause-counted
 returns-clause-counted g c = λ honest sure.
-    let k = c.args.k in
-    let kept = c.in_ok-alike.ensures.kept in
-    let mix = heard c.args.sides.now.first.work (g.S.Shelf.stored c.args.first_shelf.now) in
-    let other = heard c.args.sides.now.second.work (g.T.Shelf.stored c.args.second_shelf.now) in
-    let new = c.sum.new.self in
     let block = c.sums-block.result in
     let is = c.sums-block.ensures in
-    let summed = of_both g.S.Shelf g.T.Shelf c.args.first_shelf.now c.are_alike.new.first_shelf c.args.second_shelf.now
-    c.are_alike.new.second_shelf c.args.sides.now c.are_alike.new.self (AreSummed new k) kept.first_work kept.second_work
-    kept.files.first_read.same kept.files.first_read.honest_same kept.files.second_read.same kept.files.second_read.honest_same
-    c.in_ok-sum.ensures.summed honest sure in
-    let works = c.in_ok-sum.ensures.kept.first_work ∙ kept.first_work in
+    let works = c.in_ok-sum.ensures.kept.first_work ∙ c.in_ok-alike.ensures.kept.first_work in
     let wide : length c.count_apart.new.counts ≡ block.channels =
     c.count_apart.auto.counts ∙ c.requires.wide
     ∙ sym (is.channels ∙ ap (λ (w : SideWork). w.planned.range.channels) works) in
-    let are = block_summed new k block mix other is summed in
-    subst (λ (w : SideWork). HasCounted mix other (block_start w.planned.range k) (block_frames w.planned.range k)
-    c.args.counts.now c.count_apart.new.counts) works
+    let mix = heard c.args.sides.now.first.work (g.S.Shelf.stored c.args.first_shelf.now) in
+    let other = heard c.args.sides.now.second.work (g.T.Shelf.stored c.args.second_shelf.now) in
+    let are =
+    block_after g.S.Shelf g.T.Shelf c.args.first_shelf.now c.are_alike.new.first_shelf c.args.second_shelf.now
+    c.are_alike.new.second_shelf c.args.sides.now c.are_alike.new.self c.sum.new.self c.args.k block _
+    c.in_ok-alike.ensures.kept c.in_ok-sum.ensures.summed is honest sure in
+    subst (λ (w : SideWork). HasCounted mix other (block_start w.planned.range c.args.k)
+    (block_frames w.planned.range c.args.k) c.args.counts.now c.count_apart.new.counts) works
     (rw (← is.frames, ← is.start) (sums_counted block.frames block.channels block.start block.sums.now block.others.now mix
     other c.args.counts.now c.count_apart.new.counts wide are.sums are.others c.count_apart.ensures))
 

@@ -1,6 +1,5 @@
-use Rattle.std.proofs.Common.{◌≡◌, ◌-◌, ◌≤◌, ℕ, get_or}
-use Rattle.devices.specs.Frame.{IsQuiet}
-use Rattle.comparison.specs.Both.{AreMatched, OfBoth}
+use Rattle.std.proofs.Common.{◌-◌, ◌≤◌, ℕ, get_or}
+use Rattle.comparison.specs.Both.{AreGoneOver, OfBoth}
 use Rattle.comparison.specs.Counted.{AreCounts}
 use Rattle.comparison.specs.Side.{reached}
 use Rattle.comparison.proofs.counting.count_sides.Given as goal
@@ -8,11 +7,8 @@ use Rattle.comparison.proofs.counting.count_sides.Given as goal
 -- the blocks before k are counted
 abbrev pub invariant-loop-k : goal.invariant-loop-k
 invariant-loop-k g l = record {
-  first_work : l.sides.first.work ≡ l.fn.sides.first.work;
-  second_work : l.sides.second.work ≡ l.fn.sides.second.work;
-  first_quiet : IsQuiet g.S.Shelf l.fn.first_shelf l.first_shelf;
-  second_quiet : IsQuiet g.T.Shelf l.fn.second_shelf l.second_shelf;
-  matched : AreMatched g.S.Shelf g.T.Shelf l.first_shelf l.second_shelf l.sides;
+  gone_over : AreGoneOver g.S.Shelf g.T.Shelf l.fn.first_shelf l.first_shelf l.fn.second_shelf l.second_shelf l.fn.sides
+      l.sides;
   few : (c : ℕ) → get_or l.counts c 0
       ≤ reached l.fn.sides.first.work.planned.range l.k - l.fn.sides.first.work.planned.range.from;
   counted : OfBoth g.S.Shelf g.T.Shelf l.fn.first_shelf l.fn.second_shelf l.fn.sides
