@@ -96,14 +96,14 @@ fn escape_letter(byte: u8) -> u8
     }
 }
 
-/// The hexadecimal digit of a number below 16.
+/// The hexadecimal digit of a number below 16, and of what a larger one exceeds a multiple of 16 by.
 fn digit(number: u8) -> u8
-    requires { number < 16 }
-    ensures { result ≡ digit_char number }
+    ensures { number < 16 → result ≡ digit_char number }
 {
-    if number < 10 {
-        b'0' + number
+    let rest = number % 16;
+    if rest < 10 {
+        b'0' + rest
     } else {
-        b'a' - 10 + number
+        b'a' - 10 + rest
     }
 }

@@ -7,7 +7,7 @@ use Rattle.serde_json.specs.View.{items_of}
 use Rattle.serde_json.specs.Written.{comma_if, compact_text, items_text}
 use Rattle.sha2.specs.Sha256.{sha256}
 use Rattle.sound_terms.specs.Depth.{bits_of}
-use Rattle.renderreport.specs.Parts.{clipped_end, clipped_text, end_text, item_text, listed, listed_behind, marked_text, opening_text, range_text, report_parts, string_text, version_text}
+use Rattle.renderreport.specs.Parts.{clipped_end, end_text, item_text, listed, listed_behind, opening_text, range_text, report_parts}
 use Rattle.renderreport.specs.Report.{Facts, channels_of, count, form, known, report_data, time_of}
 
 -- numbers with the end of their array
@@ -18,14 +18,12 @@ numbers_text later (n ∷ ns) =
     simp append_assoc (ap (λ (text : List ℕ). comma_if later ++ (decimal n ++ text)) (numbers_text true ns))
 
 -- as the parts are grouped
-by_parts : (l1 c l2 n l3 f l4 p l5 s l6 r1 d r2 t r3 w r4 u t1 h q t2 m t3 g u1 k u2 v e : List ℕ)
-    → ((l1 ++ (c ++ l2)) ++ (n ++ (l3 ++ (f ++ (l4 ++ (p ++ (l5 ++ (s ++ l6)))))))) ++ ((r1 ++ (d ++ (r2 ++ (t ++ (r3
-    ++ (w ++ (r4 ++ u))))))) ++ ((t1 ++ (h ++ q)) ++ ((t2 ++ m) ++ ((t3 ++ (g ++ q)) ++ ((u1 ++ (k ++ q)) ++ ((u2 ++
-    (v ++ q)) ++ e))))))
+by_parts : (l1 c l2 n l3 f l4 p l5 s l6 r1 d r2 t r3 w r4 u e : List ℕ)
+    → (l1 ++ (c ++ l2)) ++ (n ++ ((l3 ++ (f ++ (l4 ++ (p ++ (l5 ++ (s ++ l6)))))) ++ ((r1 ++ (d ++ (r2 ++ (t ++ (r3
+    ++ (w ++ (r4 ++ u))))))) ++ e)))
     ≡ l1 ++ (c ++ (l2 ++ (n ++ (l3 ++ (f ++ (l4 ++ (p ++ (l5 ++ (s ++ (l6 ++ (r1 ++ (d ++ (r2 ++ (t ++ (r3 ++ (w ++
-    (r4 ++ (u ++ (t1 ++ (h ++ (q ++ (t2 ++ (m ++ (t3 ++ (g ++ (q ++ (u1 ++ (k ++ (q ++ (u2 ++ (v ++ (q ++
-    e))))))))))))))))))))))))))))))))
-by_parts l1 c l2 n l3 f l4 p l5 s l6 r1 d r2 t r3 w r4 u t1 h q t2 m t3 g u1 k u2 v e = simp append_assoc
+    (r4 ++ (u ++ e))))))))))))))))))
+by_parts l1 c l2 n l3 f l4 p l5 s l6 r1 d r2 t r3 w r4 u e = simp append_assoc
 
 -- as the value is, whose strings have an end of their own
 by_members : (l1 c l2 n z1 l3 f l4 p l5 s l6 r1 d r2 t r3 w r4 u t1 h q t2 m t3 g u1 k u2 v e1 e2 : List ℕ)
@@ -54,15 +52,12 @@ module _ (facts : Facts) (digest : List ℕ) where
       (codes ",\"program\":\"" ++ ((escape facts.program) ++ (codes "\"" ++ (codes ",\"sha256\":\"" ++ ((escape
       (encode_lower digest)) ++ (codes "\"" ++ (codes ",\"version\":\"" ++ ((escape facts.version) ++ (codes "\"" ++
       codes "}\n"))))))))))))))))))))))))))))))))
-  unfolding clipped_end clipped_text end_text marked_text opening_text range_text report_parts string_text version_text
+  unfolding clipped_end end_text opening_text range_text report_parts
   grouped = by_parts (codes "{\"channels\":") (decimal facts.channels) (codes ",\"clipped\":{\"channels\":[")
       listed_channels (codes "],\"first\":") first (codes ",\"peak\":") (decimal facts.clips.peak) (codes
       ",\"samples\":") (decimal facts.clips.samples) (codes "}") (codes ",\"depth\":") (decimal (bits_of
       facts.depth)) (codes ",\"first\":") (decimal facts.start) (codes ",\"form\":") (decimal form) (codes
-      ",\"frames\":") (decimal facts.frames) (codes ",\"given_list_sha256\":\"") (escape (encode_lower (sha256
-      facts.list))) (codes "\"") (codes ",\"marked\":") (compact_text (known facts.marked)) (codes
-      ",\"program\":\"") (escape facts.program) (codes ",\"sha256\":\"") (escape (encode_lower digest)) (codes
-      ",\"version\":\"") (escape facts.version) (codes "}\n")
+      ",\"frames\":") (decimal facts.frames) (end_text facts digest)
 
   -- with these items of the array
   abbrev with_items : List ℕ → List ℕ

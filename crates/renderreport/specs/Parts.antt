@@ -1,16 +1,24 @@
 -- The parts of a report, as they follow one another.
 use Rattle.std.specs.Prelude.{ℕ, ◌+◌, List, [], ◌∷◌, ◌++◌, Bool, true, false, if◌then◌else◌, option_map, codes, decimal, flat_map}
-use Rattle.std.specs.Borrow.{Bor}
 use Rattle.hex.specs.Hex.{encode_lower}
 use Rattle.json.specs.Print.{escape}
 use Rattle.serde_json.specs.Written.{comma_if, compact_text}
 use Rattle.sha2.specs.Sha256.{sha256}
 use Rattle.sound_terms.specs.Depth.{bits_of}
+use Rattle.renderreport.specs.declared.texts.Part.{Part}
+use Rattle.renderreport.specs.declared.texts.Part.TheVariants.{Digest, InString, Number, Plain}
 use Rattle.renderreport.specs.Report.{Facts, channels_of, form, is_marked, known, time_of}
 
--- these texts, one after another
-unfoldable pub all_of : List (Bor (List ℕ)) → List ℕ
-all_of texts = flat_map (λ text. text.now) texts
+-- a text as it is or as it is in a string, a number in decimal digits, a digest in hexadecimal ones
+abbrev pub part_text : Part → List ℕ
+part_text (Plain text) = text.now
+part_text (InString text) = escape text.now
+part_text (Number n) = decimal n
+part_text (Digest digest) = escape (encode_lower digest)
+
+-- these parts, one after another
+unfoldable pub all_of : List Part → List ℕ
+all_of parts = flat_map part_text parts
 
 -- a number, behind a comma where others are before it
 unfoldable pub item_text : (is_later : Bool) → ℕ → List ℕ
@@ -38,30 +46,20 @@ clipped_end facts = codes "],\"first\":" ++ (compact_text (known (option_map (ti
     ++ (codes ",\"peak\":" ++ (decimal facts.clips.peak ++ (codes ",\"samples\":" ++ (decimal facts.clips.samples
     ++ codes "}")))))
 
-unfoldable pub clipped_text : Facts → List ℕ
-clipped_text facts = opening_text facts ++ (listed (channels_of facts.clips.channels) ++ clipped_end facts)
-
 -- the depth and the range
 unfoldable pub range_text : Facts → List ℕ
 range_text facts = codes ",\"depth\":" ++ (decimal (bits_of facts.depth) ++ (codes ",\"first\":" ++ (decimal facts.start
     ++ (codes ",\"form\":" ++ (decimal form ++ (codes ",\"frames\":" ++ decimal facts.frames))))))
 
--- a string, behind its key
-unfoldable pub string_text : (key text : List ℕ) → List ℕ
-string_text key text = key ++ (escape text ++ codes "\"")
-
--- the blocks that were marked
-unfoldable pub marked_text : Facts → List ℕ
-marked_text facts = codes ",\"marked\":" ++ compact_text (known facts.marked)
-
--- the version and the end
-unfoldable pub version_text : Facts → List ℕ
-version_text facts = string_text (codes ",\"version\":\"") facts.version ++ codes "}\n"
-
+-- the list, the blocks that were marked, the program and the file
 unfoldable pub end_text : Facts → (digest : List ℕ) → List ℕ
-end_text facts digest = string_text (codes ",\"given_list_sha256\":\"") (encode_lower (sha256 facts.list))
-    ++ (marked_text facts ++ (string_text (codes ",\"program\":\"") facts.program
-    ++ (string_text (codes ",\"sha256\":\"") (encode_lower digest) ++ version_text facts)))
+end_text facts digest = codes ",\"given_list_sha256\":\"" ++ (escape (encode_lower (sha256 facts.list))
+    ++ (codes "\",\"marked\":" ++ (compact_text (known facts.marked)
+    ++ (codes ",\"program\":\"" ++ (escape facts.program
+    ++ (codes "\",\"sha256\":\"" ++ (escape (encode_lower digest)
+    ++ (codes "\",\"version\":\"" ++ (escape facts.version ++ codes "\"}\n")))))))))
 
 unfoldable pub report_parts : Facts → (digest : List ℕ) → List ℕ
-report_parts facts digest = clipped_text facts ++ (range_text facts ++ end_text facts digest)
+report_parts facts digest =
+    opening_text facts ++ (listed (channels_of facts.clips.channels)
+    ++ (clipped_end facts ++ (range_text facts ++ end_text facts digest)))

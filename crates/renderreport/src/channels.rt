@@ -5,9 +5,8 @@ ghost use Rattle.devices.specs.Frame.{Appends};
 ghost use Rattle.renderreport.specs.Parts.{all_of, channel_text, item_text, listed};
 ghost use Rattle.renderreport.specs.Report.{channels_of, is_marked, report_name};
 
-use crate::texts::put;
+use crate::texts::{Part, put};
 use devices::{Bench, DeviceFault};
-use itoa::Buffer;
 
 /// The channels whose bits are set, with a comma between two.
 #[tactic(auto, unfolding(crate::specs::Report::channels_of))]
@@ -52,10 +51,9 @@ fn has_channel(mask: u64, channel: u32) -> bool
 fn put_item<B: Bench>(bench: &mut B, is_later: bool, number: u32) -> Result<(), DeviceFault>
     ensures { Appends B.Bench report_name (item_text is_later number) bench.old bench.new result }
 {
-    let mut buffer = Buffer::new();
-    let digits = buffer.format(number).as_bytes();
+    let digits = Part::Number(u128::from(number));
     if is_later {
-        put(bench, &[b",", digits])
+        put(bench, &[Part::Plain(b","), digits])
     } else {
         put(bench, &[digits])
     }

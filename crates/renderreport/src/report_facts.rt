@@ -18,3 +18,10 @@ pub struct ReportFacts<'a> {
     pub clips: Clips,
     pub marked: Option<u32>,
 }
+
+/// The same, with the SHA-256 of its file.
+#[derive(Clone, Copy, Debug)]
+pub struct Report<'a, 'b> {
+    pub facts: &'a ReportFacts<'b>,
+    pub digest: [u8; 32],
+}

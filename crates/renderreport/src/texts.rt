@@ -6,28 +6,53 @@ ghost use Rattle.json.specs.Print as json;
 ghost use Rattle.json.specs.Print.{escape_byte};
 ghost use Rattle.serde_json.specs.Written.{compact_text};
 ghost use Rattle.devices.specs.Frame.{Appends};
-ghost use Rattle.renderreport.specs.Parts.{all_of, string_text};
+ghost use Rattle.renderreport.specs.Parts.{all_of, part_text};
 ghost use Rattle.renderreport.specs.Report.{known, report_name};
 
 use crate::RENDER_REPORT;
 use devices::{Bench, DeviceFault};
 use itoa::Buffer;
 
+/// A part of a report.
+#[derive(Clone, Copy, Debug)]
+pub enum Part<'a> {
+    /// A text as it is.
+    Plain(&'a [u8]),
+    /// A text as it is in a string.
+    InString(&'a [u8]),
+    /// A number in decimal digits.
+    Number(u128),
+    /// A digest in hexadecimal digits.
+    Digest([u8; 32]),
+}
+
 /// This text.
-pub fn put_text<B: Bench>(bench: &mut B, text: &[u8]) -> Result<(), DeviceFault>
+fn put_text<B: Bench>(bench: &mut B, text: &[u8]) -> Result<(), DeviceFault>
     ensures { Appends B.Bench report_name text.now bench.old bench.new result }
 {
     bench.append(RENDER_REPORT, text)
 }
 
-/// These texts, one after another.
-pub fn put<B: Bench>(bench: &mut B, texts: &[&[u8]]) -> Result<(), DeviceFault>
-    ensures { Appends B.Bench report_name (all_of texts.now) bench.old bench.new result }
+/// These parts, one after another.
+pub fn put<B: Bench>(bench: &mut B, parts: &[Part<'_>]) -> Result<(), DeviceFault>
+    ensures { Appends B.Bench report_name (all_of parts.now) bench.old bench.new result }
 {
-    for text in texts {
-        put_text(bench, text)?;
+    for part in parts {
+        put_part(bench, part)?;
     }
     Ok(())
+}
+
+/// This part.
+fn put_part<B: Bench>(bench: &mut B, part: &Part<'_>) -> Result<(), DeviceFault>
+    ensures { Appends B.Bench report_name (part_text part.now) bench.old bench.new result }
+{
+    match *part {
+        Part::Plain(text) => put_text(bench, text),
+        Part::InString(text) => put_as_string(bench, text),
+        Part::Number(number) => put_text(bench, Buffer::new().format(number).as_bytes()),
+        Part::Digest(digest) => put_as_string(bench, &hex_of(&digest)),
+    }
 }
 
 /// A text as it is in a string: at once, where none of its bytes is escaped.
@@ -117,34 +142,18 @@ fn digit(number: u8) -> u8
     }
 }
 
-/// The digits of a number, or null.
-pub fn found_in<'a>(room: &'a mut Buffer, number: Option<u128>) -> &'a [u8]
-    ensures { result.now ≡ compact_text (known number) }
+/// A number, or null.
+pub fn found<'a>(number: Option<u128>) -> Part<'a>
+    ensures { part_text result ≡ compact_text (known number) }
 {
     match number {
-        Some(number) => room.format(number).as_bytes(),
-        None => b"null",
+        Some(number) => Part::Number(number),
+        None => Part::Plain(b"null"),
     }
 }
 
-/// A string, behind this key with its quotes and its colon.
-pub fn put_string<B: Bench>(bench: &mut B, key: &[u8], text: &[u8]) -> Result<(), DeviceFault>
-    ensures { Appends B.Bench report_name (string_text key.now text.now) bench.old bench.new result }
-{
-    put_text(bench, key)?;
-    put_as_string(bench, text)?;
-    put_text(bench, b"\"")
-}
-
-/// The same of a text.
-pub fn put_words<B: Bench>(bench: &mut B, key: &[u8], text: &str) -> Result<(), DeviceFault>
-    ensures { Appends B.Bench report_name (string_text key.now text.now) bench.old bench.new result }
-{
-    put_string(bench, key, text.as_bytes())
-}
-
 /// The digits of a digest.
-pub fn hex_of(digest: &[u8; 32]) -> [u8; 64]
+fn hex_of(digest: &[u8; 32]) -> [u8; 64]
     ensures { result ≡ encode_lower digest.now }
 {
     let mut digits = [0; 64];

@@ -9,20 +9,17 @@ ghost use Rattle.renderreport.specs.Report.{content, facts_of, report_name, repo
 
 use crate::digest::sound_digest;
 use crate::parts::put_report;
+use crate::report_facts::Report;
 use crate::{ReportFacts, ReportFault};
 use devices::{Bench, DeviceFault};
 
 /// The name of the report of a rendering.
 pub const RENDER_REPORT: &str = "render.json";
 
-/// Makes the file of a report, with this digest of the rendered file.
-fn begin<B: Bench>(
-    bench: &mut B,
-    facts: &ReportFacts<'_>,
-    digest: &[u8; 32],
-) -> Result<(), DeviceFault>
+/// Makes the file of a report.
+fn begin<B: Bench>(bench: &mut B, report: &Report<'_, '_>) -> Result<(), DeviceFault>
     ensures written { IsTrue (B.honest bench.old)
-        → OnOk result (B.stored bench.new report_name ≡ Some (report_parts (facts_of facts.now) digest.now)) }
+        → OnOk result (B.stored bench.new report_name ≡ Some (report_parts (facts_of report.now.facts.now) report.now.digest)) }
     ensures beside { Spares B.Bench bench.old bench.new }
     ensures only_writes { OnlyWrites B.Bench (λ n. n ≢ report_name) bench.old bench.new result (λ _. ⊤)
         (λ _ failed. failed report_name) }
@@ -31,24 +28,20 @@ fn begin<B: Bench>(
         Ok(()) => {}
         Err(fault) => return Err(fault),
     }
-    put_report(bench, facts, digest)
+    put_report(bench, report)
 }
 
 /// The same, synced.
-fn write<B: Bench>(
-    bench: &mut B,
-    facts: &ReportFacts<'_>,
-    digest: &[u8; 32],
-) -> Result<(), DeviceFault>
+fn write<B: Bench>(bench: &mut B, report: &Report<'_, '_>) -> Result<(), DeviceFault>
     ensures written { IsTrue (B.honest bench.old)
-        → OnOk result (B.stored bench.new report_name ≡ Some (report_parts (facts_of facts.now) digest.now)) }
+        → OnOk result (B.stored bench.new report_name ≡ Some (report_parts (facts_of report.now.facts.now) report.now.digest)) }
     ensures durable { IsTrue (B.honest bench.old)
         → OnOk result (IsDurable report_name (B.stored bench.new) (B.may_leave bench.new)) }
     ensures beside { Spares B.Bench bench.old bench.new }
     ensures only_writes { OnlyWrites B.Bench (λ n. n ≢ report_name) bench.old bench.new result (λ _. ⊤)
         (λ _ failed. failed report_name) }
 {
-    match begin(bench, facts, digest) {
+    match begin(bench, report) {
         Ok(()) => {}
         Err(fault) => return Err(fault),
     }
@@ -72,7 +65,7 @@ pub fn write_report<B: Bench>(bench: &mut B, facts: &ReportFacts<'_>) -> Result<
         Ok(digest) => digest,
         Err(_) => return Err(ReportFault::Sound),
     };
-    match write(bench, facts, &digest) {
+    match write(bench, &Report { facts, digest }) {
         Ok(()) => Ok(()),
         Err(_) => Err(ReportFault::Report),
     }

@@ -18,5 +18,5 @@ pub returns-clause-written : goal.returns-clause-written
 returns-clause-written g c = λ honest.
     let created_honest : IsTrue (g.B.Bench.honest c.create.new.self) =
     rw c.in-Ok.ensures.only_writes.honest_same honest in
-    added_to c.put_report.result _ _ [] (report_parts (facts_of c.args.facts.now) c.args.digest.now)
+    added_to c.put_report.result _ _ [] (report_parts (facts_of c.args.report.now.facts.now) c.args.report.now.digest)
     (c.in-Ok.ensures.created honest).here (c.put_report.ensures.appended created_honest)
