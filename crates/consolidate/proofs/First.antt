@@ -26,27 +26,29 @@ opened_first text files (opened.Entry entry) own = tt
 opened_first text files (opened.SameName index) own = tt
 opened_first text files (opened.Media index name media) own = absurd (no_project (own []).0 (own []).1)
 
-pub rendered_first : (text : bytes.List bytes.ℕ) (files : Files) (told : consolidate.Fault)
-    → ((any : bytes.List bytes.ℕ) → IsOfRendering any told) → IsFirst text files told
-rendered_first text files (fault.Project of) own = opened_first text files of own
-rendered_first text files _ own = tt
+module _ (Own : bytes.List bytes.ℕ → consolidate.Fault → Type 0)
+    (of_opening : (any : bytes.List bytes.ℕ) (of : Fault) → Own any (fault.Project of) → IsOfOpening any of)
+    (text : bytes.List bytes.ℕ) (files : Files) where
+  comes_first : (told : consolidate.Fault) → ((any : bytes.List bytes.ℕ) → Own any told) → IsFirst text files told
+  comes_first (fault.Project of) own = opened_first text files of (λ any. of_opening any of (own any))
+  comes_first _ own = tt
 
-pub resumed_first : (text : bytes.List bytes.ℕ) (files : Files) (told : consolidate.Fault)
-    → ((any : bytes.List bytes.ℕ) → IsOfResuming any told) → IsFirst text files told
-resumed_first text files (fault.Project of) own = opened_first text files of own
-resumed_first text files _ own = tt
+-- so it is of each call
+abbrev ComesFirst : (bytes.List bytes.ℕ → consolidate.Fault → Type 0) → Type 0
+ComesFirst Own = (text : bytes.List bytes.ℕ) (files : Files) (told : consolidate.Fault)
+    → ((any : bytes.List bytes.ℕ) → Own any told) → IsFirst text files told
 
-pub consolidated_first : (reported : bytes.Bool) (text : bytes.List bytes.ℕ) (files : Files) (told : consolidate.Fault)
-    → ((any : bytes.List bytes.ℕ) → IsOfConsolidation reported any told) → IsFirst text files told
-consolidated_first reported text files (fault.Project of) own = opened_first text files of own
-consolidated_first reported text files _ own = tt
+pub rendered_first : ComesFirst IsOfRendering
+rendered_first = comes_first IsOfRendering (λ any of own. own)
 
-pub scheduled_first : (text : bytes.List bytes.ℕ) (files : Files) (told : consolidate.Fault)
-    → ((any : bytes.List bytes.ℕ) → IsOfRenderSchedule any told) → IsFirst text files told
-scheduled_first text files (fault.Project of) own = opened_first text files of own
-scheduled_first text files _ own = tt
+pub resumed_first : ComesFirst IsOfResuming
+resumed_first = comes_first IsOfResuming (λ any of own. own)
 
-pub remade_first : (text : bytes.List bytes.ℕ) (files : Files) (told : consolidate.Fault)
-    → ((any : bytes.List bytes.ℕ) → IsOfConsolidationSchedule any told) → IsFirst text files told
-remade_first text files (fault.Project of) own = opened_first text files of own
-remade_first text files _ own = tt
+pub consolidated_first : (reported : bytes.Bool) → ComesFirst (IsOfConsolidation reported)
+consolidated_first reported = comes_first (IsOfConsolidation reported) (λ any of own. own)
+
+pub scheduled_first : ComesFirst IsOfRenderSchedule
+scheduled_first = comes_first IsOfRenderSchedule (λ any of own. own)
+
+pub remade_first : ComesFirst IsOfConsolidationSchedule
+remade_first = comes_first IsOfConsolidationSchedule (λ any of own. own)

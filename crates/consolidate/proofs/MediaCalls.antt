@@ -47,6 +47,7 @@ use Rattle.consolidate.specs.declared.fault.Fault.{Fault}
 use Rattle.consolidate.specs.declared.fault.Fault.TheVariants as fault
 use Rattle.consolidate.specs.declared.fault.OutputFile.TheVariants as file
 use Rattle.consolidate.proofs.MediaFaults.{before_list, before_report, may_come, same_name}
+use Rattle.consolidate.proofs.RenderOutcomes.{outcome_opened}
 use Rattle.consolidate.proofs.Stores.{gave_up, no_room, stopped_at, went_on}
 
 -- ---- names and plans
@@ -406,69 +407,8 @@ module _ {S B : Type 0} (shelf : source.Ghosts S) (bench : output.Ghosts B) wher
 
 -- ---- how it came out, of the sources as they were before
 
-abbrev source_at : (files : Files) (honest : Bool) (failures : ℕ) (failed_at : List ℕ → Type 0) → SourceView
-source_at files honest failures failed_at =
-    record { files = files; honest = honest; failures = failures; failed_at = failed_at }
-
-module _ (plan : JobPlan) (Begins : Files → Type 0) (events : List BoardEvent) (first : Board) (files : Files)
-    (failures : ℕ) (honest honest_before : Bool) (failed_at failed_before : List ℕ → Type 0) (o : OutputView)
-    (had : ℕ → Hand) where
-  done_from : (board : Board) (after : Files) (shelf_failures bench_failures stale count : ℕ) (ended : Option End)
-      → EventsDone Begins events (snapshot_of plan first 0 (source_at files honest failures failed_at) o) had board after
-      shelf_failures bench_failures stale count ended
-      → EventsDone Begins events (snapshot_of plan first 0 (source_at files honest_before failures failed_before) o) had
-      board after shelf_failures bench_failures stale count ended
-  done_from board after shelf_failures bench_failures stale count ended did = record {
-    laid = did.laid;
-    begins = did.begins;
-    few = did.few;
-    hands = did.hands;
-    run = did.run;
-    filled = did.filled;
-    complete = did.complete;
-    laws = did.laws;
-  }
-
-  outcome_from : (new : Snapshot) (untouched : Type 0) (ended : Result Progress ExecutionFault)
-      → Outcome Begins events (snapshot_of plan first 0 (source_at files honest failures failed_at) o) had new untouched
-      ended
-      → Outcome Begins events (snapshot_of plan first 0 (source_at files honest_before failures failed_before) o) had new
-      ⊤ ended
-  outcome_from new untouched ended (NotLaidOut number un is same quiet writes laid) =
-      NotLaidOut number tt is same quiet writes laid
-  outcome_from new untouched ended (Stopped stale count did stops writes runs) = Stopped stale count
-      (done_from new.board new.output.files new.source.failures new.output.failures stale count (end_of ended) did) stops
-      writes runs
-  outcome_from new untouched ended (NotFinished number stale count failed kept did all is own rose runs) =
-      NotFinished number stale count failed kept
-      (done_from new.board kept new.source.failures failed stale count None did) all is own rose runs
-  outcome_from new untouched ended (Finished stale count kept did all is own last durable runs) =
-      Finished stale count kept
-      (done_from new.board kept new.source.failures new.output.failures stale count None did) all is own last durable
-      runs
-
 module _ {S : Type 0} (shelf : source.Ghosts S) (old mid : S) (same : shelf.stored mid ≡ shelf.stored old)
     (quiet : shelf.failures mid ≡ shelf.failures old) where
-  pub outcome_before : (plan : MediaPlan) (events : List BoardEvent) (first : Board) (o : OutputView) (had : ℕ → Hand)
-      (new : Snapshot) (untouched : Type 0) (ended : Result Progress ExecutionFault)
-      → Outcome (AreBlank (jobs_over (work_of plan) (shelf.stored mid)) (whole_output plan (shelf.stored mid))) events
-      (snapshot_of (job_plan plan) first 0 (source_view shelf mid) o) had new untouched ended
-      → Outcome (AreBlank (jobs_over (work_of plan) (shelf.stored old)) (whole_output plan (shelf.stored old))) events
-      (snapshot_of (job_plan plan) first 0 (source_view shelf old) o) had new ⊤ ended
-  outcome_before plan events first o had new untouched ended out =
-      outcome_from (job_plan plan)
-      (AreBlank (jobs_over (work_of plan) (shelf.stored old)) (whole_output plan (shelf.stored old))) events first
-      (shelf.stored old) (shelf.failures old) (shelf.honest mid) (shelf.honest old) (shelf.failed_at mid)
-      (shelf.failed_at old) o had new untouched ended
-      (subst (λ (n : ℕ). Outcome
-      (AreBlank (jobs_over (work_of plan) (shelf.stored old)) (whole_output plan (shelf.stored old))) events
-      (snapshot_of (job_plan plan) first 0 (source_at (shelf.stored old) (shelf.honest mid) n (shelf.failed_at mid)) o)
-      had new untouched ended) quiet
-      (subst (λ (f : Files). Outcome (AreBlank (jobs_over (work_of plan) f) (whole_output plan f)) events
-      (snapshot_of (job_plan plan) first 0
-      (source_at f (shelf.honest mid) (shelf.failures mid) (shelf.failed_at mid)) o)
-      had new untouched ended) same out))
-
   -- of the list that was opened before
   pub listed_media : (X Y : Type 0) (leave : Leaving) (text : List ℕ) (project : ListProject) (binding : Binding)
       (handle : ℕ) (asked : Option AskedReport) (events : ℕ → List BoardEvent) (Reports : X → Progress → Type 0)
@@ -492,9 +432,11 @@ module _ {S : Type 0} (shelf : source.Ghosts S) (old mid : S) (same : shelf.stor
           answers = so (consolidation_fault (length run.plan.runs) (is_some asked)) run.ended run.answers;
           foreign = run.foreign;
           board = run.board;
-          came = outcome_before run.plan (events (work_of run.plan).count)
+          came = outcome_opened shelf old mid same quiet
+              (λ f. AreBlank (jobs_over (work_of run.plan) f) (whole_output run.plan f))
+              (events (work_of run.plan).count) (job_plan run.plan)
               (fresh_board (work_of run.plan).count (range_with_len 0 (work_of run.plan).count)) o (λ _. Nothing)
-              (snapshot_of (job_plan run.plan) run.board 0 s2 o2) ⊤ run.ended run.came;
+              (snapshot_of (job_plan run.plan) run.board 0 s2 o2) ⊤ ⊤ (λ un. un) run.ended run.came;
         };
       }
 

@@ -41,8 +41,9 @@ use Rattle.consolidate.specs.Outcomes.{AnswersAs}
 use Rattle.consolidate.specs.Own.{IsOfConsolidation, IsOfConsolidationSchedule}
 use Rattle.consolidate.specs.Schedules.{IsWrittenOut}
 use Rattle.consolidate.specs.declared.fault.Fault.{Fault}
-use Rattle.consolidate.proofs.MediaCalls.{IsMediaCall, answers_finished, came_out, due_late, durable_when, if_err, list_before, list_kept, named_of, on_finished, outcome_before, ready, report_kept, stores_ended, where_finished, whole_when}
+use Rattle.consolidate.proofs.MediaCalls.{IsMediaCall, answers_finished, came_out, due_late, durable_when, if_err, list_before, list_kept, named_of, on_finished, ready, report_kept, stores_ended, where_finished, whole_when}
 use Rattle.consolidate.proofs.MediaFaults.{of_execution}
+use Rattle.consolidate.proofs.RenderOutcomes.{outcome_opened}
 use Rattle.consolidate.proofs.Stores.{opened_before}
 
 -- a report is asked for just where a choice of it is
@@ -210,9 +211,11 @@ module _ {S B : Type 0} (shelf : source.Ghosts S) (bench : output.Ghosts B) (lea
         answers = answers;
         foreign = call.bounded.output;
         board = board;
-        came = outcome_before shelf old mid reads.same (reads.cause.left tt) plan (events (work_of plan).count)
-            (fresh_board (work_of plan).count (range_with_len 0 (work_of plan).count)) (output_view bench before)
-            (λ _. Nothing) (snapshot_of (job_plan plan) board 0 (source_view shelf new) (output_view bench after)) untouched
+        came = outcome_opened shelf old mid reads.same (reads.cause.left tt)
+            (λ f. AreBlank (jobs_over (work_of plan) f) (whole_output plan f)) (events (work_of plan).count)
+            (job_plan plan) (fresh_board (work_of plan).count (range_with_len 0 (work_of plan).count))
+            (output_view bench before) (λ _. Nothing)
+            (snapshot_of (job_plan plan) board 0 (source_view shelf new) (output_view bench after)) untouched ⊤ (λ un. tt)
             ended (out_now honest right text accepted);
       }
 

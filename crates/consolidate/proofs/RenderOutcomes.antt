@@ -2,7 +2,8 @@
 use Rattle.std.proofs.Common.{◌≡◌, ◌∙◌, ℕ, Bool, Option, None, Result, List, take, sym, subst}
 use Rattle.work_terms.specs.Disk.{Files}
 use Rattle.devices.specs.ViewLaws.{writes_then}
-use Rattle.devices.specs.Views.{OutputView, SourceView, Writes}
+use Rattle.devices.specs.declared.source.Shelf as source
+use Rattle.devices.specs.Views.{OutputView, SourceView, Writes, source_view}
 use Rattle.job_terms.specs.declared.BoardEvent.{BoardEvent}
 use Rattle.job_terms.specs.declared.Progress.{Progress}
 use Rattle.job_terms.specs.Board.{Board}
@@ -81,33 +82,36 @@ done_source Begins events plan first f n h h' p p' o had board files shelf_failu
 
 outcome_source : (Begins : Files → Type 0) (events : List BoardEvent) (plan : JobPlan) (first : Board) (f : Files)
     (n : ℕ) (h h' : Bool) (p p' : List ℕ → Type 0) (o : OutputView) (had : ℕ → Hand) (new : Snapshot)
-    (untouched : Type 0) (ended : Result Progress ExecutionFault)
+    (untouched plain : Type 0) → (untouched → plain) → (ended : Result Progress ExecutionFault)
     → Outcome Begins events (snapshot_of plan first 0 (source_of f h n p) o) had new untouched ended
-    → Outcome Begins events (snapshot_of plan first 0 (source_of f h' n p') o) had new untouched ended
-outcome_source Begins events plan first f n h h' p p' o had new untouched ended
-    (NotLaidOut file un is same quiet writes laid) = NotLaidOut file un is same quiet writes laid
-outcome_source Begins events plan first f n h h' p p' o had new untouched ended
+    → Outcome Begins events (snapshot_of plan first 0 (source_of f h' n p') o) had new plain ended
+outcome_source Begins events plan first f n h h' p p' o had new untouched plain so ended
+    (NotLaidOut file un is same quiet writes laid) = NotLaidOut file (so un) is same quiet writes laid
+outcome_source Begins events plan first f n h h' p p' o had new untouched plain so ended
     (Stopped stale count did stops writes runs) = Stopped stale count
     (done_source Begins events plan first f n h h' p p' o had _ _ _ _ _ _ _ did) stops writes runs
-outcome_source Begins events plan first f n h h' p p' o had new untouched ended
+outcome_source Begins events plan first f n h h' p p' o had new untouched plain so ended
     (NotFinished file stale count failures files did all is own rose runs) = NotFinished file stale count failures files
     (done_source Begins events plan first f n h h' p p' o had _ _ _ _ _ _ _ did) all is own rose runs
-outcome_source Begins events plan first f n h h' p p' o had new untouched ended
+outcome_source Begins events plan first f n h h' p p' o had new untouched plain so ended
     (Finished stale count files did all is own last durable runs) = Finished stale count files
     (done_source Begins events plan first f n h h' p p' o had _ _ _ _ _ _ _ did) all is own last durable runs
 
 -- the same files, and as many failures
-pub outcome_opened : (Begins : Files → Files → Type 0) (events : List BoardEvent) (plan : JobPlan) (first : Board)
-    (f f' : Files) (n n' : ℕ) (h h' : Bool) (p p' : List ℕ → Type 0) (o : OutputView) (had : ℕ → Hand) (new : Snapshot)
-    (untouched : Type 0) (ended : Result Progress ExecutionFault) → f ≡ f' → n ≡ n'
-    → Outcome (Begins f) events (snapshot_of plan first 0 (source_of f h n p) o) had new untouched ended
-    → Outcome (Begins f') events (snapshot_of plan first 0 (source_of f' h' n' p') o) had new untouched ended
-outcome_opened Begins events plan first f f' n n' h h' p p' o had new untouched ended files failures out =
-    outcome_source (Begins f') events plan first f' n' h h' p p' o had new untouched ended
-    (subst (λ (m : ℕ). Outcome (Begins f') events (snapshot_of plan first 0 (source_of f' h m p) o) had new untouched
-    ended) failures
-    (subst (λ (g : Files). Outcome (Begins g) events (snapshot_of plan first 0 (source_of g h n p) o) had new untouched
-    ended) files out))
+pub outcome_opened : {S : Type 0} (shelf : source.Ghosts S) (old mid : S) → shelf.stored mid ≡ shelf.stored old
+    → shelf.failures mid ≡ shelf.failures old → (Begins : Files → Files → Type 0) (events : List BoardEvent)
+    (plan : JobPlan) (first : Board) (o : OutputView) (had : ℕ → Hand) (new : Snapshot) (untouched plain : Type 0)
+    → (untouched → plain) → (ended : Result Progress ExecutionFault)
+    → Outcome (Begins (shelf.stored mid)) events (snapshot_of plan first 0 (source_view shelf mid) o) had new untouched
+    ended
+    → Outcome (Begins (shelf.stored old)) events (snapshot_of plan first 0 (source_view shelf old) o) had new plain ended
+outcome_opened shelf old mid same quiet Begins events plan first o had new untouched plain so ended out =
+    outcome_source (Begins (shelf.stored old)) events plan first (shelf.stored old) (shelf.failures old)
+    (shelf.honest mid) (shelf.honest old) (shelf.failed_at mid) (shelf.failed_at old) o had new untouched plain so ended
+    (subst (λ (m : ℕ). Outcome (Begins (shelf.stored old)) events (snapshot_of plan first 0
+    (source_of (shelf.stored old) (shelf.honest mid) m (shelf.failed_at mid)) o) had new untouched ended) quiet
+    (subst (λ (g : Files). Outcome (Begins g) events (snapshot_of plan first 0
+    (source_of g (shelf.honest mid) (shelf.failures mid) (shelf.failed_at mid)) o) had new untouched ended) same out))
 
 -- ---- the outputs before marks were opened
 

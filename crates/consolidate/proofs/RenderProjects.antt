@@ -1,15 +1,19 @@
 -- What an execution of a rendering leaves of a project, and behind marks that were opened.
-use Rattle.std.proofs.Common.{◌≡◌, ◌∙◌, ℕ, Bool, true, Option, None, Some, Result, Ok, Err, List, IsTrue, sym, ap, subst}
-use Rattle.std.specs.Prelude.{IfOk, IfSome, ◌<◌}
+use Rattle.std.proofs.Common.{◌≡◌, ◌∙◌, ℕ, Bool, true, Option, None, Some, Result, Ok, Err, List, [], IsTrue, refl, sym, ap, subst}
+use Rattle.std.specs.Prelude.{IfOk, IfSome, ⊤, ◌<◌, ℤ}
+use Rattle.std.specs.List.{All}
+use Rattle.clipping.specs.declared.tally.Clips.{Clips}
 use Rattle.work_terms.specs.Disk.{Files, IsUntouched, LeavesOnly}
 use Rattle.work_terms.specs.Refusals.{Refusal}
+use Rattle.sound_terms.specs.Render.{ReadsBack, rendering_of}
 use Rattle.devices.specs.declared.source.Shelf as source
 use Rattle.devices.specs.declared.bench.Bench as output
-use Rattle.devices.specs.Views.{Writes, output_view, source_view}
+use Rattle.devices.specs.Views.{OutputView, SourceView, Writes, output_view, source_view}
 use Rattle.job_terms.specs.declared.BoardEvent.{BoardEvent}
 use Rattle.job_terms.specs.declared.Progress.{Progress}
+use Rattle.job_terms.specs.Board.{Board}
 use Rattle.job_terms.specs.Workers.{Nothing, jobs_over}
-use Rattle.list_terms.specs.Accepted.{OptionValues}
+use Rattle.list_terms.specs.Accepted.{OptionValues, range_of}
 use Rattle.list_terms.specs.Binding.{Binding}
 use Rattle.list_terms.specs.Project.{ListProject}
 use Rattle.markfile.specs.Fault.{ReadsMarks}
@@ -24,27 +28,32 @@ use Rattle.execution.specs.Filled.{AreFilled}
 use Rattle.execution.specs.Marking.{AreLeftBy, IsRunning, Marking, NoneStartedBy}
 use Rattle.execution.specs.Plan.{AreBlank}
 use Rattle.execution.specs.declared.fault.ExecutionFault.{ExecutionFault}
+use Rattle.rendering.specs.Clipping as clipping
+use Rattle.rendering.specs.Clipping.{ClipsUnmarked}
+use Rattle.rendering.specs.ClippingLaws.{fresh_uniform}
+use Rattle.rendering.specs.Cut.{IsUniform}
 use Rattle.rendering.specs.Fault as rendering
 use Rattle.rendering.specs.declared.fault.RenderFault.{RenderFault}
 use Rattle.rendering.specs.Maker.{HasSoundJobs, IsReopened, marks_of, plan_of}
 use Rattle.rendering.specs.MakerLaws.{run_leaves, started_as}
-use Rattle.rendering.specs.Marked.{HoldsMarked, IsFoundAs, IsLeftByRun, IsResumable, MarkedWork, full_marks}
-use Rattle.rendering.specs.Work.{AreCutBy, done_before, work_of}
+use Rattle.rendering.specs.Marked.{HoldsMarked, IsFoundAs, IsLeftByRun, IsResumable, MarkedWork, full_marks, run_of}
+use Rattle.rendering.specs.Work.{AreCutBy, done_before, heard, work_of}
 use Rattle.rendering.specs.declared.cutting.JobLength.{JobLength}
 use Rattle.consolidate.specs.Commands.{IsOutput, IsSource}
 use Rattle.consolidate.specs.Fault.{refusal_of}
-use Rattle.consolidate.specs.Listed.{BeginsListed, GoesOnListed, IsLeftListed, IsMarkedIn, IsPlannedAs, ResumesListed, marking_in, marks_in, run_in, values_in}
+use Rattle.consolidate.specs.Listed.{BeginsListed, GoesOnListed, IsLeftListed, IsMarkedIn, IsPlannedAs, KeepsListed, ResumesListed, marking_in, marks_in, mix_in, range_in, run_in, values_in}
 use Rattle.consolidate.specs.Outcomes.{IsAllDone}
-use Rattle.consolidate.specs.RenderOutcome.{GoesOnBound, IsRenderedWork, IsResumedWork, RendersBound, ResumesBound, in_rounds}
-use Rattle.consolidate.specs.RenderWorks.{BeginsWork, DoesWork, GoesOnWithWork, StandsAsMarked}
+use Rattle.consolidate.specs.RenderOutcome.{GoesOnBound, IsRenderedWork, IsResumedWork, IsWorkedOff, RendersBound, ResumesBound, in_rounds}
+use Rattle.consolidate.specs.RenderWorks.{BeginsWork, DoesWork, GoesOnWithWork, KeepsMarked, StandsAsMarked, WorksOn}
 use Rattle.consolidate.specs.declared.fault.Fault.{Fault}
 use Rattle.consolidate.specs.declared.fault.Fault.TheVariants as fault
 use Rattle.consolidate.specs.declared.requested.Listed.{Listed}
+use Rattle.consolidate.proofs.Clipped.{reopened_clips}
 use Rattle.consolidate.proofs.Crashes.{joined, weaker}
-use Rattle.consolidate.proofs.Listed.{as_list, fewer_left, left_as_list, now_resumable}
+use Rattle.consolidate.proofs.Listed.{as_list, fewer_left, left_as_list, marked_in, now_resumable}
 use Rattle.consolidate.proofs.RenderOutcomes.{outcome_before, outcome_opened}
 use Rattle.consolidate.proofs.RenderWorks.{refused, untouched_by}
-use Rattle.consolidate.proofs.Resumes.{from_list, holds_list, left_holds, reopened}
+use Rattle.consolidate.proofs.Resumes.{from_list, holds_list, left_holds, reopened, started_found}
 use Rattle.consolidate.proofs.Stores.{behind_open, late_not_early, not_opened}
 
 -- ---- the marks of the list that it was planned of
@@ -126,6 +135,20 @@ module _ {S B : Type 0} (shelf : source.Ghosts S) (bench : output.Ghosts B) (s0 
   unstarted_mid None unstarted = tt
   unstarted_mid (Some marking) unstarted = λ c at. unstarted c (same.crash c at)
 
+  worked_before : (Begins Starts : Files → Type 0) → ((laid : Files) → Begins laid → Starts laid) → (untouched : Type 0)
+      (x : MarkedWork) (first : Board) (events : List BoardEvent) (ended : Result Progress ExecutionFault)
+      → IsWorkedOff Begins untouched x first events (source_view shelf s0) (source_view shelf s1)
+      (output_view bench mid) (output_view bench b1) ended
+      → IsWorkedOff Starts untouched x first events (source_view shelf s0) (source_view shelf s1) (output_view bench b0)
+      (output_view bench b1) ended
+  worked_before Begins Starts so untouched x first events ended r = record {
+    board = r.board;
+    came = outcome_before Begins Starts so events (plan_of x) first (source_view shelf s0) (output_view bench mid)
+        (output_view bench b0) (λ _. Nothing) (reads.cause.left tt)
+        (snapshot_of (plan_of x) r.board 0 (source_view shelf s1) (output_view bench b1)) untouched ended wrote
+        (unstarted_mid ((plan_of x).marking (shelf.stored s0))) r.came;
+  }
+
   rendered_before : (events : ℕ → List BoardEvent) (x : MarkedWork) (ended : Result Progress ExecutionFault)
       → IsRenderedWork events x (source_view shelf s0) (source_view shelf s1) (output_view bench mid)
       (output_view bench b1) ended
@@ -134,17 +157,10 @@ module _ {S B : Type 0} (shelf : source.Ghosts S) (bench : output.Ghosts B) (s0 
   rendered_before events x ended r = record {
     order = r.order;
     is_order = r.is_order;
-    came = record {
-      board = r.came.board;
-      came = outcome_before
-          (AreBlank (jobs_over (plan_of x).jobs (shelf.stored s0)) ((plan_of x).whole (shelf.stored s0)))
-          (AreBlank (jobs_over (plan_of x).jobs (shelf.stored s0)) ((plan_of x).whole (shelf.stored s0)))
-          (λ laid is. is) (events (work_of x.work).count) (plan_of x)
-          (fresh_board (work_of x.work).count r.order) (source_view shelf s0) (output_view bench mid)
-          (output_view bench b0) (λ _. Nothing) (reads.cause.left tt)
-          (snapshot_of (plan_of x) r.came.board 0 (source_view shelf s1) (output_view bench b1)) _ ended wrote
-          (unstarted_mid ((plan_of x).marking (shelf.stored s0))) r.came.came;
-    };
+    came = worked_before
+        (AreBlank (jobs_over (plan_of x).jobs (shelf.stored s0)) ((plan_of x).whole (shelf.stored s0)))
+        (AreBlank (jobs_over (plan_of x).jobs (shelf.stored s0)) ((plan_of x).whole (shelf.stored s0)))
+        (λ laid is. is) ⊤ x (fresh_board (work_of x.work).count r.order) (events (work_of x.work).count) ended r.came;
   }
 
   resumed_before : (x : MarkedWork) (ended : Result Progress ExecutionFault)
@@ -158,15 +174,8 @@ module _ {S B : Type 0} (shelf : source.Ghosts S) (bench : output.Ghosts B) (s0 
     done = r.done;
     count = r.count;
     each = r.each;
-    came = record {
-      board = r.came.board;
-      came = outcome_before (λ laid. laid ≡ bench.stored mid) (λ laid. laid ≡ bench.stored b0)
-          (λ laid is. is ∙ same.reads) (in_rounds (work_of x.work).count) (plan_of x)
-          (board_with r.done r.order) (source_view shelf s0) (output_view bench mid)
-          (output_view bench b0) (λ _. Nothing) (reads.cause.left tt)
-          (snapshot_of (plan_of x) r.came.board 0 (source_view shelf s1) (output_view bench b1)) _ ended wrote
-          (unstarted_mid ((plan_of x).marking (shelf.stored s0))) r.came.came;
-    };
+    came = worked_before (λ laid. laid ≡ bench.stored mid) (λ laid. laid ≡ bench.stored b0)
+        (λ laid is. is ∙ same.reads) ⊥ x (board_with r.done r.order) (in_rounds (work_of x.work).count) ended r.came;
   }
 
 -- ---- over the sources as they were before the list was opened
@@ -175,6 +184,19 @@ module _ (jobs : JobLength) (text : List ℕ) (values : OptionValues) (project :
     {S B : Type 0} (shelf : source.Ghosts S) (bench : output.Ghosts B) (old mid new : S) (b0 b1 : B)
     (same : shelf.stored mid ≡ shelf.stored old) (quiet : shelf.failures mid ≡ shelf.failures old)
     (ended : Result Progress ExecutionFault) where
+  worked_opened : (Begins : Files → Files → Type 0) (untouched : Type 0) (x : MarkedWork) (first : Board)
+      (events : List BoardEvent)
+      → IsWorkedOff (Begins (shelf.stored mid)) untouched x first events (source_view shelf mid) (source_view shelf new)
+      (output_view bench b0) (output_view bench b1) ended
+      → IsWorkedOff (Begins (shelf.stored old)) untouched x first events (source_view shelf old) (source_view shelf new)
+      (output_view bench b0) (output_view bench b1) ended
+  worked_opened Begins untouched x first events r = record {
+    board = r.board;
+    came = outcome_opened shelf old mid same quiet Begins events (plan_of x) first (output_view bench b0) (λ _. Nothing)
+        (snapshot_of (plan_of x) r.board 0 (source_view shelf new) (output_view bench b1)) untouched untouched
+        (λ un. un) ended r.came;
+  }
+
   pub renders_opened : (events : ℕ → List BoardEvent)
       → RendersBound jobs events text values project binding (source_view shelf mid) (source_view shelf new)
       (output_view bench b0) (output_view bench b1) ended
@@ -188,16 +210,9 @@ module _ (jobs : JobLength) (text : List ℕ) (values : OptionValues) (project :
     came = record {
       order = r.came.order;
       is_order = r.came.is_order;
-      came = record {
-        board = r.came.came.board;
-        came = outcome_opened
-            (λ files. AreBlank (jobs_over (plan_of r.work).jobs files) ((plan_of r.work).whole files))
-            (events (work_of r.work.work).count) (plan_of r.work) (fresh_board (work_of r.work.work).count r.came.order)
-            (shelf.stored mid) (shelf.stored old) (shelf.failures mid) (shelf.failures old) (shelf.honest mid)
-            (shelf.honest old) (shelf.failed_at mid) (shelf.failed_at old) (output_view bench b0) (λ _. Nothing)
-            (snapshot_of (plan_of r.work) r.came.came.board 0 (source_view shelf new) (output_view bench b1)) _ ended
-            same quiet r.came.came.came;
-      };
+      came = worked_opened
+          (λ files. AreBlank (jobs_over (plan_of r.work).jobs files) ((plan_of r.work).whole files)) ⊤ r.work
+          (fresh_board (work_of r.work.work).count r.came.order) (events (work_of r.work.work).count) r.came.came;
     };
   }
 
@@ -217,15 +232,8 @@ module _ (jobs : JobLength) (text : List ℕ) (values : OptionValues) (project :
       done = r.came.done;
       count = r.came.count;
       each = r.came.each;
-      came = record {
-        board = r.came.came.board;
-        came = outcome_opened (λ files laid. laid ≡ bench.stored b0) (in_rounds (work_of r.work.work).count)
-            (plan_of r.work) (board_with r.came.done r.came.order)
-            (shelf.stored mid) (shelf.stored old) (shelf.failures mid) (shelf.failures old) (shelf.honest mid)
-            (shelf.honest old) (shelf.failed_at mid) (shelf.failed_at old) (output_view bench b0) (λ _. Nothing)
-            (snapshot_of (plan_of r.work) r.came.came.board 0 (source_view shelf new) (output_view bench b1)) _ ended
-            same quiet r.came.came.came;
-      };
+      came = worked_opened (λ files laid. laid ≡ bench.stored b0) ⊥ r.work (board_with r.came.done r.came.order)
+          (in_rounds (work_of r.work.work).count) r.came.came;
     };
   }
 
@@ -237,6 +245,15 @@ module _ (jobs : JobLength) (text : List ℕ) (values : OptionValues) (project :
   resumes_opened (Ok None) r = renders_opened in_rounds r
   resumes_opened (Ok (Some marked)) r = goes_on_opened marked r
   resumes_opened (Err fault) r = r
+
+-- the file of a work that was gone on with reads back, whatever its sums are
+pub resumes_back : (jobs : JobLength) (text : List ℕ) (values : OptionValues) (project : ListProject) (binding : Binding)
+    (due : Result (Option (List Bool)) MarkFault) (s t : SourceView) (o u : OutputView)
+    (ended : Result Progress ExecutionFault) → ResumesBound jobs text values project binding due s t o u ended
+    → (mix : ℕ → ℕ → ℤ) → ReadsBack (range_of project values) mix (rendering_of (range_of project values) mix)
+resumes_back jobs text values project binding (Ok None) s t o u ended r = r.renders.reads_back
+resumes_back jobs text values project binding (Ok (Some marked)) s t o u ended r = r.is_for.reads_back
+resumes_back jobs text values project binding (Err fault) s t o u ended r = absurd r
 
 -- ---- a plan that is refused
 
@@ -276,7 +293,8 @@ module _ {B : Type 0} (bench : output.Ghosts B) (listed : Listed) (was : MarkedW
 -- ---- all of a call behind marks that were opened
 
 module _ {S B : Type 0} (shelf : source.Ghosts S) (bench : output.Ghosts B) (listed : Listed) (was x : MarkedWork)
-    (of : IsMarkedIn listed was) (back : IsReopened was x) (s0 s1 : S) (b0 mid b1 : B) (found : Option ℕ)
+    (renders : IsPlannedAs listed was.work) (run : was.run ≡ run_of listed.list.now was.work.planned.range)
+    (back : IsReopened was x) (s0 s1 : S) (b0 mid b1 : B) (found : Option ℕ)
     (same : IsUntouched bench.stored bench.may_leave bench.moment bench.left_since b0 mid)
     (reads : ReadsMarks {X = Option ℕ} bench b0 mid (Ok found)) (result : Result Progress Fault)
     (found_as : IsTrue (bench.honest b0) → IsFoundAs (Ok found) (opened_of was.run (bench.stored b0))) where
@@ -300,6 +318,9 @@ module _ {S B : Type 0} (shelf : source.Ghosts S) (bench : output.Ghosts B) (lis
   IsCutAsFound = IsTrue (bench.honest b0) → IfSome found (λ _. (marked : List Bool)
       × (opened_of was.run (bench.stored b0) ≡ Ok (Some marked)) × AreCutBy listed.choice.now.jobs marked x.work)
 
+  of : IsMarkedIn listed was
+  of = marked_in listed was renders run
+
   now_of : IsMarkedIn listed x
   now_of = reopened listed was x of back
 
@@ -312,11 +333,20 @@ module _ {S B : Type 0} (shelf : source.Ghosts S) (bench : output.Ghosts B) (lis
   resumable left = now_resumable (marks_of x (shelf.stored s0)) (bench.may_leave b0)
       (from_list listed x now_of (shelf.stored s0) (bench.may_leave b0) left)
 
-  pub anew_after_open : found ≡ None → (found ≡ None → x ≡ was) → IsPlannedAs listed was.work
-      → (IsTrue (bench.honest b0) → (sources : Files) → found ≡ None
-      → NoneStartedBy (Some (marks_of x sources)) (bench.may_leave mid))
+  abbrev IsUnstartedAnew : Type 0
+  IsUnstartedAnew = IsTrue (bench.honest b0) → (sources : Files) → found ≡ None
+      → NoneStartedBy (Some (marks_of x sources)) (bench.may_leave mid)
+
+  abbrev RunsMarked : Type 0
+  RunsMarked = HoldsOfDone (λ sources done. IsRunning (marks_of x sources) done (bench.may_leave mid))
+
+  abbrev IsFilledMarked : Type 0
+  IsFilledMarked = HoldsOfDone (λ sources done. AreFilled (jobs_over (plan_of x).jobs sources)
+      ((plan_of x).whole sources) done (bench.stored mid))
+
+  anew_after_open : found ≡ None → (found ≡ None → x ≡ was) → IsUnstartedAnew
       → BeginsWork shelf bench in_rounds x s0 s1 mid b1 result → GoesOnListed shelf bench listed s0 s1 b0 b1 result
-  anew_after_open is unchanged renders unstarted did = as_listed shelf bench listed x now_of s0 s1 b0 b1 result
+  anew_after_open is unchanged unstarted did = as_listed shelf bench listed x now_of s0 s1 b0 b1 result
       (after_open shelf bench s0 s1 b0 mid b1 result found same reads {began_so = Left} {started_so = Left} {CameSo = Came} did (λ whole left. tt)
       (λ whole left c at. sym (started_as (c marks_name)) ∙ unstarted whole (shelf.stored s0) is c at) resumable
       (λ ended whole came. subst (λ (d : Result (Option (List Bool)) MarkFault). ResumesBound listed.choice.now.jobs
@@ -333,11 +363,7 @@ module _ {S B : Type 0} (shelf : source.Ghosts S) (bench : output.Ghosts B) (lis
       (λ left. left) (λ left. left) (λ ended came. came)
 
   -- what stands of the marks that are found
-  pub stands : (n : ℕ) → found ≡ Some n
-      → HoldsOfDone (λ sources done. IsRunning (marks_of x sources) done (bench.may_leave mid))
-      → HoldsOfDone (λ sources done. AreFilled (jobs_over (plan_of x).jobs sources) ((plan_of x).whole sources) done
-      (bench.stored mid))
-      → IsTrue (bench.honest b0) → Left → StandsAsMarked x (shelf.stored s0) (bench.stored mid) (bench.may_leave mid)
+  stands : (n : ℕ) → found ≡ Some n → RunsMarked → IsFilledMarked → IsTrue (bench.honest b0) → Left → StandsAsMarked x (shelf.stored s0) (bench.stored mid) (bench.may_leave mid)
   stands n is running filled right left done agrees = (
     subst (λ (f : Option ℕ). IfSome f (λ _. IsRunning (marks_of x (shelf.stored s0)) done (bench.may_leave mid))) is
         (running right (shelf.stored s0) (was_left left) done agrees),
@@ -346,9 +372,7 @@ module _ {S B : Type 0} (shelf : source.Ghosts S) (bench : output.Ghosts B) (lis
         (filled right (shelf.stored s0) (was_left left) done agrees),
   )
 
-  pub cut_now : (n : ℕ) → found ≡ Some n
-      → IsCutAsFound
-      → IsTrue (bench.honest b0) → (marked : List Bool) × (due ≡ Ok (Some marked))
+  cut_now : (n : ℕ) → found ≡ Some n → IsCutAsFound → IsTrue (bench.honest b0) → (marked : List Bool) × (due ≡ Ok (Some marked))
       × AreCutBy listed.choice.now.jobs marked x.work
   cut_now n is cut right = subst (λ (r : RunId). (marked : List Bool) × (opened_of r (bench.stored b0) ≡ Ok (Some marked))
       × AreCutBy listed.choice.now.jobs marked x.work) of.run
@@ -357,7 +381,7 @@ module _ {S B : Type 0} (shelf : source.Ghosts S) (bench : output.Ghosts B) (lis
       (cut right))
 
   -- they stand at each moment
-  pub keeps_marks : ((b : B) → IsTrue (bench.honest b) → bench.may_leave b (bench.stored b)) → IsTrue (bench.honest b0)
+  keeps_marks : ((b : B) → IsTrue (bench.honest b) → bench.may_leave b (bench.stored b)) → IsTrue (bench.honest b0)
       → Left → (marks : List ℕ) → bench.stored b0 marks_name ≡ Some marks → is_started (Some marks) ≡ true
       → LeavesOnly bench.moment bench.left_since mid b1 (HoldsMarked (marks_of x (shelf.stored s0)) marks)
       → LeavesOnly bench.moment bench.left_since b0 b1 (HoldsMarked (marking_in listed (shelf.stored s0)) marks)
@@ -370,11 +394,7 @@ module _ {S B : Type 0} (shelf : source.Ghosts S) (bench : output.Ghosts B) (lis
       (reads_now b0 right) there started) same.moments) kept
 
   -- or with those that are marked
-  pub marked_after_open : (n : ℕ) → found ≡ Some n
-      → HoldsOfDone (λ sources done. IsRunning (marks_of x sources) done (bench.may_leave mid))
-      → HoldsOfDone (λ sources done. AreFilled (jobs_over (plan_of x).jobs sources) ((plan_of x).whole sources) done
-      (bench.stored mid))
-      → IsCutAsFound
+  marked_after_open : (n : ℕ) → found ≡ Some n → RunsMarked → IsFilledMarked → IsCutAsFound
       → GoesOnWithWork shelf bench x s0 s1 mid b1 result → GoesOnListed shelf bench listed s0 s1 b0 b1 result
   marked_after_open n is running filled cut did = as_listed shelf bench listed x now_of s0 s1 b0 b1 result
       (after_open shelf bench s0 s1 b0 mid b1 result found same reads {began_so = Left} {started_so = Left} {CameSo = Came} did
@@ -392,3 +412,42 @@ module _ {S B : Type 0} (shelf : source.Ghosts S) (bench : output.Ghosts B) (lis
         came = resumed_before shelf bench s0 s1 b0 mid b1 result found same reads x ended came;
       })))
       (λ left. left) (λ left. left) (λ ended came. came)
+
+  -- ---- whatever was found
+
+  pub gone_on : (found ≡ None → x ≡ was) → IsUnstartedAnew → RunsMarked → IsFilledMarked → IsCutAsFound
+      → WorksOn shelf bench x found s0 s1 mid b1 result → GoesOnListed shelf bench listed s0 s1 b0 b1 result
+  gone_on unchanged unstarted running filled cut = by_found found refl
+    where
+      by_found : (f : Option ℕ) → found ≡ f → WorksOn shelf bench x f s0 s1 mid b1 result
+          → GoesOnListed shelf bench listed s0 s1 b0 b1 result
+      by_found None is did = anew_after_open is unchanged unstarted did
+      by_found (Some n) is did = marked_after_open n is running filled cut did
+
+  pub kept : ((b : B) → IsTrue (bench.honest b) → bench.may_leave b (bench.stored b)) → RunsMarked → IsFilledMarked
+      → IfSome found (λ _. KeepsMarked shelf bench x s0 mid b1) → KeepsListed shelf bench listed s0 b0 b1
+  kept reads_now running filled keeps honest right left marks there started = by_found found refl keeps
+    where
+      by_found : (f : Option ℕ) → found ≡ f → IfSome f (λ _. KeepsMarked shelf bench x s0 mid b1)
+          → LeavesOnly bench.moment bench.left_since b0 b1 (HoldsMarked (marking_in listed (shelf.stored s0)) marks)
+      by_found None is keeps = absurd (started_found (run_in listed) (bench.stored b0) marks there started
+          (found_so bench listed was of b0 (Ok found) found_as right None (ap Ok is)))
+      by_found (Some n) is keeps = keeps_marks reads_now right left marks there started
+          (keeps honest (subst IsTrue (sym reads.honest_same) right) (stands n is running filled right left) marks
+          (ap (λ (f : Files). f marks_name) same.reads ∙ there))
+
+  -- what was clipped of the blocks that weren't marked
+  pub clipped : (found ≡ None → x ≡ was) → IsCutAsFound → (clips : Clips) → IsTrue (bench.honest b0)
+      → ((marks : List Bool) → All (IsUniform marks) x.work.stretches → ClipsUnmarked marks x.work.planned.range
+      (heard x.work.planned x.work.sounds (shelf.stored s0)) clips)
+      → ClipsUnmarked (clipping.marked_in due) (range_in listed) (mix_in listed (shelf.stored s0)) clips
+  clipped unchanged cut clips right counts = by_found found refl
+    where
+      by_found : (f : Option ℕ) → found ≡ f
+          → ClipsUnmarked (clipping.marked_in due) (range_in listed) (mix_in listed (shelf.stored s0)) clips
+      by_found None is = reopened_clips listed was x (shelf.stored s0) (bench.stored b0) [] clips renders back
+          (ap clipping.marked_in (found_so bench listed was of b0 (Ok found) found_as right None (ap Ok is)))
+          (counts [] (subst (λ (w : MarkedWork). All (IsUniform []) w.work.stretches) (sym (unchanged is))
+          (fresh_uniform was.work renders.fresh)))
+      by_found (Some n) is = let cuts = cut_now n is cut right in reopened_clips listed was x (shelf.stored s0)
+          (bench.stored b0) cuts.0 clips renders back (ap clipping.marked_in cuts.1) (counts cuts.0 cuts.2.uniform)

@@ -278,15 +278,26 @@ module _ {S B : Type 0} (shelf : source.Ghosts S) (bench : output.Ghosts B)
   abbrev old : Snapshot
   old = snapshot_of (plan_of run.work) run.board 0 (source_view shelf s0) (output_view bench b0)
 
+  abbrev HasExecuted : (ℕ → List BoardEvent) → JobPlan → Board → Type 0 → Result Progress ExecutionFault → Type 0
+  HasExecuted events plan board untouched ended = Executed (events (work_of run.work.work).count) old (hands_at run)
+      (snapshot_of plan board 0 (source_view shelf s1) (output_view bench b1)) untouched ended
+
+  abbrev HasResumed : JobPlan → Board → Result Progress ExecutionFault → Type 0
+  HasResumed plan board ended = Resumed (in_rounds (work_of run.work.work).count) old (hands_at run)
+      (snapshot_of plan board 0 (source_view shelf s1) (output_view bench b1)) ended
+
   abbrev Stands : Type 0
   Stands = StandsAsMarked run.work (shelf.stored s0) (bench.stored b0) (bench.may_leave b0)
 
+  -- the marks that stand are kept at each moment
+  abbrev KeepsMarks : MarkedWork → Type 0
+  KeepsMarks x = StandsAsMarked x (shelf.stored s0) (bench.stored b0) (bench.may_leave b0)
+      → (marks : List ℕ) → bench.stored b0 marks_name ≡ Some marks
+      → LeavesOnly bench.moment bench.left_since b0 b1 (HoldsMarked (marks_of x (shelf.stored s0)) marks)
+
   begins : (x : MarkedWork) → run.work ≡ x → IsPrepared run.work run → IsMarkedWork run.work → HasSoundJobs run.work
       → (events : ℕ → List BoardEvent) (plan : JobPlan) (board : Board) (untouched : Type 0)
-      (ended : Result Progress ExecutionFault)
-      → Executed (events (work_of run.work.work).count)
-      (snapshot_of (plan_of run.work) run.board 0 (source_view shelf s0) (output_view bench b0)) (hands_at run)
-      (snapshot_of plan board 0 (source_view shelf s1) (output_view bench b1)) untouched ended
+      (ended : Result Progress ExecutionFault) → HasExecuted events plan board untouched ended
       → BeginsWork shelf bench events x s0 s1 b0 b1 (answered ended)
   begins x same p is sound events plan board untouched ended call =
       subst (λ (y : MarkedWork). BeginsWork shelf bench events y s0 s1 b0 b1 (answered ended)) same
@@ -337,10 +348,7 @@ module _ {S B : Type 0} (shelf : source.Ghosts S) (bench : output.Ghosts B)
 
   pub begins_work : (x : MarkedWork) → IsPrepared x run → IsMarkedWork x → HasSoundJobs x
       → (events : ℕ → List BoardEvent) (plan : JobPlan) (board : Board) (untouched : Type 0)
-      (ended : Result Progress ExecutionFault)
-      → Executed (events (work_of run.work.work).count)
-      (snapshot_of (plan_of run.work) run.board 0 (source_view shelf s0) (output_view bench b0)) (hands_at run)
-      (snapshot_of plan board 0 (source_view shelf s1) (output_view bench b1)) untouched ended
+      (ended : Result Progress ExecutionFault) → HasExecuted events plan board untouched ended
       → BeginsWork shelf bench events x s0 s1 b0 b1 (answered ended)
   begins_work x p is sound = begins x p.work (subst (λ (y : MarkedWork). IsPrepared y run) (sym p.work) p)
       (subst IsMarkedWork (sym p.work) is) (subst HasSoundJobs (sym p.work) sound)
@@ -348,10 +356,7 @@ module _ {S B : Type 0} (shelf : source.Ghosts S) (bench : output.Ghosts B)
   -- ---- or with blocks that are marked
 
   goes_on : (x : MarkedWork) → run.work ≡ x → IsTakenUp run.work run → IsMarkedWork run.work → HasSoundJobs run.work
-      → (plan : JobPlan) (board : Board) (ended : Result Progress ExecutionFault)
-      → Resumed (in_rounds (work_of run.work.work).count)
-      (snapshot_of (plan_of run.work) run.board 0 (source_view shelf s0) (output_view bench b0)) (hands_at run)
-      (snapshot_of plan board 0 (source_view shelf s1) (output_view bench b1)) ended
+      → (plan : JobPlan) (board : Board) (ended : Result Progress ExecutionFault) → HasResumed plan board ended
       → GoesOnWithWork shelf bench x s0 s1 b0 b1 (answered ended)
   goes_on x same p is sound plan board ended call =
       subst (λ (y : MarkedWork). GoesOnWithWork shelf bench y s0 s1 b0 b1 (answered ended)) same
@@ -401,28 +406,17 @@ module _ {S B : Type 0} (shelf : source.Ghosts S) (bench : output.Ghosts B)
   taken x p = subst (λ (y : MarkedWork). IsTakenUp y run) (sym p.work) p
 
   pub goes_on_work : (x : MarkedWork) → IsTakenUp x run → IsMarkedWork x → HasSoundJobs x
-      → (plan : JobPlan) (board : Board) (ended : Result Progress ExecutionFault)
-      → Resumed (in_rounds (work_of run.work.work).count)
-      (snapshot_of (plan_of run.work) run.board 0 (source_view shelf s0) (output_view bench b0)) (hands_at run)
-      (snapshot_of plan board 0 (source_view shelf s1) (output_view bench b1)) ended
+      → (plan : JobPlan) (board : Board) (ended : Result Progress ExecutionFault) → HasResumed plan board ended
       → GoesOnWithWork shelf bench x s0 s1 b0 b1 (answered ended)
   goes_on_work x p is sound = goes_on x p.work (taken x p) (subst IsMarkedWork (sym p.work) is)
       (subst HasSoundJobs (sym p.work) sound)
 
   -- what was marked stands at each moment
   keeps_blocks : (x : MarkedWork) → run.work ≡ x → IsTakenUp run.work run → IsMarkedWork run.work
-      → (plan : JobPlan) (board : Board) (ended : Result Progress ExecutionFault)
-      → Resumed (in_rounds (work_of run.work.work).count)
-      (snapshot_of (plan_of run.work) run.board 0 (source_view shelf s0) (output_view bench b0)) (hands_at run)
-      (snapshot_of plan board 0 (source_view shelf s1) (output_view bench b1)) ended
-      → IsTrue (shelf.honest s0) → IsTrue (bench.honest b0)
-      → StandsAsMarked x (shelf.stored s0) (bench.stored b0) (bench.may_leave b0)
-      → (marks : List ℕ) → bench.stored b0 marks_name ≡ Some marks
-      → LeavesOnly bench.moment bench.left_since b0 b1 (HoldsMarked (marks_of x (shelf.stored s0)) marks)
+      → (plan : JobPlan) (board : Board) (ended : Result Progress ExecutionFault) → HasResumed plan board ended
+      → IsTrue (shelf.honest s0) → IsTrue (bench.honest b0) → KeepsMarks x
   keeps_blocks x same p is plan board ended call honest whole =
-      subst (λ (y : MarkedWork). StandsAsMarked y (shelf.stored s0) (bench.stored b0) (bench.may_leave b0)
-      → (marks : List ℕ) → bench.stored b0 marks_name ≡ Some marks
-      → LeavesOnly bench.moment bench.left_since b0 b1 (HoldsMarked (marks_of y (shelf.stored s0)) marks)) same
+      subst KeepsMarks same
       (λ st marks there. let running = (st (done_of run.board) (taken_agrees run.work p)).0 in
       let h = call.moments honest whole (record { idle = p.idle; running = running }) in
       let holds : (c : Files)
@@ -436,14 +430,8 @@ module _ {S B : Type 0} (shelf : source.Ghosts S) (bench : output.Ghosts B)
       })
 
   pub keeps_work : (x : MarkedWork) → IsTakenUp x run → IsMarkedWork x
-      → (plan : JobPlan) (board : Board) (ended : Result Progress ExecutionFault)
-      → Resumed (in_rounds (work_of run.work.work).count)
-      (snapshot_of (plan_of run.work) run.board 0 (source_view shelf s0) (output_view bench b0)) (hands_at run)
-      (snapshot_of plan board 0 (source_view shelf s1) (output_view bench b1)) ended
-      → IsTrue (shelf.honest s0) → IsTrue (bench.honest b0)
-      → StandsAsMarked x (shelf.stored s0) (bench.stored b0) (bench.may_leave b0)
-      → (marks : List ℕ) → bench.stored b0 marks_name ≡ Some marks
-      → LeavesOnly bench.moment bench.left_since b0 b1 (HoldsMarked (marks_of x (shelf.stored s0)) marks)
+      → (plan : JobPlan) (board : Board) (ended : Result Progress ExecutionFault) → HasResumed plan board ended
+      → IsTrue (shelf.honest s0) → IsTrue (bench.honest b0) → KeepsMarks x
   keeps_work x p is = keeps_blocks x p.work (taken x p) (subst IsMarkedWork (sym p.work) is)
 
 -- ---- or not begun at all

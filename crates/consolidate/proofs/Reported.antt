@@ -39,14 +39,17 @@ empty_alike selection p project n next result same next_same empty =
     (subst (λ (q : ListProject). IsErrOf result sums.EmptyRange
     ↔ ((compared_in selection p.events q.events).to ≤ (compared_in selection p.events q.events).from)) next_same empty)
 
--- where two projects were compared there was something to compare
+-- where an empty range isn't told there was something to compare
+some_sums : (extent : Extent) (result : Result Comparison of_sums.CompareFault) → ¬ IsErrOf result sums.EmptyRange
+    → IsErrOf result sums.EmptyRange ↔ (extent.to ≤ extent.from) → extent.from < extent.to
+some_sums extent result told empty =
+    let some : ¬ (extent.to ≤ extent.from) = λ below. told (empty.1 below) in omega (arith, some)
+
 pub some_compared : (extent : Extent) (comparison : Comparison)
     → IsErrOf {E = of_sums.CompareFault} (Ok comparison) sums.EmptyRange ↔ (extent.to ≤ extent.from)
     → extent.from < extent.to
-some_compared extent comparison empty =
-    let some : ¬ (extent.to ≤ extent.from) =
-    λ below. let wrong : IsErrOf {E = of_sums.CompareFault} (Ok comparison) sums.EmptyRange = empty.1 below in cc in
-    omega (arith, some)
+some_compared extent comparison = some_sums extent (Ok comparison)
+    (λ wrong. let none : IsErrOf {E = of_sums.CompareFault} (Ok comparison) sums.EmptyRange = wrong in cc)
 
 -- ---- of one list
 
@@ -94,6 +97,11 @@ holds_there sounds failed (side.Source file) _ is fails = absurd is
 -- ---- of two
 
 module _ (sounds others : List SoundFacts) where
+  -- this holds of each fault of the sums and of the one that it is reported as
+  abbrev OfEach : (of_sums.CompareFault → CompareFault → Type 0) → Type 0
+  OfEach P = (fault : of_sums.CompareFault) (reported : CompareFault) → IsReportedOfTwo sounds others fault reported
+      → P fault reported
+
   pub answers_first : (due : Option Refusal) → due ≡ None → (fault : of_sums.CompareFault) (reported : CompareFault)
       → IsReportedOfTwo sounds others fault reported → AnswersFirst {X = Compared} due (Err reported)
   answers_first due none sums.EmptyRange reported is =
@@ -120,14 +128,10 @@ module _ (sounds others : List SoundFacts) where
       → AnswersRange {X = Compared} extent (Err reported)
   answers_range extent sums.EmptyRange reported is empty =
       subst (λ (r : CompareFault). AnswersRange {X = Compared} extent (Err r)) (sym is) (empty.0 refl)
-  answers_range extent (sums.First fault) (First reported) is empty = λ of.
-      let some : ¬ (extent.to ≤ extent.from) =
-      λ below. let wrong : IsErrOf {T = Comparison} (Err (sums.First fault)) sums.EmptyRange = empty.1 below in cc in
-      omega (arith, some)
-  answers_range extent (sums.Second fault) (Second reported) is empty = λ of.
-      let some : ¬ (extent.to ≤ extent.from) =
-      λ below. let wrong : IsErrOf {T = Comparison} (Err (sums.Second fault)) sums.EmptyRange = empty.1 below in cc in
-      omega (arith, some)
+  answers_range extent (sums.First fault) (First reported) is empty = λ of. some_sums extent (Err (sums.First fault))
+      (λ wrong. let none : IsErrOf {T = Comparison} (Err (sums.First fault)) sums.EmptyRange = wrong in cc) empty
+  answers_range extent (sums.Second fault) (Second reported) is empty = λ of. some_sums extent (Err (sums.Second fault))
+      (λ wrong. let none : IsErrOf {T = Comparison} (Err (sums.Second fault)) sums.EmptyRange = wrong in cc) empty
   answers_range extent _ _ is empty = absurd is
 
   -- a predicate of all faults of sums of the first list, or of the second one
@@ -147,21 +151,36 @@ module _ (sounds others : List SoundFacts) where
   for_second P each (sums.Second fault) (Second reported) is = each reported (of_sums_only others fault reported is)
   for_second P each _ _ is = absurd is
 
-  pub first_own : (text : List ℕ) (fault : of_sums.CompareFault) (reported : CompareFault)
-      → IsReportedOfTwo sounds others fault reported → ForFirst (IsOwn text) reported
+  pub first_own : (text : List ℕ) → OfEach (λ _. ForFirst (IsOwn text))
   first_own text = for_first (IsOwn text) (own_of_sums text)
 
-  pub second_own : (text : List ℕ) (fault : of_sums.CompareFault) (reported : CompareFault)
-      → IsReportedOfTwo sounds others fault reported → ForSecond (IsOwn text) reported
+  pub second_own : (text : List ℕ) → OfEach (λ _. ForSecond (IsOwn text))
   second_own text = for_second (IsOwn text) (own_of_sums text)
 
-  pub first_in_turn : (text : List ℕ) (files : Files) (fault : of_sums.CompareFault) (reported : CompareFault)
-      → IsReportedOfTwo sounds others fault reported → ForFirst (IsFirst text files) reported
+  pub first_in_turn : (text : List ℕ) (files : Files) → OfEach (λ _. ForFirst (IsFirst text files))
   first_in_turn text files = for_first (IsFirst text files) (first_of_sums text files)
 
-  pub second_in_turn : (text : List ℕ) (files : Files) (fault : of_sums.CompareFault) (reported : CompareFault)
-      → IsReportedOfTwo sounds others fault reported → ForSecond (IsFirst text files) reported
+  pub second_in_turn : (text : List ℕ) (files : Files) → OfEach (λ _. ForSecond (IsFirst text files))
   second_in_turn text files = for_second (IsFirst text files) (first_of_sums text files)
+
+  -- a fault of the first list is reported as one of it, and only such a one is; likewise of the second
+  to_first : (P : SideFault → Type 0) (Q : ListFault → Type 0)
+      → ((fault : SideFault) (reported : ListFault) → IsReportedAs sounds fault reported → P fault → Q reported)
+      → (fault : of_sums.CompareFault) (reported : CompareFault) → IsReportedOfTwo sounds others fault reported
+      → comparison.OfFirst P fault → OfFirst Q reported
+  to_first P Q each sums.EmptyRange reported is p = absurd p
+  to_first P Q each (sums.First fault) (First reported) is p = each fault reported is p
+  to_first P Q each (sums.Second fault) (Second reported) is p = absurd p
+  to_first P Q each _ _ is p = absurd is
+
+  to_second : (P : SideFault → Type 0) (Q : ListFault → Type 0)
+      → ((fault : SideFault) (reported : ListFault) → IsReportedAs others fault reported → P fault → Q reported)
+      → (fault : of_sums.CompareFault) (reported : CompareFault) → IsReportedOfTwo sounds others fault reported
+      → comparison.OfSecond P fault → OfSecond Q reported
+  to_second P Q each sums.EmptyRange reported is p = absurd p
+  to_second P Q each (sums.Second fault) (Second reported) is p = each fault reported is p
+  to_second P Q each (sums.First fault) (First reported) is p = absurd p
+  to_second P Q each _ _ is p = absurd is
 
   pub was_first : (fault : of_sums.CompareFault) (reported : CompareFault)
       → IsReportedOfTwo sounds others fault reported → OfFirst IsDevice reported
@@ -172,22 +191,6 @@ module _ (sounds others : List SoundFacts) where
   was_first (sums.Second fault) (Second reported) is device = absurd device
   was_first _ _ is device = absurd is
 
-  pub is_first : (fault : of_sums.CompareFault) (reported : CompareFault) → IsReportedOfTwo sounds others fault reported
-      → comparison.OfFirst comparison.IsSource fault → OfFirst IsDevice reported
-  is_first sums.EmptyRange reported is source = absurd source
-  is_first (sums.First fault) (First reported) is source = is_device sounds fault reported is source
-  is_first (sums.Second fault) (Second reported) is source = absurd source
-  is_first _ _ is source = absurd is
-
-  pub holds_first : (failed : List ℕ → Type 0) (fault : of_sums.CompareFault) (reported : CompareFault)
-      → IsReportedOfTwo sounds others fault reported
-      → comparison.OfFirst (λ of. comparison.FailsAt sounds of failed) fault
-      → OfFirst (λ of. HoldsOfDevice of failed) reported
-  holds_first failed sums.EmptyRange reported is fails = absurd fails
-  holds_first failed (sums.First fault) (First reported) is fails = holds_there sounds failed fault reported is fails
-  holds_first failed (sums.Second fault) (Second reported) is fails = absurd fails
-  holds_first failed _ _ is fails = absurd is
-
   pub was_second : (fault : of_sums.CompareFault) (reported : CompareFault)
       → IsReportedOfTwo sounds others fault reported → OfSecond IsDevice reported
       → comparison.OfSecond comparison.IsSource fault
@@ -197,19 +200,20 @@ module _ (sounds others : List SoundFacts) where
   was_second (sums.First fault) (First reported) is device = absurd device
   was_second _ _ is device = absurd is
 
-  pub is_second : (fault : of_sums.CompareFault) (reported : CompareFault)
-      → IsReportedOfTwo sounds others fault reported → comparison.OfSecond comparison.IsSource fault
-      → OfSecond IsDevice reported
-  is_second sums.EmptyRange reported is source = absurd source
-  is_second (sums.Second fault) (Second reported) is source = is_device others fault reported is source
-  is_second (sums.First fault) (First reported) is source = absurd source
-  is_second _ _ is source = absurd is
+  pub is_first : OfEach (λ fault reported. comparison.OfFirst comparison.IsSource fault → OfFirst IsDevice reported)
+  is_first = to_first comparison.IsSource IsDevice (is_device sounds)
 
-  pub holds_second : (failed : List ℕ → Type 0) (fault : of_sums.CompareFault) (reported : CompareFault)
-      → IsReportedOfTwo sounds others fault reported
-      → comparison.OfSecond (λ of. comparison.FailsAt others of failed) fault
-      → OfSecond (λ of. HoldsOfDevice of failed) reported
-  holds_second failed sums.EmptyRange reported is fails = absurd fails
-  holds_second failed (sums.Second fault) (Second reported) is fails = holds_there others failed fault reported is fails
-  holds_second failed (sums.First fault) (First reported) is fails = absurd fails
-  holds_second failed _ _ is fails = absurd is
+  pub is_second : OfEach (λ fault reported. comparison.OfSecond comparison.IsSource fault → OfSecond IsDevice reported)
+  is_second = to_second comparison.IsSource IsDevice (is_device others)
+
+  pub holds_first : (failed : List ℕ → Type 0) → OfEach (λ fault reported.
+      comparison.OfFirst (λ of. comparison.FailsAt sounds of failed) fault
+      → OfFirst (λ of. HoldsOfDevice of failed) reported)
+  holds_first failed = to_first (λ of. comparison.FailsAt sounds of failed) (λ of. HoldsOfDevice of failed)
+      (holds_there sounds failed)
+
+  pub holds_second : (failed : List ℕ → Type 0) → OfEach (λ fault reported.
+      comparison.OfSecond (λ of. comparison.FailsAt others of failed) fault
+      → OfSecond (λ of. HoldsOfDevice of failed) reported)
+  holds_second failed = to_second (λ of. comparison.FailsAt others of failed) (λ of. HoldsOfDevice of failed)
+      (holds_there others failed)

@@ -1,6 +1,6 @@
 -- Going on with the marks that are found.
 use Rattle.std.proofs.Common.{◌≡◌, ◌∙◌, ◌≤◌, ℕ, Bool, true, false, cond, Option, None, Some, Result, Ok, Err, List, ap, arith, refl, subst, sym, take}
-use Rattle.std.specs.Prelude.{IfSome, option_map, length}
+use Rattle.std.specs.Prelude.{IfSome, option_map, length, unwrap_or}
 use Rattle.sound_terms.specs.Render.{rendering_of}
 use Rattle.sound_terms.specs.Sounds.{SoundFacts}
 use Rattle.renderplan.specs.Planned.{Planned}
@@ -117,12 +117,11 @@ pub found_due : (found : Option ℕ) (due : Result (Option (List Bool)) MarkFaul
 found_due None due is = ap fault_in is
 found_due (Some count) due is = ap fault_in is.1
 
-pub none_counted : (due : Result (Option (List Bool)) MarkFault) → IsFoundAs (Ok None) due → 0 ≡ count_in due
-none_counted due is = sym (ap count_in is)
-
-pub some_counted : (count : ℕ) (due : Result (Option (List Bool)) MarkFault) → IsFoundAs (Ok (Some count)) due
-    → count ≡ count_in due
-some_counted count due is = is.2 ∙ sym (ap count_in is.1)
+-- so many as are counted
+pub counted : (found : Option ℕ) (due : Result (Option (List Bool)) MarkFault) → IsFoundAs (Ok found) due
+    → unwrap_or found 0 ≡ count_in due
+counted None due is = sym (ap count_in is)
+counted (Some count) due is = is.2 ∙ sym (ap count_in is.1)
 
 -- ---- which refusal is due
 

@@ -9,7 +9,7 @@ use Rattle.job_terms.specs.declared.BoardEvent.{BoardEvent}
 use Rattle.execution.specs.declared.fault.ExecutionFault.{ExecutionFault}
 use Rattle.job_terms.specs.declared.Progress.{Progress}
 use Rattle.work_terms.specs.Disk.{Files, HasCause, IsUntouched, LeavesOnly, Rises}
-use Rattle.work_terms.specs.Refusals.{Answers, IsDue, Refusal}
+use Rattle.work_terms.specs.Refusals.{Answers, IsDue, Refusal, turn_of}
 use Rattle.list_terms.specs.declared.Notice.{Notice}
 use Rattle.list_terms.specs.Project.{ListProject}
 use Rattle.list_terms.specs.Binding.{Binding}
@@ -21,6 +21,7 @@ use Rattle.passes.specs.Left.{Leaving}
 use Rattle.opening.specs.Commands as opening
 use Rattle.opening.specs.Faults as opening_faults
 use Rattle.opening.specs.declared.checking.Accepted.{Accepted}
+use Rattle.opening.specs.declared.checking.Opened.{Opened}
 use Rattle.markfile.specs.Format.{marks_name}
 use Rattle.markfile.specs.Started.{NoneStarted}
 use Rattle.rendering.specs.Marked.{IsOther}
@@ -80,14 +81,38 @@ WritesOutputs bench stays old new result = OnlyWrites bench stays old new result
 abbrev pub all_notices : ListProject → Binding → List Notice
 all_notices project binding = project.notices ++ binding.notices
 
+-- What opening a list answers: the project that its text spells, which is accepted over the files, and all its notices;
+-- or the first fault, which comes before anything is written. The sources are only read.
+pub record OpensList {S : Type 0} (shelf : source.Ghosts S) (list : List ℕ) (old new : S) (result : Result Opened Fault)
+    : Type 0 where
+  pub accepted : IsTrue (shelf.honest old)
+      → IfOk result (λ opened. IsAccepted list (shelf.stored old) opened.checked.project opened.checked.bound)
+  pub spelt : IfOk result (λ opened. text_value list ≡ Ok opened.checked.project)
+  pub spelled : IfOk result (λ opened. Spells list opened.checked.project)
+  pub notices : IfOk result
+      (λ opened. opened.notices.items ≡ all_notices opened.checked.project opened.checked.bound)
+  pub refusals : IsTrue (shelf.honest old) → Answers refusal_of result (project_fault list (shelf.stored old))
+  pub bad_text : RefusesBadText list result
+  pub own : IfErr result (IsOfProject list)
+  pub early : IfErr result (λ fault. (refusal_of fault).late ≡ false)
+  pub in_turn : IsTrue (shelf.honest old) → IfErr result (IsFirst list (shelf.stored old))
+  pub turn : IfErr result (λ fault. turn_of (refusal_of fault) ≤ 3)
+  pub no_output : IfErr result (λ fault. ¬ IsOutput fault)
+  pub only_reads : ReadsSources shelf old new result
+
 -- The list is accepted, and its rendering is there: that of the exact sums, rounded and clipped, and it reads back so.
-pub record IsRendered (text : List ℕ) (values : OptionValues) (sources written : Files) (told : Rendered) : Type 0 where
+-- All its notices are given.
+pub record IsRenderedWith (text : List ℕ) (values : OptionValues) (sources written : Files) (given : List Notice)
+    : Type 0 where
   pub project : ListProject
   pub binding : Binding
   pub spelled : Spells text project
   pub accepted : IsAccepted text sources project binding
   pub file : rendering.IsRendered project binding values sources (written (codes "render.wav"))
-  pub notices : told.notices.items ≡ all_notices project binding
+  pub notices : given ≡ all_notices project binding
+
+abbrev pub IsRendered : List ℕ → OptionValues → Files → Files → Rendered → Type 0
+IsRendered text values sources written told = IsRenderedWith text values sources written told.notices.items
 
 -- so many frames and channels are those of the list's range
 pub record Reports (text : List ℕ) (values : OptionValues) (told : Rendered) : Type 0 where

@@ -18,7 +18,7 @@ use Rattle.rendering.specs.Marked.{HoldsMarked, IsLeftByRun, MarkedWork, run_of}
 use Rattle.rendering.specs.Planned.{IsRenderingOf}
 use Rattle.rendering.specs.Rendering.{render_fault, values_of}
 use Rattle.rendering.specs.Work.{RenderWork}
-use Rattle.sound_terms.specs.Render.{Range, ReadsBack, rendering_of}
+use Rattle.sound_terms.specs.Render.{Range}
 use Rattle.work_terms.specs.Disk.{Files, LeavesOnly}
 use Rattle.work_terms.specs.Refusals.{Refusal}
 use Rattle.consolidate.specs.Marks.{IsMarkedFor, list_marking}
@@ -94,10 +94,6 @@ module _ {S B : Type 0} (shelf : source.Ghosts S) (bench : output.Ghosts B) wher
       → IsLeftListed listed sources bench_old → (marks : List ℕ) → bench.stored bench_old marks_name ≡ Some marks
       → is_started (Some marks) ≡ true → LeavesOnly bench.moment bench.left_since bench_old bench_new
       (HoldsMarked (marking_in listed (shelf.stored sources)) marks)
-
--- its rendering reads back, whatever its sums are
-abbrev pub ReadsBackListed : Listed → Type 0
-ReadsBackListed listed = (mix : ℕ → ℕ → ℤ) → ReadsBack (range_in listed) mix (rendering_of (range_in listed) mix)
 
 -- the plan is that of it, and its marks are its own
 abbrev pub IsMarkedIn : Listed → MarkedWork → Type 0

@@ -1,5 +1,5 @@
 -- What the calls inside `render`, `resume` and the schedule of a rendering leave.
-use Rattle.std.specs.Prelude.{◌≡◌, ◌<◌, ℕ, ⊤, Bool, false, IsTrue, IfOk, Some, List, Result, length, slice_index_or}
+use Rattle.std.specs.Prelude.{◌≡◌, ◌<◌, ℕ, ⊤, Bool, false, IsTrue, IfOk, Option, None, Some, List, Result, length, slice_index_or}
 use Rattle.std.specs.List.{All}
 use Rattle.clipping.specs.declared.tally.Clips.{Clips}
 use Rattle.devices.specs.declared.source.Shelf as source
@@ -13,6 +13,7 @@ use Rattle.execution.specs.View.{ExecutionView, hands_at}
 use Rattle.execution.specs.declared.fault.ExecutionFault.{ExecutionFault}
 use Rattle.job_terms.specs.Workers.{Nothing, jobs_over}
 use Rattle.job_terms.specs.declared.BoardEvent.{BoardEvent}
+use Rattle.list_terms.specs.Steps.{ok_map}
 use Rattle.job_terms.specs.declared.Progress.{Progress}
 use Rattle.markfile.specs.Format.{marks_name}
 use Rattle.markfile.specs.Started.{NoneStarted}
@@ -27,8 +28,9 @@ use Rattle.work_terms.specs.Disk.{Files, LeavesOnly}
 use Rattle.consolidate.specs.Commands.{KeepsStores}
 use Rattle.consolidate.specs.Marks.{AreBothDurable}
 use Rattle.consolidate.specs.Outcomes.{AnswersAs, HasBegun, IsAllDone}
-use Rattle.consolidate.specs.RenderOutcome.{IsRenderedWork, IsResumedWork, rendering_fault}
+use Rattle.consolidate.specs.RenderOutcome.{IsRenderedWork, IsResumedWork, in_rounds, rendering_fault}
 use Rattle.consolidate.specs.declared.fault.Fault.{Fault}
+use Rattle.consolidate.specs.declared.marked.Worked.{Worked}
 use Rattle.consolidate.specs.declared.fault.Fault.TheVariants as fault
 
 -- no memory was found before the first write
@@ -113,6 +115,13 @@ module _ {S B : Type 0} (shelf : source.Ghosts S) (bench : output.Ghosts B) wher
       (output_view bench bench_old) (output_view bench bench_new))
       shelf_old shelf_new bench_old bench_new result
 
+  -- from one that is marked where so many blocks were found, and else from its beginning
+  abbrev pub WorksOn : MarkedWork → Option ℕ → S → S → B → B → Result Progress Fault → Type 0
+  WorksOn marked None shelf_old shelf_new bench_old bench_new result =
+      BeginsWork in_rounds marked shelf_old shelf_new bench_old bench_new result
+  WorksOn marked (Some found) shelf_old shelf_new bench_old bench_new result =
+      GoesOnWithWork marked shelf_old shelf_new bench_old bench_new result
+
   -- at each moment the blocks stand that were marked
   abbrev pub KeepsMarked : MarkedWork → S → B → B → Type 0
   KeepsMarked marked sources bench_old bench_new = IsTrue (shelf.honest sources) → IsTrue (bench.honest bench_old)
@@ -126,3 +135,10 @@ abbrev pub ClipsWork : {S : Type 0} → source.Ghosts S → MarkedWork → S →
 ClipsWork shelf marked sources clips = IsTrue (shelf.honest sources) → (marks : List Bool)
     → All (IsUniform marks) marked.work.stretches → ClipsUnmarked marks marked.work.planned.range
     (heard marked.work.planned marked.work.sounds (shelf.stored sources)) clips
+
+-- A work was done so, and where that is told, to its end: no job is left, and this was clipped.
+pub record WorksOff {S : Type 0} (shelf : source.Ghosts S) (marked : MarkedWork) (sources : S)
+    (Does : Result Progress Fault → Type 0) (result : Result Worked Fault) : Type 0 where
+  pub does : Does (ok_map (λ worked. worked.progress) result)
+  pub finished : IfOk result (λ worked. IsAllDone worked.progress)
+  pub clips : IfOk result (λ worked. ClipsWork shelf marked sources worked.clips)

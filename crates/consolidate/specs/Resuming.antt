@@ -1,37 +1,28 @@
 -- What going on with a rendering answers, and what it leaves.
-use Rattle.std.specs.Prelude.{◌≡◌, ◌-◌, ℕ, ⊤, true, IsTrue, Option, Some, List, Result, Ok, IfOk, codes}
+use Rattle.std.specs.Prelude.{◌≡◌, ◌-◌, ℕ, ⊤, true, IsTrue, Option, Some, List, Result, Ok, IfOk}
 use Rattle.devices.specs.declared.source.Shelf as source
 use Rattle.devices.specs.declared.bench.Bench as output
 use Rattle.devices.specs.Views.{output_view, source_view}
 use Rattle.work_terms.specs.Disk.{Files, LeavesOnly}
 use Rattle.work_terms.specs.Refusals.{Refusal}
 use Rattle.list_terms.specs.Accepted.{OptionValues, first_fault, range_of}
-use Rattle.list_terms.specs.Binding.{Binding}
-use Rattle.list_terms.specs.Heard.{IsAccepted}
 use Rattle.list_terms.specs.Project.{ListProject}
 use Rattle.list_terms.specs.Text.{text_value}
-use Rattle.adlread.specs.Spells.{Spells}
 use Rattle.markfile.specs.Format.{marks_name}
 use Rattle.markfile.specs.Opened.{opened_of}
 use Rattle.markfile.specs.Started.{is_started}
 use Rattle.rendering.specs.Marked.{run_of}
-use Rattle.rendering.specs.Rendering as rendering
 use Rattle.rendering.specs.declared.cutting.JobLength.{JobLength}
-use Rattle.consolidate.specs.Commands.{IsAnswer, all_notices, render_refusal}
+use Rattle.consolidate.specs.Commands.{IsAnswer, IsRenderedWith, render_refusal}
 use Rattle.consolidate.specs.Marks.{HoldsMarked, IsLeftByRendering, count_in, marks_refusal}
 use Rattle.consolidate.specs.Own.{IsOfResuming}
 use Rattle.consolidate.specs.RenderOutcome.{ResumesList}
 use Rattle.consolidate.specs.declared.fault.Fault.{Fault}
 use Rattle.consolidate.specs.declared.resumed.Resumed.{Resumed}
 
--- The list is accepted, and its rendering is there: that of the exact sums, rounded and clipped, and it reads back so.
-pub record IsResumed (text : List ℕ) (values : OptionValues) (sources written : Files) (told : Resumed) : Type 0 where
-  pub project : ListProject
-  pub binding : Binding
-  pub spelled : Spells text project
-  pub accepted : IsAccepted text sources project binding
-  pub file : rendering.IsRendered project binding values sources (written (codes "render.wav"))
-  pub notices : told.notices.items ≡ all_notices project binding
+-- the list is accepted, and its rendering is there as `render` leaves it
+abbrev pub IsResumed : List ℕ → OptionValues → Files → Files → Resumed → Type 0
+IsResumed text values sources written told = IsRenderedWith text values sources written told.notices.items
 
 -- the first fault of going on with a rendering: of rendering it, and then of the marks that are there
 abbrev pub resume_refusal : List ℕ → OptionValues → Files → Files → Option Refusal

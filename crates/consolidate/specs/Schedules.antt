@@ -26,6 +26,13 @@ use Rattle.consolidate.specs.RenderOutcome.{RendersList}
 use Rattle.consolidate.specs.declared.fault.Fault.{Fault}
 use Rattle.consolidate.specs.declared.fault.Fault.TheVariants as fault
 use Rattle.consolidate.specs.declared.fault.OutputFile.TheVariants as file
+use Rattle.consolidate.specs.declared.schedules.Work.{Work}
+use Rattle.consolidate.specs.declared.schedules.Work.TheVariants as work
+
+-- what is made of a list has 1 to 64 channels, where their number is chosen
+abbrev pub WorkHasChannels : {X : Type 0} {P : X → Type 0} → Work X P → Type 0
+WorkHasChannels (work.Consolidate list handle passes order) = ⊤
+WorkHasChannels (work.Render list options) = rendering.HaveChannels options
 
 -- The list is accepted, and its rendering is there: that of the exact sums, rounded and clipped, and it reads back so.
 pub record HasRendering (text : List ℕ) (values : OptionValues) (sources written : Files) : Type 0 where

@@ -15,6 +15,7 @@ use Rattle.sound_terms.specs.declared.Depth.{Depth}
 use Rattle.consolidate.specs.Clipping.{ClipsList}
 use Rattle.consolidate.specs.Commands.{HoldsOfOutput, IsRendering}
 use Rattle.consolidate.specs.Resuming.{IsResuming}
+use Rattle.consolidate.specs.declared.choice.Clipping as clipped
 use Rattle.consolidate.specs.declared.choice.RenderReport.{RenderReport}
 use Rattle.consolidate.specs.declared.fault.Fault.{Fault}
 use Rattle.consolidate.specs.declared.fault.Fault.TheVariants as fault
@@ -32,33 +33,28 @@ pub record SoundReport : Type 0 where
 abbrev pub asked_of : RenderReport → SoundReport
 asked_of report = record { program = report.program.now; version = report.version.now }
 
--- what is reported of a list that was rendered to this depth
-abbrev pub rendered_facts : SoundReport → (list : List ℕ) → Depth → RenderedSound → Facts
-rendered_facts asked list depth made = record {
+-- what is reported of a list that was rendered to this depth: so many frames, this was clipped, and so many blocks were
+-- marked before, where it was gone on with
+abbrev pub sound_facts : SoundReport → (list : List ℕ) → Depth → (frames : ℕ) → clipped.Clipping → (marked : Option ℕ)
+    → Facts
+sound_facts asked list depth frames clipping marked = record {
   program = asked.program;
   version = asked.version;
   list = list;
   depth = depth;
-  start = made.clipping.start;
-  frames = made.rendered.frames;
-  channels = made.clipping.channels;
-  clips = made.clipping.clips;
-  marked = None;
+  start = clipping.start;
+  frames = frames;
+  channels = clipping.channels;
+  clips = clipping.clips;
+  marked = marked;
 }
 
--- and of one whose rendering was gone on with
+abbrev pub rendered_facts : SoundReport → (list : List ℕ) → Depth → RenderedSound → Facts
+rendered_facts asked list depth made = sound_facts asked list depth made.rendered.frames made.clipping None
+
 abbrev pub resumed_facts : SoundReport → (list : List ℕ) → Depth → ResumedSound → Facts
-resumed_facts asked list depth made = record {
-  program = asked.program;
-  version = asked.version;
-  list = list;
-  depth = depth;
-  start = made.clipping.start;
-  frames = made.resumed.frames;
-  channels = made.clipping.channels;
-  clips = made.clipping.clips;
-  marked = Some made.resumed.marked;
-}
+resumed_facts asked list depth made =
+    sound_facts asked list depth made.resumed.frames made.clipping (Some made.resumed.marked)
 
 -- 62, at the rendered file, which is read again, or at the report
 abbrev pub IsOfReport : Fault → Type 0

@@ -165,13 +165,10 @@ fn consolidate_reported<S: Shelf, B: Bench, W: Watch>(
     bench: &mut B,
     watch: &mut W,
 ) -> Result<Written, Fault>
-    ensures consolidated { IsConsolidation S.Shelf B.Bench
+    ensures { IsConsolidation S.Shelf B.Bench
         (left_by (λ pass. looking pass) (λ pass. gives pass) reported.entry.keeping.passes.items)
         list.now reported.entry.keeping.handle (option_map asked_of reported.entry.report)
         shelf.old shelf.new bench.old bench.new result }
-    ensures standard { AreStandard (λ pass. looking pass) (λ pass. gives pass) reported.entry.keeping.passes.items
-        → IsConsolidation S.Shelf B.Bench standard_groups list.now reported.entry.keeping.handle
-        (option_map asked_of reported.entry.report) shelf.old shelf.new bench.old bench.new result }
 {
     let Opened { checked, notices } = open(alloc, list, shelf)?;
     let written = consolidate_checked(alloc, checked, reported, shelf, bench, watch)?;

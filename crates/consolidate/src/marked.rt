@@ -1,11 +1,9 @@
 // The jobs of a rendering whose blocks are marked.
-ghost use Rattle.std.specs.Prelude.{IfErr, IfOk};
-ghost use Rattle.list_terms.specs.Steps.{ok_map};
+ghost use Rattle.std.specs.Prelude.{IfErr, IfOk, IfSome};
 ghost use Rattle.consolidate.specs.Fault.{IsAlwaysDue};
-ghost use Rattle.consolidate.specs.Outcomes.{IsAllDone};
 ghost use Rattle.consolidate.specs.Own.{FailsAtRendering, FailsAtSchedule};
 ghost use Rattle.consolidate.specs.RenderOutcome.{in_rounds};
-ghost use Rattle.consolidate.specs.RenderWorks.{BeginsWork, ClipsWork, GoesOnWithWork, IsPrepared, IsSoundWork, IsTakenUp, IsUnbegun, KeepsMarked};
+ghost use Rattle.consolidate.specs.RenderWorks.{BeginsWork, GoesOnWithWork, IsPrepared, IsSoundWork, IsTakenUp, IsUnbegun, KeepsMarked, WorksOff, WorksOn};
 
 use crate::Fault;
 use crate::requested::Planned;
@@ -78,10 +76,8 @@ pub(crate) fn render_anew<S: Shelf, B: Bench, W: Watch>(
     watch: &mut W,
 ) -> Result<Worked, Fault>
     requires { IsSoundWork planned.work }
-    ensures does { BeginsWork S.Shelf B.Bench in_rounds planned.entry.work shelf.old shelf.new bench.old bench.new
-        (ok_map (λ worked. worked.progress) result) }
-    ensures clips { IfOk result (λ worked. ClipsWork S.Shelf planned.entry.work shelf.old worked.clips) }
-    ensures finished { IfOk result (λ worked. IsAllDone worked.progress) }
+    ensures off { WorksOff S.Shelf planned.entry.work shelf.old
+        (BeginsWork S.Shelf B.Bench in_rounds planned.entry.work shelf.old shelf.new bench.old bench.new) result }
     ensures own { FailsAtRendering result }
     ensures due { IfErr result IsAlwaysDue }
 {
@@ -124,7 +120,7 @@ pub(crate) fn render_by_events<S: Shelf, B: Bench>(
 
 /// Goes on with a work some of whose blocks are marked, by rounds of one worker. Want of memory comes before the first
 /// write.
-pub(crate) fn go_on_marked<S: Shelf, B: Bench, W: Watch>(
+fn go_on_marked<S: Shelf, B: Bench, W: Watch>(
     alloc: Global,
     planned: Planned<'_>,
     shelf: &mut S,
@@ -132,11 +128,9 @@ pub(crate) fn go_on_marked<S: Shelf, B: Bench, W: Watch>(
     watch: &mut W,
 ) -> Result<Worked, Fault>
     requires { IsSoundWork planned.work }
-    ensures does { GoesOnWithWork S.Shelf B.Bench planned.entry.work shelf.old shelf.new bench.old bench.new
-        (ok_map (λ worked. worked.progress) result) }
+    ensures off { WorksOff S.Shelf planned.entry.work shelf.old
+        (GoesOnWithWork S.Shelf B.Bench planned.entry.work shelf.old shelf.new bench.old bench.new) result }
     ensures keeps { KeepsMarked S.Shelf B.Bench planned.entry.work shelf.old bench.old bench.new }
-    ensures clips { IfOk result (λ worked. ClipsWork S.Shelf planned.entry.work shelf.old worked.clips) }
-    ensures finished { IfOk result (λ worked. IsAllDone worked.progress) }
     ensures own { FailsAtRendering result }
     ensures due { IfErr result IsAlwaysDue }
 {
@@ -150,5 +144,29 @@ pub(crate) fn go_on_marked<S: Shelf, B: Bench, W: Watch>(
             return Ok(Worked { progress, clips });
         }
         Err(fault) => return Err(Fault::of_execution(fault)),
+    }
+}
+
+/// Goes on with a work where this many of its blocks were found to be marked, and renders it from its beginning where no
+/// marks were.
+pub(crate) fn work_on<S: Shelf, B: Bench, W: Watch>(
+    alloc: Global,
+    planned: Planned<'_>,
+    found: Option<u32>,
+    shelf: &mut S,
+    bench: &mut B,
+    watch: &mut W,
+) -> Result<Worked, Fault>
+    requires { IsSoundWork planned.work }
+    ensures off { WorksOff S.Shelf planned.entry.work shelf.old
+        (WorksOn S.Shelf B.Bench planned.entry.work found shelf.old shelf.new bench.old bench.new) result }
+    ensures keeps { IfSome found
+        (λ _. KeepsMarked S.Shelf B.Bench planned.entry.work shelf.old bench.old bench.new) }
+    ensures own { FailsAtRendering result }
+    ensures due { IfErr result IsAlwaysDue }
+{
+    match found {
+        None => render_anew(alloc, planned, shelf, bench, watch),
+        Some(_) => go_on_marked(alloc, planned, shelf, bench, watch),
     }
 }

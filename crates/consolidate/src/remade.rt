@@ -1,8 +1,6 @@
 // Consolidates a list by the events of any number of workers.
 ghost use Rattle.std.specs.Prelude.{◌≡◌, None, false};
 ghost use Rattle.passes.specs.Left.{left_by};
-ghost use Rattle.passes.specs.Standard.{AreStandard};
-ghost use Rattle.sound_terms.specs.Passes.{standard_groups};
 ghost use Rattle.consolidate.specs.MediaOutcome.{consolidation_fault};
 ghost use Rattle.consolidate.specs.OfProject.{ConsolidatesByEvents};
 ghost use Rattle.consolidate.specs.Outcomes.{AnswersAs};
@@ -70,12 +68,9 @@ pub fn schedule_media<S: Shelf, B: Bench>(
     shelf: &mut S,
     bench: &mut B,
 ) -> Result<Progress, Fault>
-    ensures scheduled { IsConsolidationSchedule S.Shelf B.Bench
+    ensures { IsConsolidationSchedule S.Shelf B.Bench
         (left_by (λ pass. looking pass) (λ pass. gives pass) keeping.passes.items)
         list.now keeping.handle events.now shelf.old shelf.new bench.old bench.new result }
-    ensures standard { AreStandard (λ pass. looking pass) (λ pass. gives pass) keeping.passes.items
-        → IsConsolidationSchedule S.Shelf B.Bench standard_groups list.now keeping.handle events.now shelf.old shelf.new
-        bench.old bench.new result }
 {
     let Opened { checked, .. } = open(alloc, list, shelf)?;
     match schedule_consolidation(alloc, checked, keeping, events, shelf, bench) {

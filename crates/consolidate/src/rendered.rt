@@ -10,7 +10,7 @@ ghost use Rattle.consolidate.specs.Fault.{refusal_of};
 ghost use Rattle.consolidate.specs.Own.{FailsAtRendering};
 ghost use Rattle.consolidate.specs.RenderOutcome.{in_rounds};
 ghost use Rattle.consolidate.specs.Outcomes.{IsAllDone};
-ghost use Rattle.consolidate.specs.Listed.{BeginsListed, ReadsBackListed, fault_of_range, mix_in, range_in};
+ghost use Rattle.consolidate.specs.Listed.{BeginsListed, fault_of_range, mix_in, range_in};
 
 use crate::Fault;
 use crate::choice::{Clipping, RenderChoice};
@@ -58,7 +58,6 @@ fn render_checked<S: Shelf, B: Bench, W: Watch>(
     ensures does { BeginsListed S.Shelf B.Bench in_rounds listed.entry shelf.old shelf.new bench.old bench.new
         (ok_map (λ made. made.progress) result) }
     ensures finished { IfOk result (λ made. IsAllDone made.progress) }
-    ensures reads_back { IfOk result (λ _. ReadsBackListed listed.entry) }
     ensures report { IfOk result (λ made. HasRange made.rendered (range_in listed.entry)) }
     ensures clips { IsTrue (S.honest shelf.old) → IfOk result (λ made. IsClipping [] (range_in listed.entry)
         (mix_in listed.entry (S.stored shelf.old)) made.clipping) }

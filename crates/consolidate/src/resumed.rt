@@ -14,11 +14,11 @@ ghost use Rattle.consolidate.specs.Marks.{count_in, fault_in};
 ghost use Rattle.consolidate.specs.Own.{IsOfResuming};
 ghost use Rattle.consolidate.specs.Outcomes.{IsAllDone};
 ghost use Rattle.consolidate.specs.Resuming.{IsResuming};
-ghost use Rattle.consolidate.specs.Listed.{GoesOnListed, KeepsListed, ReadsBackListed, fault_of_range, marks_in, mix_in, range_in};
+ghost use Rattle.consolidate.specs.Listed.{GoesOnListed, KeepsListed, fault_of_range, marks_in, mix_in, range_in};
 
 use crate::Fault;
 use crate::choice::{Clipping, RenderChoice};
-use crate::marked::{go_on_marked, render_anew};
+use crate::marked::work_on;
 use crate::opened::open;
 use crate::requested::{Listed, Planned};
 use devices::{Bench, Shelf, Unwatched, Watch};
@@ -64,7 +64,6 @@ fn resume_checked<S: Shelf, B: Bench, W: Watch>(
     ensures does { GoesOnListed S.Shelf B.Bench listed.entry shelf.old shelf.new bench.old bench.new
         (ok_map (λ found. found.progress) result) }
     ensures finished { IfOk result (λ found. IsAllDone found.progress) }
-    ensures reads_back { IfOk result (λ _. ReadsBackListed listed.entry) }
     ensures marked { IsTrue (B.honest bench.old)
         → IfOk result (λ found. found.marked ≡ count_in (marks_in listed.entry (B.stored bench.old))) }
     ensures clips { IsTrue (S.honest shelf.old) → IsTrue (B.honest bench.old) → IfOk result (λ found.
@@ -86,7 +85,6 @@ fn resume_checked<S: Shelf, B: Bench, W: Watch>(
         Err(fault) => return Err(Fault::of_rendering(fault)),
     };
     let rendered = work.rendered();
-    let channels = rendered.channels;
     let start = work.start();
     let found = match work.open(alloc, choice.jobs, bench) {
         Ok(found) => found,
@@ -97,41 +95,21 @@ fn resume_checked<S: Shelf, B: Bench, W: Watch>(
         checked,
         order: choice.options.order,
     };
-    match found {
-        None => match render_anew(alloc, planned, shelf, bench, watch) {
-            Ok(worked) => {
-                let clips = worked.clips;
-                let clipping = Clipping {
-                    clips,
-                    start,
-                    channels,
-                };
-                return Ok(Found {
-                    progress: worked.progress,
-                    frames: rendered.frames,
-                    marked: 0,
-                    clipping,
-                });
-            }
-            Err(fault) => return Err(fault),
-        },
-        Some(marked) => match go_on_marked(alloc, planned, shelf, bench, watch) {
-            Ok(worked) => {
-                let clips = worked.clips;
-                let clipping = Clipping {
-                    clips,
-                    start,
-                    channels,
-                };
-                return Ok(Found {
-                    progress: worked.progress,
-                    frames: rendered.frames,
-                    marked,
-                    clipping,
-                });
-            }
-            Err(fault) => return Err(fault),
-        },
+    match work_on(alloc, planned, found, shelf, bench, watch) {
+        Ok(worked) => {
+            let clipping = Clipping {
+                clips: worked.clips,
+                start,
+                channels: rendered.channels,
+            };
+            return Ok(Found {
+                progress: worked.progress,
+                frames: rendered.frames,
+                marked: found.unwrap_or(0),
+                clipping,
+            });
+        }
+        Err(fault) => return Err(fault),
     }
 }
 

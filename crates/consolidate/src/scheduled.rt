@@ -1,11 +1,10 @@
 // Renders a list by the events of any number of workers.
-ghost use Rattle.std.specs.Prelude.{IfOk};
 ghost use Rattle.work_terms.specs.Refusals.{Answers};
 ghost use Rattle.rendering.specs.Rendering.{values_of};
 ghost use Rattle.consolidate.specs.Fault.{refusal_of};
 ghost use Rattle.consolidate.specs.Own.{FailsAtSchedule};
 ghost use Rattle.consolidate.specs.Schedules.{IsRenderSchedule};
-ghost use Rattle.consolidate.specs.Listed.{BeginsListed, ReadsBackListed, fault_of_range};
+ghost use Rattle.consolidate.specs.Listed.{BeginsListed, fault_of_range};
 
 use crate::Fault;
 use crate::choice::RenderChoice;
@@ -28,7 +27,6 @@ fn schedule_checked<S: Shelf, B: Bench>(
 ) -> Result<Progress, Fault>
     ensures does { BeginsListed S.Shelf B.Bench (λ _. events.now) listed.entry shelf.old shelf.new bench.old bench.new
         result }
-    ensures reads_back { IfOk result (λ _. ReadsBackListed listed.entry) }
     ensures refusals { Answers refusal_of result (fault_of_range listed.entry) }
     ensures own { FailsAtSchedule result }
 {

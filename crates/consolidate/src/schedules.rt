@@ -3,9 +3,9 @@ ghost use Rattle.std.specs.Prelude.{◌≡◌, ℕ};
 ghost use Rattle.passes.specs.Left.{left_by};
 ghost use Rattle.passes.specs.Standard.{AreStandard};
 ghost use Rattle.sound_terms.specs.Passes.{standard_groups};
-ghost use Rattle.rendering.specs.Rendering.{HaveChannels, values_of};
+ghost use Rattle.rendering.specs.Rendering.{values_of};
 ghost use Rattle.rendering.specs.declared.cutting.JobLength.TheVariants.{OneBlock};
-ghost use Rattle.consolidate.specs.Schedules.{IsConsolidationSchedule, IsRenderSchedule};
+ghost use Rattle.consolidate.specs.Schedules.{IsConsolidationSchedule, IsRenderSchedule, WorkHasChannels};
 
 use crate::Fault;
 use crate::choice::{Keeping, RenderChoice};
@@ -50,7 +50,7 @@ pub fn run_schedule<S: Shelf, B: Bench>(
     shelf: &mut S,
     bench: &mut B,
 ) -> Result<Progress, Fault>
-    requires { (list : _) (options : Options) → work ≡ Work.Render list options → HaveChannels options }
+    requires { WorkHasChannels work }
     ensures rendered { (list : _) (options : Options) → work.entry ≡ Work.Render list options
         → IsRenderSchedule S.Shelf B.Bench OneBlock list.now (values_of options) events.now shelf.old shelf.new
         bench.old bench.new result }
@@ -76,7 +76,7 @@ pub fn run_schedule_by<S: Shelf, B: Bench>(
     shelf: &mut S,
     bench: &mut B,
 ) -> Result<Progress, Fault>
-    requires { (list : _) (options : Options) → work ≡ Work.Render list options → HaveChannels options }
+    requires { WorkHasChannels work }
     ensures rendered { (list : _) (options : Options) → work.entry ≡ Work.Render list options
         → IsRenderSchedule S.Shelf B.Bench jobs list.now (values_of options) events.now shelf.old shelf.new
         bench.old bench.new result }

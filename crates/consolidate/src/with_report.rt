@@ -3,9 +3,9 @@ ghost use Rattle.std.specs.Prelude.{◌≡◌};
 ghost use Rattle.list_terms.specs.Steps.{ok_map};
 ghost use Rattle.renderreport.specs.Report.{facts_of};
 ghost use Rattle.rendering.specs.Rendering.{values_of};
-ghost use Rattle.consolidate.specs.SoundReports.{IsReportedRendering, IsReportedResuming, WritesReport, asked_of, rendered_facts, resumed_facts};
+ghost use Rattle.consolidate.specs.SoundReports.{IsReportedRendering, IsReportedResuming, WritesReport, asked_of, sound_facts};
 
-use crate::choice::{RenderReport, ReportedChoice};
+use crate::choice::{Clipping, RenderReport, ReportedChoice};
 use crate::rendered::{RenderedSound, render_watched};
 use crate::resumed::{ResumedSound, resume_watched};
 use crate::{Fault, OutputFile};
@@ -15,7 +15,7 @@ use renderreport::{ReportFacts, ReportFault, write_report};
 use std::alloc::Global;
 
 /// Writes the report of these facts.
-fn report_sound<B: Bench>(bench: &mut B, facts: &ReportFacts<'_>) -> Result<(), Fault>
+fn write_facts<B: Bench>(bench: &mut B, facts: &ReportFacts<'_>) -> Result<(), Fault>
     ensures { WritesReport B.Bench (facts_of facts.now) bench.old bench.new result }
 {
     match write_report(bench, facts) {
@@ -25,54 +25,38 @@ fn report_sound<B: Bench>(bench: &mut B, facts: &ReportFacts<'_>) -> Result<(), 
     }
 }
 
-/// Writes the report of a rendering of this list to this depth.
-fn report_rendered<'a, B: Bench>(
-    list: &'a [u8],
-    depth: Depth,
-    report: RenderReport<'a>,
-    made: &RenderedSound,
-    bench: &mut B,
-) -> Result<(), Fault>
-    ensures { WritesReport B.Bench (rendered_facts (asked_of report.entry) list.entry.now depth made.now) bench.old
-        bench.new result }
-{
-    let facts = ReportFacts {
-        program: report.program,
-        version: report.version,
-        list,
-        depth,
-        start: made.clipping.start,
-        frames: made.rendered.frames,
-        channels: made.clipping.channels,
-        clips: made.clipping.clips,
-        marked: None,
-    };
-    report_sound(bench, &facts)
+/// What is reported of a rendering: so many frames, what of them was clipped, and how many blocks were marked before, where
+/// it was gone on with.
+#[derive(Clone, Copy)]
+struct ReportedSound {
+    frames: u64,
+    clipping: Clipping,
+    marked: Option<u32>,
 }
 
-/// The same of one that was gone on with.
-fn report_resumed<'a, B: Bench>(
+/// Writes the report of a rendering of this list to this depth.
+fn report_sound<'a, B: Bench>(
     list: &'a [u8],
     depth: Depth,
     report: RenderReport<'a>,
-    made: &ResumedSound,
+    sound: &ReportedSound,
     bench: &mut B,
 ) -> Result<(), Fault>
-    ensures { WritesReport B.Bench (resumed_facts (asked_of report.entry) list.entry.now depth made.now) bench.old
-        bench.new result }
+    ensures { WritesReport B.Bench (sound_facts (asked_of report.entry) list.entry.now depth sound.now.frames
+        sound.now.clipping sound.now.marked) bench.old bench.new result }
 {
     let facts = ReportFacts {
         program: report.program,
         version: report.version,
         list,
         depth,
-        start: made.clipping.start,
-        frames: made.resumed.frames,
-        channels: made.clipping.channels,
-        clips: made.clipping.clips,
-        marked: Some(made.resumed.marked),
+        start: sound.clipping.start,
+        frames: sound.frames,
+        channels: sound.clipping.channels,
+        clips: sound.clipping.clips,
+        marked: sound.marked,
     };
-    report_sound(bench, &facts)
+    write_facts(bench, &facts)
 }
 
 /// Renders a list as `render_watched` does, and then writes `render.json` beside the file: a value of JSON (RFC 8259) in a
@@ -93,10 +77,17 @@ pub fn render_reported<'a, S: Shelf, B: Bench, W: Watch>(
 {
     let ReportedChoice { choice, report } = *asked;
     match render_watched(alloc, list, &choice, shelf, bench, watch) {
-        Ok(made) => match report_rendered(list, choice.options.depth, report, &made, bench) {
-            Ok(()) => Ok(made),
-            Err(fault) => Err(fault),
-        },
+        Ok(made) => {
+            let sound = ReportedSound {
+                frames: made.rendered.frames,
+                clipping: made.clipping,
+                marked: None,
+            };
+            match report_sound(list, choice.options.depth, report, &sound, bench) {
+                Ok(()) => Ok(made),
+                Err(fault) => Err(fault),
+            }
+        }
         Err(fault) => Err(fault),
     }
 }
@@ -117,10 +108,17 @@ pub fn resume_reported<'a, S: Shelf, B: Bench, W: Watch>(
 {
     let ReportedChoice { choice, report } = *asked;
     match resume_watched(alloc, list, &choice, shelf, bench, watch) {
-        Ok(made) => match report_resumed(list, choice.options.depth, report, &made, bench) {
-            Ok(()) => Ok(made),
-            Err(fault) => Err(fault),
-        },
+        Ok(made) => {
+            let sound = ReportedSound {
+                frames: made.resumed.frames,
+                clipping: made.clipping,
+                marked: Some(made.resumed.marked),
+            };
+            match report_sound(list, choice.options.depth, report, &sound, bench) {
+                Ok(()) => Ok(made),
+                Err(fault) => Err(fault),
+            }
+        }
         Err(fault) => Err(fault),
     }
 }

@@ -18,22 +18,22 @@ pub returns-in-Ok-render_anew-clause-does : goal.returns-in-Ok-render_anew-claus
 returns-in-Ok-render_anew-clause-does g c = begun_listed g.S.Shelf g.B.Bench c.args.listed c.in-Ok.work
     (marked_in c.args.listed c.in-Ok.work c.in-Ok.ensures.planned c.in-Ok.ensures.run) c.args.shelf.now
     c.render_anew.new.shelf c.args.bench.now c.render_anew.new.bench (Ok c.in-Ok-render_anew.worked.progress) in_rounds
-    c.in-Ok.ensures.planned c.in-Ok.ensures.jobs c.in-Ok-render_anew.ensures.does
+    c.in-Ok.ensures.planned c.in-Ok.ensures.jobs c.in-Ok-render_anew.ensures.off.does
 
 pub returns-in-Err-render_anew-clause-does : goal.returns-in-Err-render_anew-clause-does
 returns-in-Err-render_anew-clause-does g c = begun_listed g.S.Shelf g.B.Bench c.args.listed c.in-Ok.work
     (marked_in c.args.listed c.in-Ok.work c.in-Ok.ensures.planned c.in-Ok.ensures.run) c.args.shelf.now
     c.render_anew.new.shelf c.args.bench.now c.render_anew.new.bench (Err c.in-Err-render_anew.fault) in_rounds
-    c.in-Ok.ensures.planned c.in-Ok.ensures.jobs c.in-Err-render_anew.ensures.does
-
-pub returns-in-Ok-render_anew-clause-reads_back : goal.returns-in-Ok-render_anew-clause-reads_back
-returns-in-Ok-render_anew-clause-reads_back g c mix = c.in-Ok.ensures.planned.reads_back mix
+    c.in-Ok.ensures.planned c.in-Ok.ensures.jobs c.in-Err-render_anew.ensures.off.does
 
 pub returns-in-Ok-render_anew-clause-clips : goal.returns-in-Ok-render_anew-clause-clips
 returns-in-Ok-render_anew-clause-clips g c honest = record {
   clips = listed_clips c.args.listed c.in-Ok.work (g.S.Shelf.stored c.args.shelf.now) [] c.in-Ok-render_anew.worked.clips
       c.in-Ok.ensures.planned
-      (c.in-Ok-render_anew.ensures.clips honest [] (fresh_uniform c.in-Ok.work.work c.in-Ok.ensures.planned.fresh));
+      (c.in-Ok-render_anew.ensures.off.clips honest [] (fresh_uniform c.in-Ok.work.work c.in-Ok.ensures.planned.fresh));
   start = c.start-start.ensures ∙ ap (λ (r : Range). r.from) c.in-Ok.ensures.planned.range;
   channels = c.rendered-rendered.ensures.channels ∙ ap (λ (r : Range). r.channels) c.in-Ok.ensures.planned.range;
 }
+
+pub returns-in-Ok-render_anew-clause-finished : goal.returns-in-Ok-render_anew-clause-finished
+returns-in-Ok-render_anew-clause-finished g c = c.in-Ok-render_anew.ensures.off.finished

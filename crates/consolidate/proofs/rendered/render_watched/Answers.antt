@@ -1,13 +1,8 @@
-use Rattle.std.proofs.Common.{IsTrue, rules, subst, sym}
+use Rattle.std.proofs.Common.{[], rules}
 use Rattle.std.proofs.lemmas.Result.{err_from_is_err_and}
-use Rattle.rendering.specs.Rendering.{values_of}
-use Rattle.consolidate.specs.Fault.{refusal_of}
 use Rattle.consolidate.specs.RenderOutcome.{in_rounds}
-use Rattle.consolidate.proofs.Answered.{answered, failed, not_opened, rendering_own}
-use Rattle.consolidate.proofs.Due.{opening_due, range_due}
+use Rattle.consolidate.proofs.Answered.{anew_done, anew_failed, anew_unopened, clips_list, rendering_own}
 use Rattle.consolidate.proofs.First.{rendered_first}
-use Rattle.consolidate.proofs.Listed.{unstarted_outcomes}
-use Rattle.consolidate.proofs.RenderProjects.{renders_opened}
 use Rattle.consolidate.proofs.rendered.render_watched.Goals as goal
 
 pub returns-in_err-checked-clause-renders : goal.returns-in_err-checked-clause-renders
@@ -15,39 +10,21 @@ returns-in_err-checked-clause-renders g c =
     let p = err_from_is_err_and c.from_residual.result c.from_residual.ensures.1 in
     let fault = c.in_err-checked.field-0.0 in
     let told = c.in_err-checked.ensures in
-    let values = values_of c.args.choice.now.options in
-    let sources = g.S.Shelf.stored c.args.shelf.now in
     rw (p.1, p.2) (record {
-      answer = not_opened g.S.Shelf g.B.Bench c.args.list.now values c.args.shelf.now c.open.new.shelf
-          c.args.bench.now fault (g.met.B.Bench.only_now c.args.bench.now) told.only_reads (search rules) told.early
-          told.bad_text (rendering_own c.args.list.now fault told.own) told.in_turn
-          (λ honest known. opening_due (refusal_of fault) c.args.list.now values sources told.turn (told.refusals honest))
-          (λ none. unstarted_outcomes c.args.list.now values sources (g.B.Bench.may_leave c.args.bench.now) none);
+      answer = anew_unopened g.S.Shelf g.B.Bench _ _ _ _ c.args.list.now c.args.choice.now in_rounds c.args.shelf.now
+          c.open.new.shelf c.args.bench.now fault (g.met.B.Bench.only_now c.args.bench.now) told
+          (rendering_own c.args.list.now fault told.own);
       report = tt;
     })
 
 pub returns-in_err-made-clause-renders : goal.returns-in_err-made-clause-renders
 returns-in_err-made-clause-renders g c =
     let p = err_from_is_err_and c.from_residual-in_err-made.result c.from_residual-in_err-made.ensures.1 in
-    let fault = c.in_err-made.field-0.0 in
-    let opened = c.in_ok-checked.ensures in
     let told = c.in_err-made.ensures in
-    let checked = c.in_ok-checked.field-0.checked in
-    let values = values_of c.args.choice.now.options in
-    let sources = g.S.Shelf.stored c.args.shelf.now in
     rw (p.1, p.2) (record {
-      answer = failed g.S.Shelf g.B.Bench c.args.list.now values checked.project checked.bound c.args.shelf.now
-          c.open.new.shelf c.render_checked.new.shelf c.args.bench.now c.render_checked.new.bench opened.only_reads opened.spelt
-          opened.accepted (λ honest b. b) (λ honest st. st)
-          (λ ended honest came. record {
-            project = checked.project;
-            binding = checked.bound;
-            accepted = opened.accepted honest;
-            came = renders_opened c.args.choice.now.jobs c.args.list.now values checked.project checked.bound g.S.Shelf
-                g.B.Bench c.args.shelf.now c.open.new.shelf c.render_checked.new.shelf c.args.bench.now c.render_checked.new.bench
-                opened.only_reads.same (opened.only_reads.cause.left tt) ended in_rounds came;
-          })
-          fault told.does (λ honest known. rw (range_due c.args.list.now values sources _ _ (opened.accepted honest)) told.refusals) told.own rendered_first;
+      answer = anew_failed g.S.Shelf g.B.Bench _ _ _ _ c.args.list.now c.args.choice.now in_rounds c.args.shelf.now
+          c.open.new.shelf c.render_checked.new.shelf c.args.bench.now c.render_checked.new.bench c.in_ok-checked.field-0
+          c.in_ok-checked.ensures c.in_err-made.field-0.0 told.does told.refusals told.own rendered_first;
       report = tt;
     })
 
@@ -56,21 +33,10 @@ returns-clause-renders g c =
     let opened = c.in_ok-checked.ensures in
     let told = c.in_ok-made.ensures in
     let checked = c.in_ok-checked.field-0.checked in
-    let values = values_of c.args.choice.now.options in
-    let sources = g.S.Shelf.stored c.args.shelf.now in
     record {
-      answer = answered g.S.Shelf g.B.Bench c.args.list.now values checked.project checked.bound c.args.shelf.now
-          c.open.new.shelf c.render_checked.new.shelf c.args.bench.now c.render_checked.new.bench opened.only_reads opened.spelt
-          opened.accepted (λ honest b. b) (λ honest st. st)
-          (λ ended honest came. record {
-            project = checked.project;
-            binding = checked.bound;
-            accepted = opened.accepted honest;
-            came = renders_opened c.args.choice.now.jobs c.args.list.now values checked.project checked.bound g.S.Shelf
-                g.B.Bench c.args.shelf.now c.open.new.shelf c.render_checked.new.shelf c.args.bench.now c.render_checked.new.bench
-                opened.only_reads.same (opened.only_reads.cause.left tt) ended in_rounds came;
-          })
-          _ _ told.does (λ done. told.finished) told.finished
+      answer = anew_done g.S.Shelf g.B.Bench _ _ _ _ c.args.list.now c.args.choice.now in_rounds c.args.shelf.now
+          c.open.new.shelf c.render_checked.new.shelf c.args.bench.now c.render_checked.new.bench c.in_ok-checked.field-0
+          opened _ _ told.does (λ done. told.finished) told.finished
           (λ honest file. record {
             project = checked.project;
             binding = checked.bound;
@@ -79,19 +45,10 @@ returns-clause-renders g c =
             file = file;
             notices = opened.notices;
           })
-          told.reads_back (λ honest known. rw (range_due c.args.list.now values sources _ _ (opened.accepted honest)) told.refusals);
+          told.refusals;
       report = search rules;
     }
 
 pub returns-clause-clips : goal.returns-clause-clips
-returns-clause-clips g c honest =
-    let opened = c.in_ok-checked.ensures in
-    let told = c.in_ok-made.ensures in
-    let checked = c.in_ok-checked.field-0.checked in
-    record {
-      project = checked.project;
-      binding = checked.bound;
-      accepted = opened.accepted honest;
-      clipped = rw (← opened.only_reads.same)
-          (told.clips (subst IsTrue (sym opened.only_reads.honest_same) honest));
-    }
+returns-clause-clips g c = clips_list g.S.Shelf c.args.list.now c.args.choice.now c.args.shelf.now c.open.new.shelf
+    c.in_ok-checked.field-0 c.in_ok-checked.ensures (λ _. []) _ c.in_ok-made.ensures.clips

@@ -21,6 +21,3 @@ returns-in-Err-render_by_events-clause-does g c = begun_listed g.S.Shelf g.B.Ben
     (marked_in c.args.listed c.in-Ok.work c.in-Ok.ensures.planned c.in-Ok.ensures.run) c.args.shelf.now
     c.render_by_events.new.shelf c.args.bench.now c.render_by_events.new.bench (Err c.in-Err-render_by_events.fault)
     (λ _. c.args.events.now) c.in-Ok.ensures.planned c.in-Ok.ensures.jobs c.in-Err-render_by_events.ensures.does
-
-pub returns-in-Ok-render_by_events-clause-reads_back : goal.returns-in-Ok-render_by_events-clause-reads_back
-returns-in-Ok-render_by_events-clause-reads_back g c mix = c.in-Ok.ensures.planned.reads_back mix
