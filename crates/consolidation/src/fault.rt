@@ -1,6 +1,7 @@
 // Why a project isn't consolidated.
 ghost use Rattle.std.specs.Prelude.{◌≡◌};
 ghost use Rattle.consolidation.specs.Fault.{number_of};
+ghost use Rattle.consolidation.specs.declared.fault.ConsolidationFault.TheVariants.{Intervals, Pass, Runs, Relink};
 
 use groups::IntervalFault;
 use mediaset::RunFault;
@@ -40,9 +41,6 @@ impl ConsolidationFault {
 }
 
 impl From<IntervalFault> for ConsolidationFault {
-    ghost use Rattle.std.specs.Prelude.{◌≡◌};
-    ghost use Rattle.consolidation.specs.declared.fault.ConsolidationFault.TheVariants.{Intervals};
-
     ghost from_gives = { λ _ fault. fault ≡ Intervals };
 
     fn from(fault: IntervalFault) -> Self {
@@ -53,9 +51,6 @@ impl From<IntervalFault> for ConsolidationFault {
 }
 
 impl From<PassFault> for ConsolidationFault {
-    ghost use Rattle.std.specs.Prelude.{◌≡◌};
-    ghost use Rattle.consolidation.specs.declared.fault.ConsolidationFault.TheVariants.{Pass};
-
     ghost from_gives = { λ pass fault. fault ≡ Pass pass };
 
     fn from(fault: PassFault) -> Self {
@@ -64,9 +59,6 @@ impl From<PassFault> for ConsolidationFault {
 }
 
 impl From<RunFault> for ConsolidationFault {
-    ghost use Rattle.std.specs.Prelude.{◌≡◌};
-    ghost use Rattle.consolidation.specs.declared.fault.ConsolidationFault.TheVariants.{Runs};
-
     ghost from_gives = { λ runs fault. fault ≡ Runs runs };
 
     fn from(fault: RunFault) -> Self {
@@ -75,9 +67,6 @@ impl From<RunFault> for ConsolidationFault {
 }
 
 impl From<RelinkFault> for ConsolidationFault {
-    ghost use Rattle.std.specs.Prelude.{◌≡◌};
-    ghost use Rattle.consolidation.specs.declared.fault.ConsolidationFault.TheVariants.{Relink};
-
     ghost from_gives = { λ relink fault. fault ≡ Relink relink };
 
     fn from(fault: RelinkFault) -> Self {

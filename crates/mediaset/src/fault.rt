@@ -1,6 +1,7 @@
 // Why no runs are given.
 ghost use Rattle.std.specs.Prelude.{◌≡◌};
 ghost use Rattle.mediaset.specs.Fault.{number_of};
+ghost use Rattle.mediaset.specs.declared.fault.RunFault.TheVariants.{Memory};
 
 use std::alloc::AllocError;
 use thiserror::Error;
@@ -29,9 +30,6 @@ impl RunFault {
 }
 
 impl From<AllocError> for RunFault {
-    ghost use Rattle.std.specs.Prelude.{◌≡◌};
-    ghost use Rattle.mediaset.specs.declared.fault.RunFault.TheVariants.{Memory};
-
     ghost from_gives = { λ _ fault. fault ≡ Memory };
 
     fn from(_: AllocError) -> Self {

@@ -98,72 +98,56 @@ module _ {X : Type 0} (test : X → Bool) where
   holds_push (y ∷ ys) x zero fails = refl
   holds_push (y ∷ ys) x (suc k) fails = holds_push ys x k fails
 
+-- the mark of a place changes
+changed_is_index : (marks : List (Option End)) (s t : BTreeSet (End × ℕ)) (end : End) (i : ℕ) (was mark : Option End)
+    (now : Bool) → IsIndexOf marks s → slice_get marks i ≡ Some was
+    → ((q : End × ℕ) → contains place_cmp t q ≡ cond (is_eq (place_cmp (end, i) q)) now (contains place_cmp s q))
+    → i < length marks → ((other : End) → cond (is_same other end && true) now (is_end other was) ≡ is_end other mark)
+    → IsIndexOf (set marks i mark) t
+changed_is_index marks s t end i was mark now index there change below turned other k = by_place (cases_eq k i) where
+  by_place : (k ≡ i) ⊎ (k ≢ i) → contains place_cmp t (other, k) ≡ holds_at (is_end other) (set marks i mark) k
+  by_place (inl here) =
+      let before : contains place_cmp s (other, i) ≡ is_end other was =
+      index other i ∙ holds_as (is_end other) marks i was there in
+      let tie : (i == i) ≡ true = grind (arith, nat_tests) in
+      rw (
+        here,
+        change (other, i),
+        at_pair end other i i,
+        tie,
+        before,
+        holds_here (is_end other) marks i mark below,
+        same_back end other,
+      ) (turned other)
+  by_place (inr apart) =
+      let untied : (i == k) ≡ false = grind (arith, nat_tests) in
+      rw (change (other, k), at_pair end other i k, untied, index other k, holds_set (is_end other) marks i k mark apart)
+      (neither (is_same end other) _) where
+        neither : (a b : Bool) → cond (a && false) now b ≡ b
+        neither true b = refl
+        neither false b = refl
+
 -- a mark that is put to a place without one
 pub put_is_index : (marks : List (Option End)) (s t : BTreeSet (End × ℕ)) (end : End) (i : ℕ) → IsIndexOf marks s
     → slice_get marks i ≡ Some None
     → ((q : End × ℕ) → contains place_cmp t q ≡ cond (is_eq (place_cmp (end, i) q)) true (contains place_cmp s q))
     → i < length marks → IsIndexOf (set marks i (Some end)) t
-put_is_index marks s t end i index free put below other k = by_place (cases_eq k i) where
-  by_place : (k ≡ i) ⊎ (k ≢ i) → contains place_cmp t (other, k) ≡ holds_at (is_end other) (set marks i (Some end)) k
-  by_place (inl here) =
-      let was : contains place_cmp s (other, i) ≡ false = index other i ∙ holds_as (is_end other) marks i None free in
-      let tie : (i == i) ≡ true = grind (arith, nat_tests) in
-      rw (
-        here,
-        put (other, i),
-        at_pair end other i i,
-        tie,
-        was,
-        holds_here (is_end other) marks i (Some end) below,
-        same_back end other,
-      ) (either (is_same other end)) where
-        either : (b : Bool) → cond (b && true) true false ≡ b
-        either true = refl
-        either false = refl
-  by_place (inr apart) =
-      let untied : (i == k) ≡ false = grind (arith, nat_tests) in
-      rw (
-        put (other, k),
-        at_pair end other i k,
-        untied,
-        index other k,
-        holds_set (is_end other) marks i k (Some end)
-            apart,
-      ) (neither (is_same end other) _) where
-        neither : (a b : Bool) → cond (a && false) true b ≡ b
-        neither true b = refl
-        neither false b = refl
+put_is_index marks s t end i index free put below =
+    changed_is_index marks s t end i None (Some end) true index free put below (λ other. either (is_same other end)) where
+      either : (b : Bool) → cond (b && true) true false ≡ b
+      either true = refl
+      either false = refl
 
 -- a mark that is taken away from its place
 pub clear_is_index : (marks : List (Option End)) (s t : BTreeSet (End × ℕ)) (end : End) (i : ℕ) → IsIndexOf marks s
     → slice_get marks i ≡ Some (Some end)
     → ((q : End × ℕ) → contains place_cmp t q ≡ cond (is_eq (place_cmp (end, i) q)) false (contains place_cmp s q))
     → i < length marks → IsIndexOf (set marks i None) t
-clear_is_index marks s t end i index had taken below other k = by_place (cases_eq k i) where
-  by_place : (k ≡ i) ⊎ (k ≢ i) → contains place_cmp t (other, k) ≡ holds_at (is_end other) (set marks i None) k
-  by_place (inl here) =
-      let was : contains place_cmp s (other, i) ≡ is_same other end = index other i ∙ holds_as (is_end other) marks i
-      (Some end) had in
-      let tie : (i == i) ≡ true = grind (arith, nat_tests) in
-      rw (
-        here,
-        taken (other, i),
-        at_pair end other i i,
-        tie,
-        was,
-        holds_here (is_end other) marks i None below,
-        same_back end other,
-      ) (either (is_same other end)) where
-        either : (b : Bool) → cond (b && true) false b ≡ false
-        either true = refl
-        either false = refl
-  by_place (inr apart) =
-      let untied : (i == k) ≡ false = grind (arith, nat_tests) in
-      rw (taken (other, k), at_pair end other i k, untied, index other k, holds_set (is_end other) marks i k None apart)
-      (neither (is_same end other) _) where
-        neither : (a b : Bool) → cond (a && false) false b ≡ b
-        neither true b = refl
-        neither false b = refl
+clear_is_index marks s t end i index had taken below =
+    changed_is_index marks s t end i (Some end) None false index had taken below (λ other. either (is_same other end)) where
+      either : (b : Bool) → cond (b && true) false b ≡ false
+      either true = refl
+      either false = refl
 
 pub push_is_index : (marks : List (Option End)) (s : BTreeSet (End × ℕ)) → IsIndexOf marks s
     → IsIndexOf (marks ++ None ∷ []) s

@@ -42,18 +42,14 @@ module _ (r : Reading) (file channel frame : ℕ) where
       → reads (without_silent groups silent) file channel frame ≡ total ◌||◌ false sounds_by groups
       → reads (without_silent ((p ∷ []) ∷ groups) (b ∷ silent)) file channel frame
       ≡ (sounds_by (p ∷ []) || total ◌||◌ false sounds_by groups)
-  left_one p groups silent true is rest = by_read (is_read p file channel frame) refl where
-    by_read : (read : Bool) → is_read p file channel frame ≡ read
-        → reads (without_silent ((p ∷ []) ∷ groups) (true ∷ silent)) file channel frame
+  left_one p groups silent b is rest = by_kind b is (is_read p file channel frame) refl where
+    by_kind : (b : Bool) → is_silent_in r p ≡ b → (read : Bool) → is_read p file channel frame ≡ read
+        → reads (without_silent ((p ∷ []) ∷ groups) (b ∷ silent)) file channel frame
         ≡ (sounds_by (p ∷ []) || total ◌||◌ false sounds_by groups)
-    by_read true e = rw (called_one true silent, is, e) rest
-    by_read false e = rw (called_one true silent, e) rest
-  left_one p groups silent false is rest = by_read (is_read p file channel frame) refl where
-    by_read : (read : Bool) → is_read p file channel frame ≡ read
-        → reads (without_silent ((p ∷ []) ∷ groups) (false ∷ silent)) file channel frame
-        ≡ (sounds_by (p ∷ []) || total ◌||◌ false sounds_by groups)
-    by_read true e = rw (called_one false silent, is, e) refl
-    by_read false e = rw (called_one false silent, e) rest
+    by_kind true is true e = rw (called_one true silent, is, e) rest
+    by_kind true is false e = rw (called_one true silent, e) rest
+    by_kind false is true e = rw (called_one false silent, is, e) refl
+    by_kind false is false e = rw (called_one false silent, e) rest
 
   left_alone : (groups : List (List Piece)) → All IsAlone groups
       → reads (without_silent groups (silences r groups)) file channel frame ≡ total ◌||◌ false sounds_by groups

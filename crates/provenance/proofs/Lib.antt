@@ -1,6 +1,5 @@
 mod Grouping
 mod InTurn
 mod NoFloats
-mod Numbering
 mod OnLines
 mod WholeSources

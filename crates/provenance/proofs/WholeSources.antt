@@ -14,7 +14,7 @@ use Rattle.work_terms.specs.Disk.{Files, IsRange}
 use Rattle.list_terms.specs.Renewed.{numbered}
 use Rattle.provenance.specs.declared.medium.Medium.{Medium}
 use Rattle.provenance.specs.Media.{HasSource, medium_by, medium_bytes, source_digest}
-use Rattle.provenance.proofs.Numbering.{numbered_step}
+use Rattle.relink.specs.NumberingLaws.{numbered_step}
 
 -- one of these has what all of them have
 pub one_of_all : {X : Type 0} (P : X → Type 0) (xs : List X) (k : ℕ) (x : X) → slice_get xs k ≡ Some x → All P xs → P x

@@ -1,4 +1,7 @@
 // Why there is no report.
+ghost use Rattle.std.specs.Prelude.{◌≡◌};
+ghost use Rattle.provenance.specs.declared.fault.ReportFault.TheVariants.{Memory};
+
 use std::alloc::{AllocError, AllocFailed};
 use thiserror::Error;
 
@@ -14,9 +17,6 @@ pub enum ReportFault {
 }
 
 impl From<AllocError> for ReportFault {
-    ghost use Rattle.std.specs.Prelude.{◌≡◌};
-    ghost use Rattle.provenance.specs.declared.fault.ReportFault.TheVariants.{Memory};
-
     ghost from_gives = { λ _ fault. fault ≡ Memory };
 
     fn from(_: AllocError) -> Self {
@@ -25,9 +25,6 @@ impl From<AllocError> for ReportFault {
 }
 
 impl<T: Drop> From<AllocFailed<T>> for ReportFault {
-    ghost use Rattle.std.specs.Prelude.{◌≡◌};
-    ghost use Rattle.provenance.specs.declared.fault.ReportFault.TheVariants.{Memory};
-
     ghost from_gives = { λ _ fault. fault ≡ Memory };
 
     fn from(_: AllocFailed<T>) -> Self {

@@ -1,5 +1,4 @@
 mod RunOf
-mod Numbering
 mod Maximal
 mod Stretching
 mod Placing

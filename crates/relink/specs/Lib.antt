@@ -1,3 +1,4 @@
 pub mod Fault
 pub mod Begun
 pub mod Linked
+pub mod NumberingLaws

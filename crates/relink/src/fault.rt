@@ -1,6 +1,7 @@
 // Why a list isn't linked to the media.
 ghost use Rattle.std.specs.Prelude.{◌≡◌};
 ghost use Rattle.relink.specs.Fault.{number_of};
+ghost use Rattle.relink.specs.declared.fault.RelinkFault.TheVariants.{Memory};
 
 use groups::IntervalFault;
 use std::alloc::AllocError;
@@ -30,9 +31,6 @@ impl RelinkFault {
 }
 
 impl From<AllocError> for RelinkFault {
-    ghost use Rattle.std.specs.Prelude.{◌≡◌};
-    ghost use Rattle.relink.specs.declared.fault.RelinkFault.TheVariants.{Memory};
-
     ghost from_gives = { λ _ fault. fault ≡ Memory };
 
     fn from(_: AllocError) -> Self {
@@ -41,9 +39,6 @@ impl From<AllocError> for RelinkFault {
 }
 
 impl From<IntervalFault> for RelinkFault {
-    ghost use Rattle.std.specs.Prelude.{◌≡◌};
-    ghost use Rattle.relink.specs.declared.fault.RelinkFault.TheVariants.{Memory};
-
     ghost from_gives = { λ _ fault. fault ≡ Memory };
 
     fn from(fault: IntervalFault) -> Self {

@@ -1,6 +1,7 @@
 // Why a rendering isn't planned.
 ghost use Rattle.std.specs.Prelude.{◌≡◌};
 ghost use Rattle.renderplan.specs.Fault.{number_of};
+ghost use Rattle.renderplan.specs.declared.fault.PlanFault.TheVariants.{Memory};
 
 use std::alloc::AllocError;
 use thiserror::Error;
@@ -29,9 +30,6 @@ impl PlanFault {
 }
 
 impl From<AllocError> for PlanFault {
-    ghost use Rattle.std.specs.Prelude.{◌≡◌};
-    ghost use Rattle.renderplan.specs.declared.fault.PlanFault.TheVariants.{Memory};
-
     ghost from_gives = { λ _ fault. fault ≡ Memory };
 
     fn from(_: AllocError) -> Self {

@@ -1,5 +1,5 @@
 use Rattle.list_terms.specs.Renewed.{run_event}
-use Rattle.relink.proofs.Numbering.{numbered_step}
+use Rattle.relink.specs.NumberingLaws.{numbered_step}
 use Rattle.relink.proofs.entries.entries_of.Goals as goal
 
 pub loop-position-preserved : goal.loop-position-preserved

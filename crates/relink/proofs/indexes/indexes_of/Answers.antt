@@ -4,7 +4,7 @@ use Rattle.std.specs.List.{list_any}
 use Rattle.std.proofs.lemmas.List.{length-take-le, take_all}
 use Rattle.sound_terms.specs.declared.piece.Home.{Home}
 use Rattle.list_terms.specs.Renewed.{numbered, run_source}
-use Rattle.relink.proofs.Numbering.{numbered_free, numbered_step}
+use Rattle.relink.specs.NumberingLaws.{numbered_free, numbered_step}
 use Rattle.relink.proofs.indexes.indexes_of.Goals as goal
 
 pub push-requires : goal.push-requires
