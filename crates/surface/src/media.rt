@@ -55,7 +55,8 @@ pub fn laid_out<B: Bench>(
     Ok(())
 }
 
-/// Copies a piece of a medium; false where it is none.
+/// Copies a piece of a medium; false where it is none. Each other piece goes by its halves, the second of which another
+/// worker may do.
 pub fn copied<S: Shelf, B: Bench>(
     alloc: Global,
     shelf: &mut S,
@@ -69,30 +70,16 @@ pub fn copied<S: Shelf, B: Bench>(
     }
     let mut bytes = Vec::new(alloc);
     bytes.resize(length_of(bound, runs, job), 0)?;
-    copy_piece(shelf, bench, bound, runs, job, bytes.as_mut_slice())?;
-    Ok(true)
-}
-
-/// The same by its halves, the second of which another worker may do.
-pub fn copied_by_halves<S: Shelf, B: Bench>(
-    alloc: Global,
-    shelf: &mut S,
-    bench: &mut B,
-    bound: &Bound,
-    runs: &[Run],
-    job: CopyJob,
-) -> Result<bool> {
-    if !is_piece(bound, runs, job) {
-        return Ok(false);
+    if job.from / PIECE % 2 == 0 {
+        copy_piece(shelf, bench, bound, runs, job, bytes.as_mut_slice())?;
+    } else {
+        fetch_piece(shelf, bound, runs, job, bytes.as_mut_slice())?;
+        place_piece(bench, bound, runs, job, bytes.as_slice())?;
     }
-    let mut bytes = Vec::new(alloc);
-    bytes.resize(length_of(bound, runs, job), 0)?;
-    fetch_piece(shelf, bound, runs, job, bytes.as_mut_slice())?;
-    place_piece(bench, bound, runs, job, bytes.as_slice())?;
     Ok(true)
 }
 
-/// Lays out the medium of run `k` and fills it, each other piece by its halves.
+/// Lays out the medium of run `k` and fills it.
 fn copy_run<S: Shelf, B: Bench>(
     alloc: Global,
     shelf: &mut S,
@@ -111,12 +98,7 @@ fn copy_run<S: Shelf, B: Bench>(
             from,
             frames,
         };
-        let is_copied = if i % 2 == 0 {
-            copied(alloc, shelf, bench, bound, runs, job)?
-        } else {
-            copied_by_halves(alloc, shelf, bench, bound, runs, job)?
-        };
-        if !is_copied {
+        if !copied(alloc, shelf, bench, bound, runs, job)? {
             bail!("no piece");
         }
     }

@@ -5,34 +5,21 @@ use shelf::{Bench, MemoryBench, MemoryShelf};
 use std::alloc::{AllocError, Global};
 use std::process::Abort;
 use std::test::Fail;
-
-/// A list of one entry over `A.wav`, up to the entry.
-const BEFORE_ENTRY: &str = "<ADL>
-<SEQUENCE>
-(SEQ_SAMPLE_RATE) S48000
-(SEQ_FRAME_RATE) 25
-</SEQUENCE>
-<SOURCE_INDEX>
-(Index) 0001 (F) \"URL:file://localhost/A.wav\" _ 00.00.00.00/0000 _
-</SOURCE_INDEX>
-<EVENT_LIST>
-";
+use trials_projects::lists::list;
 
 /// An entry of four frames.
 const SHORT_ENTRY: &str =
     "(Entry) 0001 (Cut) I 0001 1 1 00.00.00.00/0000 01.00.00.00/0000 01.00.00.00/0004\n";
 
-/// One of ten frames, with these lines of its fades.
-const LONG_ENTRY: &str =
-    "(Entry) 0007 (Cut) I 0001 1 1 00.00.00.00/0000 01.00.00.00/0000 01.00.00.00/0010\n";
-
-const IN_FADE: &str = "(Infade) 00.00.00.00/0006 LIN _ _ _\n";
-
-const LONG_OUT_FADE: &str = "(Outfade) 00.00.00.00/0005 LIN _ _ _\n";
-
-const SHORT_OUT_FADE: &str = "(Outfade) 00.00.00.00/0004 LIN _ _ _\n";
-
-const AFTER_ENTRY: &str = "</EVENT_LIST>\n</ADL>\n";
+/// One of ten frames, whose in-fade has six, and whose out-fade has this length.
+fn faded_entry(alloc: Global, out_fade: &str) -> Result<String, AllocError> {
+    format!(in alloc;
+        "(Entry) 0007 (Cut) I 0001 1 1 00.00.00.00/0000 01.00.00.00/0000 01.00.00.00/0010
+(Infade) 00.00.00.00/0006 LIN _ _ _
+(Outfade) {out_fade} LIN _ _ _
+"
+    )
+}
 
 /// The head of a mono file of 16 bits, up to its length of data.
 const HEAD: &[u8] =
@@ -47,23 +34,11 @@ const TWELVE_SAMPLES: &[u8] = b"\x18\0\0\0\0\0\0\0\0\0\0\0\0\0\0\0\0\0\0\0\0\0\0
 /// Where the samples of a rendered file begin.
 const SAMPLES_AT: usize = 690;
 
-/// These texts, one behind the other.
-fn joined(alloc: Global, texts: &[&[u8]]) -> Result<Vec<u8>, AllocError> {
-    let mut whole = Vec::new(alloc);
-    for text in texts {
-        whole.extend_from_slice(text)?;
-    }
-    Ok(whole)
-}
-
-/// The list with these lines as its entry.
-fn list_of(alloc: Global, lines: &[&str]) -> Result<Vec<u8>, AllocError> {
-    let mut list = joined(alloc, &[BEFORE_ENTRY.as_bytes()])?;
-    for line in lines {
-        list.extend_from_slice(line.as_bytes())?;
-    }
-    list.extend_from_slice(AFTER_ENTRY.as_bytes())?;
-    Ok(list)
+/// A folder with `A.wav`, of these samples behind their length.
+fn folder(alloc: Global, samples: &[u8]) -> Result<MemoryShelf, AllocError> {
+    let mut wave = HEAD.to_vec(alloc)?;
+    wave.extend_from_slice(samples)?;
+    MemoryShelf::new(alloc).with_file("A.wav", wave.as_slice())
 }
 
 /// What was answered, and all that was printed.
@@ -74,22 +49,30 @@ struct Answered {
     err: HeldLines,
 }
 
-/// Answers the words over a list and the files of a shelf, by no passes.
+/// Answers the words over a list of these entries and the files of a folder, by no passes.
 fn answer_over(
     alloc: Global,
     words: &[&str],
-    list: &[u8],
-    shelf: MemoryShelf,
+    entries: &str,
+    folder: MemoryShelf,
     bench: &mut MemoryBench,
-) -> Answered {
-    let mut shelf = shelf;
+) -> Result<Answered, AllocError> {
+    let list = list(alloc, entries)?;
+    let mut folder = folder;
     let mut out = HeldLines::new(alloc);
     let mut err = HeldLines::new(alloc);
     let passes: Vec<Box<dyn Pass>> = Vec::new(alloc);
     let status = answer(
-        alloc, words, list, passes, &mut shelf, bench, &mut out, &mut err,
+        alloc,
+        words,
+        list.as_bytes(),
+        passes,
+        &mut folder,
+        bench,
+        &mut out,
+        &mut err,
     );
-    Answered { status, out, err }
+    Ok(Answered { status, out, err })
 }
 
 /// Fails unless the status and both texts are these.
@@ -109,12 +92,10 @@ fn require(
 #[test]
 fn four_samples_are_rendered(rt: HostRuntime) -> Result<(), Fail> {
     let alloc = rt.alloc();
-    let list = list_of(alloc, &[SHORT_ENTRY])?;
-    let wave = joined(alloc, &[HEAD, FOUR_SAMPLES])?;
-    let shelf = MemoryShelf::new(alloc).with_file("A.wav", wave.as_slice())?;
     let mut bench = MemoryBench::new(alloc);
     let words = ["render", "L.adl", "M", "O", "--depth", "16"];
-    let answered = answer_over(alloc, &words, list.as_slice(), shelf, &mut bench);
+    let folder = folder(alloc, FOUR_SAMPLES)?;
+    let answered = answer_over(alloc, &words, SHORT_ENTRY, folder, &mut bench)?;
     require(&rt, &answered, 0, "rendered 4 frames 1 channels\n", "")?;
     let file = bench.bytes("render.wav").unwrap_or(&[]);
     assert_eq!(rt; file.len(), 698);
@@ -125,12 +106,10 @@ fn four_samples_are_rendered(rt: HostRuntime) -> Result<(), Fail> {
 #[test]
 fn four_samples_are_consolidated(rt: HostRuntime) -> Result<(), Fail> {
     let alloc = rt.alloc();
-    let list = list_of(alloc, &[SHORT_ENTRY])?;
-    let wave = joined(alloc, &[HEAD, FOUR_SAMPLES])?;
-    let shelf = MemoryShelf::new(alloc).with_file("A.wav", wave.as_slice())?;
     let mut bench = MemoryBench::new(alloc);
     let words = ["consolidate", "L.adl", "M", "O"];
-    let answered = answer_over(alloc, &words, list.as_slice(), shelf, &mut bench);
+    let folder = folder(alloc, FOUR_SAMPLES)?;
+    let answered = answer_over(alloc, &words, SHORT_ENTRY, folder, &mut bench)?;
     let saved = "kept 8 of 8 bytes of samples; wrote 1017 bytes in all\n";
     require(&rt, &answered, 0, "written 1 media 1 entries\n", saved)?;
     let medium = bench.bytes("M00001.wav").unwrap_or(&[]);
@@ -138,20 +117,17 @@ fn four_samples_are_consolidated(rt: HostRuntime) -> Result<(), Fail> {
     Ok(())
 }
 
+/// What is answered where such a list is checked.
+fn checked(alloc: Global, entries: &str, folder: MemoryShelf) -> Result<Answered, AllocError> {
+    let mut bench = MemoryBench::new(alloc);
+    answer_over(alloc, &["check", "L.adl", "M"], entries, folder, &mut bench)
+}
+
 #[test]
 fn fades_longer_than_their_entry_are_refused(rt: HostRuntime) -> Result<(), Fail> {
     let alloc = rt.alloc();
-    let list = list_of(alloc, &[LONG_ENTRY, IN_FADE, LONG_OUT_FADE])?;
-    let wave = joined(alloc, &[HEAD, TWELVE_SAMPLES])?;
-    let shelf = MemoryShelf::new(alloc).with_file("A.wav", wave.as_slice())?;
-    let mut bench = MemoryBench::new(alloc);
-    let answered = answer_over(
-        alloc,
-        &["check", "L.adl", "M"],
-        list.as_slice(),
-        shelf,
-        &mut bench,
-    );
+    let entry = faded_entry(alloc, "00.00.00.00/0005")?;
+    let answered = checked(alloc, entry.as_str(), folder(alloc, TWELVE_SAMPLES)?)?;
     let explanation =
         "the fades are longer than the entry: in-fade and out-fade together are longer than from in to out; \
         shorten the fades (adlcons explain 43)\n";
@@ -161,17 +137,8 @@ fn fades_longer_than_their_entry_are_refused(rt: HostRuntime) -> Result<(), Fail
 #[test]
 fn fades_as_long_as_their_entry_are_accepted(rt: HostRuntime) -> Result<(), Fail> {
     let alloc = rt.alloc();
-    let list = list_of(alloc, &[LONG_ENTRY, IN_FADE, SHORT_OUT_FADE])?;
-    let wave = joined(alloc, &[HEAD, TWELVE_SAMPLES])?;
-    let shelf = MemoryShelf::new(alloc).with_file("A.wav", wave.as_slice())?;
-    let mut bench = MemoryBench::new(alloc);
-    let answered = answer_over(
-        alloc,
-        &["check", "L.adl", "M"],
-        list.as_slice(),
-        shelf,
-        &mut bench,
-    );
+    let entry = faded_entry(alloc, "00.00.00.00/0004")?;
+    let answered = checked(alloc, entry.as_str(), folder(alloc, TWELVE_SAMPLES)?)?;
     let room =
         "consolidate would write at most 1406 bytes of media\nrender would write 765 bytes\n";
     require(&rt, &answered, 0, "accepted 1 entries 1 indexes\n", room)
@@ -180,42 +147,21 @@ fn fades_as_long_as_their_entry_are_accepted(rt: HostRuntime) -> Result<(), Fail
 #[test]
 fn a_missing_file_is_refused_by_its_name(rt: HostRuntime) -> Result<(), Fail> {
     let alloc = rt.alloc();
-    let list = list_of(alloc, &[SHORT_ENTRY])?;
-    let mut bench = MemoryBench::new(alloc);
-    let words = ["check", "L.adl", "M"];
-    let answered = answer_over(
-        alloc,
-        &words,
-        list.as_slice(),
-        MemoryShelf::new(alloc),
-        &mut bench,
-    );
+    let answered = checked(alloc, SHORT_ENTRY, MemoryShelf::new(alloc))?;
+    let refusal = "refused 21 at index 1 file A.wav\n";
     let explanation =
         "there is no such file: the media folder has no file of that name, or its name is spelled differently; \
         put the file into the folder, or name the folder that has it (adlcons explain 21)\n";
-    require(
-        &rt,
-        &answered,
-        1,
-        "refused 21 at index 1 file A.wav\n",
-        explanation,
-    )
+    require(&rt, &answered, 1, refusal, explanation)
 }
 
 #[test]
 fn words_that_lack_the_output_are_a_mistake(rt: HostRuntime) -> Result<(), Fail> {
     let alloc = rt.alloc();
-    let list = list_of(alloc, &[SHORT_ENTRY])?;
-    let wave = joined(alloc, &[HEAD, FOUR_SAMPLES])?;
-    let shelf = MemoryShelf::new(alloc).with_file("A.wav", wave.as_slice())?;
     let mut bench = MemoryBench::new(alloc);
-    let answered = answer_over(
-        alloc,
-        &["render", "L.adl", "M"],
-        list.as_slice(),
-        shelf,
-        &mut bench,
-    );
+    let words = ["render", "L.adl", "M"];
+    let folder = folder(alloc, FOUR_SAMPLES)?;
+    let answered = answer_over(alloc, &words, SHORT_ENTRY, folder, &mut bench)?;
     let usage = "error: the following required arguments were not provided:\n  <OUT>\n\n\
         Usage: adlcons render <LIST> <MEDIA> <OUT>\n\nFor more information, try '--help'.\n";
     require(&rt, &answered, 2, "", usage)?;

@@ -1,5 +1,5 @@
 // Each call of the sources and of the output fails in turn: once, twice in a row, and three times.
-use crate::works::{CONSOLIDATED as TEXT, Call, Job};
+use crate::works::{CONSOLIDATED as TEXT, CONSOLIDATED_BY_EVENTS, Call, Job, RENDERED_BY_EVENTS};
 use adlread::read;
 use adlwrite::{WriteFault, write};
 use consolidate::{Fault, MarkFault, MarkedFile, OutputFile};
@@ -111,215 +111,128 @@ const REPORT: Part = Part::Write(OutputFile::Report);
 
 const LIST: Part = Part::Write(OutputFile::List);
 
-/// The calls of the sources of the rendering: its three jobs read a block each.
-const RENDERED_FROM: [Part; 8] = [
-    Part::Open,
-    Part::Open,
-    Part::Open,
-    Part::Open,
-    Part::Open,
-    Part::Job(0),
-    Part::Job(1),
-    Part::Job(2),
-];
+/// So many calls in a row are for a part.
+type Calls = (u64, Part);
+
+/// The calls of the sources of a rendering: its list is opened, and each job reads a block.
+const OPENED: [Calls; 1] = [(5, Part::Open)];
+
+const OPENED_AND_READ: [Calls; 2] = [(5, Part::Open), (1, Part::Job(0))];
+
+const REST_READ: [Calls; 2] = [(1, Part::Job(1)), (1, Part::Job(2))];
 
 /// The calls of its output: the file is made, laid out and synced, then its marks are, the gate of which is opened last.
-/// Each block is written and synced, and then marked; at the end both are synced.
-const RENDERED: [Part; 26] = [
-    RENDERING,
-    RENDERING,
-    RENDERING,
-    RENDERING,
-    MARKS,
-    MARKS,
-    MARKS,
-    MARKS,
-    MARKS,
-    MARKS,
-    MARKS,
-    MARKS,
-    Part::Job(0),
-    Part::Job(0),
-    MARKS,
-    MARKS,
-    Part::Job(1),
-    Part::Job(1),
-    MARKS,
-    MARKS,
-    Part::Job(2),
-    Part::Job(2),
-    MARKS,
-    MARKS,
-    RENDERING,
-    MARKS,
+/// The first block is written and synced, and then marked.
+const BEGUN: [Calls; 4] = [(4, RENDERING), (8, MARKS), (2, Part::Job(0)), (2, MARKS)];
+
+/// So are the other blocks; at the end both files are synced.
+const REST_RENDERED: [Calls; 6] = [
+    (2, Part::Job(1)),
+    (2, MARKS),
+    (2, Part::Job(2)),
+    (2, MARKS),
+    (1, RENDERING),
+    (1, MARKS),
 ];
 
-/// The calls of the sources where the rendering goes on behind its first block.
-const RESUMED_FROM: [Part; 7] = [
-    Part::Open,
-    Part::Open,
-    Part::Open,
-    Part::Open,
-    Part::Open,
-    Part::Job(1),
-    Part::Job(2),
+/// Where it goes on behind its first block, both files are asked for their lengths and synced, and the marks are read.
+const RESUMED: [Calls; 2] = [(2, RENDERING), (4, MARKS)];
+
+/// The calls of the sources of a consolidation: its list is opened, and both fades and what lies between them are asked
+/// for silence.
+const HEARD: [Calls; 2] = [(5, Part::Open), (3, Part::Hear)];
+
+/// Where a report is asked for, the frames of the first medium are read for it, then the length and the bytes of the
+/// source as a whole, and then the frames of the second.
+const HEARD_TWICE: [Calls; 2] = [(5, Part::Open), (7, Part::Hear)];
+
+/// Each job reads its frames.
+const FRAMES_READ: [Calls; 2] = [(1, Part::Job(0)), (1, Part::Job(1))];
+
+/// The calls of its output: both media are made and laid out, their pieces are written, and they are synced.
+const MEDIA: [Calls; 6] = [
+    (3, FIRST),
+    (3, SECOND),
+    (1, Part::Job(0)),
+    (1, Part::Job(1)),
+    (1, FIRST),
+    (1, SECOND),
 ];
 
-/// The calls of its output: both files are asked for their lengths and synced, and the marks are read; then it goes on.
-const RESUMED: [Part; 16] = [
-    RENDERING,
-    RENDERING,
-    MARKS,
-    MARKS,
-    MARKS,
-    MARKS,
-    Part::Job(1),
-    Part::Job(1),
-    MARKS,
-    MARKS,
-    Part::Job(2),
-    Part::Job(2),
-    MARKS,
-    MARKS,
-    RENDERING,
-    MARKS,
-];
+/// Then the list is made, written and synced, behind the checksums and the report if there are any.
+const LISTED: [Calls; 1] = [(3, LIST)];
 
-/// The calls of the sources of the consolidation: both fades and what lies between them are asked for silence.
-const CONSOLIDATED_FROM: [Part; 10] = [
-    Part::Open,
-    Part::Open,
-    Part::Open,
-    Part::Open,
-    Part::Open,
-    Part::Hear,
-    Part::Hear,
-    Part::Hear,
-    Part::Job(0),
-    Part::Job(1),
-];
+const REPORTED: [Calls; 3] = [(3, SUMS), (3, REPORT), (3, LIST)];
 
-/// The calls of its output: both media are made and laid out, their pieces are written, they are synced, and then the
-/// list is made, written and synced.
-const CONSOLIDATED: [Part; 13] = [
-    FIRST,
-    FIRST,
-    FIRST,
-    SECOND,
-    SECOND,
-    SECOND,
-    Part::Job(0),
-    Part::Job(1),
-    FIRST,
-    SECOND,
-    LIST,
-    LIST,
-    LIST,
-];
-
-/// The calls of the sources where a report is asked for: the frames of the first medium are read for it, then the length
-/// and the bytes of the source as a whole, and then the frames of the second.
-const REPORTED_FROM: [Part; 14] = [
-    Part::Open,
-    Part::Open,
-    Part::Open,
-    Part::Open,
-    Part::Open,
-    Part::Hear,
-    Part::Hear,
-    Part::Hear,
-    Part::Hear,
-    Part::Hear,
-    Part::Hear,
-    Part::Hear,
-    Part::Job(0),
-    Part::Job(1),
-];
-
-/// The calls of its output: its checksums and the report are made, written and synced behind the media, the list last.
-const REPORTED: [Part; 19] = [
-    FIRST,
-    FIRST,
-    FIRST,
-    SECOND,
-    SECOND,
-    SECOND,
-    Part::Job(0),
-    Part::Job(1),
-    FIRST,
-    SECOND,
-    SUMS,
-    SUMS,
-    SUMS,
-    REPORT,
-    REPORT,
-    REPORT,
-    LIST,
-    LIST,
-    LIST,
-];
-
-/// Does a job over sources of whose calls so many fail behind so many; tells how it ended, and how many failed.
-fn fail_sources(rt: &impl Abort, job: &Job, from: u64, times: u64) -> Result<(Ended, u64), Fail> {
-    let mut shelf = job.shelf(from, times)?;
-    let mut bench = job.bench()?;
-    let ended = Ended::of(&job.run(&mut shelf, &mut bench)?);
-    assert!(rt; ended.agrees(job, &bench), "{from}, {times}");
-    Ok((ended, shelf.failures()))
+/// A device whose calls fail.
+#[derive(Clone, Copy, Debug)]
+enum Device {
+    Sources,
+    Output,
 }
 
-/// The same of the calls of the output.
-fn fail_output(rt: &impl Abort, job: &Job, from: u64, times: u64) -> Result<(Ended, u64), Fail> {
-    let mut shelf = job.shelf(0, 0)?;
-    let mut bench = job.bench()?.failing(from, times);
+/// Does a job over a device of whose calls so many fail behind so many; tells how it ended, and how many failed.
+fn fail(
+    rt: &impl Abort,
+    job: &Job,
+    device: Device,
+    from: u64,
+    times: u64,
+) -> Result<(Ended, u64), Fail> {
+    let (of_sources, of_output) = match device {
+        Device::Sources => (times, 0),
+        Device::Output => (0, times),
+    };
+    let mut shelf = job.shelf(from, of_sources)?;
+    let mut bench = job.bench()?.failing(from, of_output);
     let ended = Ended::of(&job.run(&mut shelf, &mut bench)?);
-    assert!(rt; ended.agrees(job, &bench), "{from}, {times}");
-    Ok((ended, bench.failures()))
+    assert!(rt; ended.agrees(job, &bench), "{device:?}, {from}, {times}");
+    Ok((ended, shelf.failures().saturating_add(bench.failures())))
 }
 
-/// Fails each call of both devices of a job, the first of so many in a row. Their calls are for these parts.
+/// Fails each of these calls of a device of a job, the first of so many in a row; tells how many are made by then.
 fn fail_each(
     rt: &impl Abort,
     job: &Job,
+    device: Device,
     times: u64,
-    sources: &[Part],
-    output: &[Part],
+    before: u64,
+    calls: &[Calls],
+) -> Result<u64, Fail> {
+    let mut from = before;
+    for (count, part) in calls {
+        for _ in 0..*count {
+            let found = fail(rt, job, device, from, times)?;
+            let wanted = (part.ended(times), part.failures(times));
+            assert_eq!(rt; found, wanted, "{device:?}, {from}, {times}");
+            from = from.saturating_add(1);
+        }
+    }
+    Ok(from)
+}
+
+/// Fails each call of a device of a job, which are these and no others: once, twice in a row, and three times.
+fn fail_all(
+    rt: &impl Abort,
+    job: &Job,
+    device: Device,
+    first: &[Calls],
+    rest: &[Calls],
 ) -> Result<(), Fail> {
-    for (from, part) in sources.iter().enumerate() {
-        let found = fail_sources(rt, job, from as u64, times)?;
-        assert_eq!(rt;
-            found,
-            (part.ended(times), part.failures(times)),
-            "{from}, {times}"
-        );
+    for times in 1..4 {
+        let from = fail_each(rt, job, device, times, 0, first)?;
+        let from = fail_each(rt, job, device, times, from, rest)?;
+        assert_eq!(rt; fail(rt, job, device, from, times)?, (Ended::Done, 0));
     }
-    for (from, part) in output.iter().enumerate() {
-        let found = fail_output(rt, job, from as u64, times)?;
-        assert_eq!(rt;
-            found,
-            (part.ended(times), part.failures(times)),
-            "{from}, {times}"
-        );
-    }
-    // there are no others
-    let found = fail_sources(rt, job, sources.len() as u64, times)?;
-    assert_eq!(rt; found, (Ended::Done, 0));
-    let found = fail_output(rt, job, output.len() as u64, times)?;
-    assert_eq!(rt; found, (Ended::Done, 0));
     Ok(())
 }
 
 #[test]
 fn each_call_of_a_rendering_fails(rt: HostRuntime) -> Result<(), Fail> {
-    let by_events = Call::Schedule {
-        is_rendering: true,
-        rounds: 5,
-    };
-    for call in [Call::Render, by_events] {
+    for call in [Call::Render, RENDERED_BY_EVENTS] {
         let job = Job::new(rt.alloc(), call)?;
-        for times in 1..4 {
-            fail_each(&rt, &job, times, &RENDERED_FROM, &RENDERED)?;
-        }
+        fail_all(&rt, &job, Device::Sources, &OPENED_AND_READ, &REST_READ)?;
+        fail_all(&rt, &job, Device::Output, &BEGUN, &REST_RENDERED)?;
     }
     Ok(())
 }
@@ -327,23 +240,16 @@ fn each_call_of_a_rendering_fails(rt: HostRuntime) -> Result<(), Fail> {
 #[test]
 fn each_call_of_a_rendering_that_goes_on_fails(rt: HostRuntime) -> Result<(), Fail> {
     let job = Job::half_done(rt.alloc())?;
-    for times in 1..4 {
-        fail_each(&rt, &job, times, &RESUMED_FROM, &RESUMED)?;
-    }
-    Ok(())
+    fail_all(&rt, &job, Device::Sources, &OPENED, &REST_READ)?;
+    fail_all(&rt, &job, Device::Output, &RESUMED, &REST_RENDERED)
 }
 
 #[test]
 fn each_call_of_a_consolidation_fails(rt: HostRuntime) -> Result<(), Fail> {
-    let by_events = Call::Schedule {
-        is_rendering: false,
-        rounds: 4,
-    };
-    for call in [Call::Consolidate, by_events] {
+    for call in [Call::Consolidate, CONSOLIDATED_BY_EVENTS] {
         let job = Job::new(rt.alloc(), call)?;
-        for times in 1..4 {
-            fail_each(&rt, &job, times, &CONSOLIDATED_FROM, &CONSOLIDATED)?;
-        }
+        fail_all(&rt, &job, Device::Sources, &HEARD, &FRAMES_READ)?;
+        fail_all(&rt, &job, Device::Output, &MEDIA, &LISTED)?;
     }
     Ok(())
 }
@@ -351,10 +257,8 @@ fn each_call_of_a_consolidation_fails(rt: HostRuntime) -> Result<(), Fail> {
 #[test]
 fn each_call_of_a_consolidation_with_a_report_fails(rt: HostRuntime) -> Result<(), Fail> {
     let job = Job::new(rt.alloc(), Call::Report)?;
-    for times in 1..4 {
-        fail_each(&rt, &job, times, &REPORTED_FROM, &REPORTED)?;
-    }
-    Ok(())
+    fail_all(&rt, &job, Device::Sources, &HEARD_TWICE, &FRAMES_READ)?;
+    fail_all(&rt, &job, Device::Output, &MEDIA, &REPORTED)
 }
 
 #[test]

@@ -6,8 +6,6 @@ mod failing_devices;
 #[cfg(test)]
 mod memory;
 #[cfg(test)]
-mod recorded;
-#[cfg(test)]
 mod resumed;
 #[cfg(test)]
 mod schedules;

@@ -1,6 +1,6 @@
 // Works that find memory for all, or else are refused. The tests of the built program run these again, with each
 // allocation failing in turn.
-use crate::works::{Call, Job};
+use crate::works::{CONSOLIDATED_BY_EVENTS, Job, RENDERED_BY_EVENTS};
 use consolidate::Fault;
 use std::test::Fail;
 
@@ -28,34 +28,25 @@ fn refusal(job: &Job) -> Result<Option<u8>, Fail> {
     }
 }
 
-#[test]
-fn a_rendering_by_events(rt: HostRuntime) -> Result<(), Fail> {
-    let call = Call::Schedule {
-        is_rendering: true,
-        rounds: 5,
-    };
-    if let Some(number) = refusal(&Job::new(rt.alloc(), call)?)? {
+/// Does a work, and prints the number of its refusal.
+fn tell(rt: &HostRuntime, job: &Job) -> Result<(), Fail> {
+    if let Some(number) = refusal(job)? {
         println!(rt; "refused {number}")?;
     }
     Ok(())
+}
+
+#[test]
+fn a_rendering_by_events(rt: HostRuntime) -> Result<(), Fail> {
+    tell(&rt, &Job::new(rt.alloc(), RENDERED_BY_EVENTS)?)
 }
 
 #[test]
 fn a_consolidation_by_events(rt: HostRuntime) -> Result<(), Fail> {
-    let call = Call::Schedule {
-        is_rendering: false,
-        rounds: 4,
-    };
-    if let Some(number) = refusal(&Job::new(rt.alloc(), call)?)? {
-        println!(rt; "refused {number}")?;
-    }
-    Ok(())
+    tell(&rt, &Job::new(rt.alloc(), CONSOLIDATED_BY_EVENTS)?)
 }
 
 #[test]
 fn a_rendering_that_goes_on(rt: HostRuntime) -> Result<(), Fail> {
-    if let Some(number) = refusal(&Job::half_done(rt.alloc())?)? {
-        println!(rt; "refused {number}")?;
-    }
-    Ok(())
+    tell(&rt, &Job::half_done(rt.alloc())?)
 }

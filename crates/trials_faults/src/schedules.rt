@@ -5,7 +5,7 @@ use std::alloc::{AllocError, Global};
 use std::test::Fail;
 
 /// The first job is taken back from the first worker, the second one delivers it, and the first does the others.
-const TAKEN_BACK: [BoardEvent; 13] = [
+pub(crate) const TAKEN_BACK: [BoardEvent; 13] = [
     BoardEvent::Give(1),
     BoardEvent::Reclaim(0),
     BoardEvent::Give(2),

@@ -1,10 +1,10 @@
 // Renderings that are stopped at each of their calls, and again once they are gone on with, until they are whole.
-use crate::recorded::Recorded;
-use crate::works::{Call, Job, MARKS, SOUND, bench_of};
+use crate::works::{Call, Job, MARKS, RENDERED_BY_EVENTS, SOUND, bench_of};
 use shelf::MemoryBench;
 use std::alloc::{AllocError, Global};
 use std::process::Abort;
 use std::test::Fail;
+use trials_projects::recorded::Recorded;
 
 /// More than the calls of the output of any of them.
 const MANY: u64 = 1_000;
@@ -202,15 +202,10 @@ impl Runs {
     }
 }
 
-const BY_EVENTS: Call = Call::Schedule {
-    is_rendering: true,
-    rounds: 5,
-};
-
 /// Stops the rendering of three blocks, by rounds and by events, at each call, and what goes on with it at each call
 /// again, with each of these left.
 fn sweep(rt: &impl Abort, alloc: Global, lefts: &[Left]) -> Result<(), Fail> {
-    for by in [Call::Render, BY_EVENTS] {
+    for by in [Call::Render, RENDERED_BY_EVENTS] {
         let mut runs = Runs::new(Job::new(alloc, by)?, 1)?;
         let calls = runs.stop_each(rt, by, lefts)?;
         // the files are made, and each block is written, synced, marked and synced

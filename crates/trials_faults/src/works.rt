@@ -1,7 +1,6 @@
 // Works over files in memory, each call of the product that does one, and the files that it has to leave.
 ghost use Rattle.rendering.specs.Rendering.{HaveChannels};
 
-use crate::recorded::Recorded;
 use consolidate::{
     BoardEvent, ConsolidateChoice, Depth, Fault, JobLength, Keeping, Options, Order, Progress,
     RenderChoice, ReportChoice, Resumed, Work, consolidate_watched, render_watched, resume_watched,
@@ -9,10 +8,11 @@ use consolidate::{
 };
 use passes::{DropSilent, JoinCuts, Pass, Regroup, SplitFades};
 use shelf::{Bench, MemoryBench, MemoryShelf, Shelf, Unwatched};
-use sound_terms::Bext;
 use std::alloc::{AllocError, Global};
 use std::test::Fail;
-use wavwrite::{SoundInfo, header};
+use trials_projects::lists::{FADED, list};
+use trials_projects::media::{LOUD, head_at, sample, silent_middle, sound};
+use trials_projects::recorded::Recorded;
 
 /// The frames of a rendering of three blocks.
 pub(crate) const FRAMES: u64 = 12_000;
@@ -24,57 +24,20 @@ pub(crate) const SOUND: &str = "render.wav";
 
 pub(crate) const MARKS: &str = "render.marks";
 
-/// A list with one entry, which plays all frames of `A.wav` where they stand, from midnight on.
-pub(crate) const THREE_BLOCKS: &[u8] = b"<ADL>
-<SEQUENCE>
-(SEQ_SAMPLE_RATE) S48000
-(SEQ_FRAME_RATE) 25
-</SEQUENCE>
-<SOURCE_INDEX>
-(Index) 1 (F) \"URL:file://localhost/A.wav\" _ 00.00.00.00/0000 _
-</SOURCE_INDEX>
-<EVENT_LIST>
-(Entry) 1 (Cut) I 1 1 1 00.00.00.00/0000 00.00.00.00/0000 00.00.00.06/0480
-</EVENT_LIST>
-</ADL>
+/// An entry that plays all frames of three blocks where they stand in `A.wav`, from midnight on.
+const THREE_BLOCKS: &str =
+    "(Entry) 1 (Cut) I 1 1 1 00.00.00.00/0000 00.00.00.00/0000 00.00.00.06/0480
 ";
 
 /// The frames of 200 blocks.
 const MANY_FRAMES: u64 = 819_200;
 
-/// A list with one entry, which plays as many frames so.
-const MANY_BLOCKS: &[u8] = b"<ADL>
-<SEQUENCE>
-(SEQ_SAMPLE_RATE) S48000
-(SEQ_FRAME_RATE) 25
-</SEQUENCE>
-<SOURCE_INDEX>
-(Index) 1 (F) \"URL:file://localhost/A.wav\" _ 00.00.00.00/0000 _
-</SOURCE_INDEX>
-<EVENT_LIST>
-(Entry) 1 (Cut) I 1 1 1 00.00.00.00/0000 00.00.00.00/0000 00.00.17.01/1280
-</EVENT_LIST>
-</ADL>
+/// An entry that plays as many frames so.
+const MANY_BLOCKS: &str =
+    "(Entry) 1 (Cut) I 1 1 1 00.00.00.00/0000 00.00.00.00/0000 00.00.17.01/1280
 ";
 
-/// A list with one entry, both of whose fades sound, and whose middle is silent.
-const SILENT_MIDDLE: &[u8] = b"<ADL>
-<SEQUENCE>
-(SEQ_SAMPLE_RATE) S48000
-(SEQ_FRAME_RATE) 25
-</SEQUENCE>
-<SOURCE_INDEX>
-(Index) 1 (F) \"URL:file://localhost/A.wav\" _ 00.00.00.00/0000 _
-</SOURCE_INDEX>
-<EVENT_LIST>
-(Entry) 1 (Cut) I 1 1~2 1~2 00.00.00.00/0000 00.00.00.00/0000 00.00.00.00/0012
-(Infade) 00.00.00.00/0004 LIN
-(Outfade) 00.00.00.00/0004 LIN
-</EVENT_LIST>
-</ADL>
-";
-
-/// What is left of it over two media.
+/// What is left over two media of an entry with a silent middle.
 pub(crate) const CONSOLIDATED: &[u8] = b"<ADL>\r
 <SEQUENCE>\r
 (SEQ_SAMPLE_RATE) S48000\r
@@ -137,57 +100,9 @@ const OUTPUTS: [&str; 8] = [
     "consolidated.adl",
 ];
 
-/// Four frames of two channels of which the second alone sounds.
-const LOUD: [u8; 16] = [0, 0, 100, 0, 0, 0, 100, 0, 0, 0, 100, 0, 0, 0, 100, 0];
-
-/// The header of a file whose first frame stands at this time.
-fn head_of(
-    alloc: Global,
-    channels: u8,
-    depth: Depth,
-    frames: u64,
-    time: u64,
-) -> Result<Vec<u8>, Fail> {
-    let bext = Bext {
-        text: [0; 338],
-        time_reference: time,
-    };
-    let texts = Vec::new(alloc);
-    let info = SoundInfo::new(channels, depth, frames, bext, texts).ok_or("no info")?;
-    Ok(header(alloc, &info)?)
-}
-
-/// The header of the three blocks.
-pub(crate) fn head(alloc: Global) -> Result<Vec<u8>, Fail> {
-    head_of(alloc, 1, Depth::Sixteen, FRAMES, 0)
-}
-
-/// A file of three blocks whose samples all differ: what is rendered of the list over it, too.
-pub(crate) fn three_blocks(alloc: Global) -> Result<Vec<u8>, Fail> {
-    let mut file = head(alloc)?;
-    for sample in 0..FRAMES as u16 {
-        file.extend_from_slice(&sample.to_le_bytes())?;
-    }
-    Ok(file)
-}
-
-/// The two bytes of a sample of 200 blocks. They come again after a prime number of samples.
-fn sample(place: u64) -> [u8; 2] {
-    ((place % 65_521) as u16).to_le_bytes()
-}
-
-/// A file of 200 blocks.
-fn many_blocks(alloc: Global) -> Result<Vec<u8>, Fail> {
-    let mut file = head_of(alloc, 1, Depth::Sixteen, MANY_FRAMES, 0)?;
-    for place in 0..MANY_FRAMES {
-        file.extend_from_slice(&sample(place))?;
-    }
-    Ok(file)
-}
-
-/// What is rendered of it: the first channel sounds.
+/// What is rendered of 200 blocks: the first channel sounds.
 fn many_rendered(alloc: Global) -> Result<Vec<u8>, Fail> {
-    let mut file = head_of(alloc, 2, Depth::TwentyFour, MANY_FRAMES, 0)?;
+    let mut file = head_at(alloc, 2, Depth::TwentyFour, MANY_FRAMES, 0)?;
     for place in 0..MANY_FRAMES {
         let [low, high] = sample(place);
         file.extend_from_slice(&[0, low, high, 0, 0, 0])?;
@@ -195,18 +110,9 @@ fn many_rendered(alloc: Global) -> Result<Vec<u8>, Fail> {
     Ok(file)
 }
 
-/// A file of 12 frames of two channels, whose middle is silent.
-fn silent_middle(alloc: Global) -> Result<Vec<u8>, Fail> {
-    let mut file = head_of(alloc, 2, Depth::Sixteen, 12, 0)?;
-    for frames in [LOUD, [0; 16], LOUD] {
-        file.extend_from_slice(&frames)?;
-    }
-    Ok(file)
-}
-
-/// The medium of its four frames from this one on.
+/// The medium of four sounding frames from this one on.
 fn medium(alloc: Global, first: u64) -> Result<Vec<u8>, Fail> {
-    let mut file = head_of(alloc, 2, Depth::Sixteen, 4, first)?;
+    let mut file = head_at(alloc, 2, Depth::Sixteen, 4, first)?;
     file.extend_from_slice(&LOUD)?;
     Ok(file)
 }
@@ -245,6 +151,17 @@ pub(crate) enum Call {
     Schedule { is_rendering: bool, rounds: usize },
 }
 
+/// A rendering, and a consolidation, by two rounds more than they have jobs.
+pub(crate) const RENDERED_BY_EVENTS: Call = Call::Schedule {
+    is_rendering: true,
+    rounds: 5,
+};
+
+pub(crate) const CONSOLIDATED_BY_EVENTS: Call = Call::Schedule {
+    is_rendering: false,
+    rounds: 4,
+};
+
 impl Call {
     fn is_rendering(self) -> bool {
         match self {
@@ -263,7 +180,7 @@ type Files = Vec<(&'static str, Vec<u8>)>;
 pub(crate) struct Job {
     pub(crate) alloc: Global,
     call: Call,
-    list: &'static [u8],
+    list: String,
     /// How many channels are rendered, two or one, and how deep.
     is_wide: bool,
     jobs: JobLength,
@@ -281,42 +198,47 @@ impl Job {
         if !call.is_rendering() {
             return Job::consolidation(alloc, call);
         }
-        let mut wanted = Vec::new(alloc);
-        wanted.push((SOUND, three_blocks(alloc)?))?;
-        Ok(Job {
-            alloc,
-            call,
-            list: THREE_BLOCKS,
-            is_wide: false,
-            jobs: JobLength::OneBlock,
-            depth: Depth::Sixteen,
-            source: three_blocks(alloc)?,
-            frames: FRAMES,
-            before: Vec::new(alloc),
-            wanted,
-        })
+        // what is rendered of it is the file itself
+        let source = sound(alloc, FRAMES)?;
+        let wanted = source.to_vec(alloc)?;
+        let mut job = Job::over(alloc, call, THREE_BLOCKS, source, FRAMES)?;
+        job.wanted.push((SOUND, wanted))?;
+        Ok(job)
     }
 
     fn consolidation(alloc: Global, call: Call) -> Result<Self, Fail> {
-        let mut wanted = Vec::new(alloc);
-        wanted.push(("M00001.wav", medium(alloc, 0)?))?;
-        wanted.push(("M00002.wav", medium(alloc, 8)?))?;
-        wanted.push(("consolidated.adl", CONSOLIDATED.to_vec(alloc)?))?;
+        let mut job = Job::over(alloc, call, FADED, silent_middle(alloc)?, 12)?;
+        job.wanted.push(("M00001.wav", medium(alloc, 0)?))?;
+        job.wanted.push(("M00002.wav", medium(alloc, 8)?))?;
+        job.wanted
+            .push(("consolidated.adl", CONSOLIDATED.to_vec(alloc)?))?;
         if call == Call::Report {
-            wanted.push(("consolidated.json", REPORT.to_vec(alloc)?))?;
-            wanted.push(("SHA256SUMS", SUMS.to_vec(alloc)?))?;
+            job.wanted
+                .push(("consolidated.json", REPORT.to_vec(alloc)?))?;
+            job.wanted.push(("SHA256SUMS", SUMS.to_vec(alloc)?))?;
         }
+        Ok(job)
+    }
+
+    /// A call over these entries and a source of so many frames, block by block at 16 bits, which leaves nothing so far.
+    fn over(
+        alloc: Global,
+        call: Call,
+        entries: &str,
+        source: Vec<u8>,
+        frames: u64,
+    ) -> Result<Self, AllocError> {
         Ok(Job {
             alloc,
             call,
-            list: SILENT_MIDDLE,
+            list: list(alloc, entries)?,
             is_wide: false,
             jobs: JobLength::OneBlock,
             depth: Depth::Sixteen,
-            source: silent_middle(alloc)?,
-            frames: 12,
+            source,
+            frames,
             before: Vec::new(alloc),
-            wanted,
+            wanted: Vec::new(alloc),
         })
     }
 
@@ -339,20 +261,13 @@ impl Job {
 
     /// The rendering of 200 blocks of two channels of 24 bits, in longer jobs, the first of which has 170 blocks.
     pub(crate) fn of_many_blocks(alloc: Global) -> Result<Self, Fail> {
-        let mut wanted = Vec::new(alloc);
-        wanted.push((SOUND, many_rendered(alloc)?))?;
-        Ok(Job {
-            alloc,
-            call: Call::Render,
-            list: MANY_BLOCKS,
-            is_wide: true,
-            jobs: JobLength::Longer,
-            depth: Depth::TwentyFour,
-            source: many_blocks(alloc)?,
-            frames: MANY_FRAMES,
-            before: Vec::new(alloc),
-            wanted,
-        })
+        let source = sound(alloc, MANY_FRAMES)?;
+        let mut job = Job::over(alloc, Call::Render, MANY_BLOCKS, source, MANY_FRAMES)?;
+        job.is_wide = true;
+        job.jobs = JobLength::Longer;
+        job.depth = Depth::TwentyFour;
+        job.wanted.push((SOUND, many_rendered(alloc)?))?;
+        Ok(job)
     }
 
     /// The sources, of whose calls so many fail behind so many.
@@ -412,7 +327,7 @@ impl Job {
     fn render<S: Shelf>(&self, shelf: &mut S, bench: &mut MemoryBench) -> Result<(), Fault> {
         match render_watched(
             self.alloc,
-            self.list,
+            self.list.as_bytes(),
             &self.choice(),
             shelf,
             bench,
@@ -431,7 +346,7 @@ impl Job {
     ) -> Result<Resumed, Fault> {
         match resume_watched(
             self.alloc,
-            self.list,
+            self.list.as_bytes(),
             &self.choice(),
             shelf,
             bench,
@@ -453,7 +368,8 @@ impl Job {
             keeping: Keeping { handle: 0, passes },
             report,
         };
-        match consolidate_watched(self.alloc, self.list, choice, shelf, bench, &mut Unwatched) {
+        let list = self.list.as_bytes();
+        match consolidate_watched(self.alloc, list, choice, shelf, bench, &mut Unwatched) {
             Ok(_) => Ok(()),
             Err(fault) => Err(fault),
         }
@@ -467,7 +383,7 @@ impl Job {
         bench: &mut MemoryBench,
     ) -> Result<Progress, Fault> {
         let options = self.options();
-        let list = self.list;
+        let list = self.list.as_bytes();
         let work = Work::Render { list, options };
         run_schedule(self.alloc, work, events, shelf, bench)
     }
@@ -480,7 +396,7 @@ impl Job {
         bench: &mut MemoryBench,
     ) -> Result<Progress, Fault> {
         let work = Work::Consolidate {
-            list: self.list,
+            list: self.list.as_bytes(),
             handle: 0,
             passes,
             order: Order::ByTime,

@@ -65,6 +65,13 @@ module _ {A : Type 0} (add : A → A → A) (none : A) (value : List Piece → A
       (λ own. refl) (λ p is. halves p is (total add none value (flat_map (flat_cut time) groups))) group
       ∙ ap (add (value group)) (total_cut time halves groups)
 
+  -- such a total is what it was
+  kept_total : (time : ℕ) → Halves time → (whole : List (List Piece) → A)
+      → ((groups : List (List Piece)) → whole groups ≡ total add none value groups)
+      → (groups : List (List Piece)) → whole (flat_map (flat_cut time) groups) ≡ whole groups
+  kept_total time halves whole is groups =
+      is (flat_map (flat_cut time) groups) ∙ total_cut time halves groups ∙ sym (is groups)
+
 -- a flat piece as its first n samples and the m behind them
 module _ (p : Piece) (n m : ℕ) (flat : p.shape ≡ Flat) (both : p.length ≡ n + m) where
   part_halves : (r : Reading) (channel time : ℕ) → part_of r p channel time
@@ -119,21 +126,18 @@ module _ (time : ℕ) where
   pub mix_cut : (r : Reading) (groups : List (List Piece)) (channel t : ℕ)
       → mix_of r (flat_map (flat_cut time) groups) channel t ≡ mix_of r groups channel t
   mix_cut r groups channel t =
-      mix_total r channel t (flat_map (flat_cut time) groups)
-      ∙ total_cut ◌+ℤ◌ (pos 0) (sum_at r channel t) time (mix_halves r channel t) groups
-      ∙ sym (mix_total r channel t groups)
+      kept_total ◌+ℤ◌ (pos 0) (sum_at r channel t) time (mix_halves r channel t) (λ all. mix_of r all channel t)
+      (mix_total r channel t) groups
 
   pub whole_cut : (groups : List (List Piece)) → are_whole (flat_map (flat_cut time) groups) ≡ are_whole groups
-  whole_cut groups =
-      whole_total (flat_map (flat_cut time) groups)
-      ∙ total_cut ◌&&◌ true (λ group. list_all is_whole group) time whole_halves groups ∙ sym (whole_total groups)
+  whole_cut =
+      kept_total ◌&&◌ true (λ group. list_all is_whole group) time whole_halves are_whole whole_total
 
   pub reads_cut : (groups : List (List Piece)) (file channel frame : ℕ)
       → reads (flat_map (flat_cut time) groups) file channel frame ≡ reads groups file channel frame
   reads_cut groups file channel frame =
-      reads_total file channel frame (flat_map (flat_cut time) groups)
-      ∙ total_cut ◌||◌ false (read_by file channel frame) time (read_halves_by file channel frame) groups
-      ∙ sym (reads_total file channel frame groups)
+      kept_total ◌||◌ false (read_by file channel frame) time (read_halves_by file channel frame)
+      (λ all. reads all file channel frame) (reads_total file channel frame) groups
 
   pub groups_cut : (groups : List (List Piece)) → All IsGroup groups → All IsGroup (flat_map (flat_cut time) groups)
   groups_cut groups all =

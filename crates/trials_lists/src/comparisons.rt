@@ -1,16 +1,16 @@
 // Comparisons of two lists, each over a file in memory.
 ghost use Rattle.comparison.specs.Range.{HasChannels};
 
-use crate::lists::list;
 use comparison::differing_in;
 use consolidate::{CompareFault, Comparison, Selection, compare};
 use opening::open_project;
 use sampletime::SampleTime;
 use shelf::{MemoryShelf, Unwatched};
-use sound_terms::{Bext, Depth};
+use sound_terms::Depth;
 use std::alloc::Global;
 use std::test::Fail;
-use wavwrite::{SoundInfo, header};
+use trials_projects::lists::list;
+use trials_projects::media::head_at;
 
 /// No entry.
 const NONE: &str = "";
@@ -28,12 +28,7 @@ const LAYERS: &str = "(Entry) 1 (Cut) I 1 1 1 00.00.00.00/0000 00.00.00.00/0000 
 
 /// A file of 32 bits with one channel and four frames: two that cancel, one that is zero, and this one.
 fn sound(alloc: Global, last: i32) -> Result<Vec<u8>, Fail> {
-    let bext = Bext {
-        text: [0; 338],
-        time_reference: 0,
-    };
-    let info = SoundInfo::new(1, Depth::ThirtyTwo, 4, bext, Vec::new(alloc)).ok_or("no info")?;
-    let mut file = header(alloc, &info)?;
+    let mut file = head_at(alloc, 1, Depth::ThirtyTwo, 4, 0)?;
     for sample in [5, -5, 0, last] {
         file.extend_from_slice(&sample.to_le_bytes())?;
     }

@@ -1,6 +1,5 @@
 // Consolidations of files in memory, by lists of passes.
 use crate::flat_cut::FlatCut;
-use crate::lists::{head, list};
 use adlmodel::Project;
 use adlread::read;
 use consolidate::{Written, consolidate};
@@ -8,24 +7,8 @@ use passes::{DropSilent, JoinCuts, Pass, Regroup, SplitFades};
 use shelf::{MemoryBench, MemoryShelf};
 use std::alloc::{AllocError, Global};
 use std::test::Fail;
-
-/// An entry of 12 samples with both fades of four.
-const ENTRY: &str = "(Entry) 1 (Cut) I 1 1~2 1~2 00.00.00.00/0000 00.00.00.00/0000 00.00.00.00/0012
-(Infade) 00.00.00.00/0004 LIN
-(Outfade) 00.00.00.00/0004 LIN
-";
-
-/// Four frames whose right channel sounds.
-const LOUD: [u8; 16] = [0, 0, 100, 0, 0, 0, 100, 0, 0, 0, 100, 0, 0, 0, 100, 0];
-
-/// A stereo file of 12 frames, of which the first four and the last four sound.
-fn silent_middle(alloc: Global) -> Result<Vec<u8>, Fail> {
-    let mut file = head(alloc, 2, 12)?;
-    for frames in [LOUD, [0; 16], LOUD] {
-        file.extend_from_slice(&frames)?;
-    }
-    Ok(file)
-}
+use trials_projects::lists::{FADED, list};
+use trials_projects::media::{head, silent_middle};
 
 /// Adds the pass of a letter.
 fn push_pass(alloc: Global, letter: u8, passes: &mut Vec<Box<dyn Pass>>) -> Result<(), AllocError> {
@@ -51,7 +34,7 @@ fn passes_of(alloc: Global, letters: &[u8]) -> Result<Vec<Box<dyn Pass>>, AllocE
 /// Consolidates the entry without handles, by these passes.
 fn written(alloc: Global, letters: &[u8], bench: &mut MemoryBench) -> Result<Written, Fail> {
     let mut shelf = MemoryShelf::new(alloc).with_file("A.wav", silent_middle(alloc)?.as_slice())?;
-    let text = list(alloc, ENTRY)?;
+    let text = list(alloc, FADED)?;
     let passes = passes_of(alloc, letters)?;
     Ok(consolidate(alloc, text.as_bytes(), 0, passes, &mut shelf, bench)?)
 }

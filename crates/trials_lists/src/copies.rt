@@ -5,6 +5,7 @@ use adlwrite::{text_of, write};
 use shelf::{Bench, MemoryBench};
 use std::alloc::{AllocError, Global};
 use std::test::Fail;
+use trials_projects::lists::list_of;
 
 /// The name of a list.
 const LIST: &str = "copy.adl";
@@ -37,21 +38,14 @@ const WRITTEN: &str = "<ADL>\r
 </ADL>\r
 ";
 
-/// Two indexes of one file, and an entry of each.
-const SHARED_FILE: &str = "<ADL>
-<SEQUENCE>
-(SEQ_SAMPLE_RATE) S48000
-(SEQ_FRAME_RATE) 25
-</SEQUENCE>
-<SOURCE_INDEX>
-(Index) 1 (F) \"URL:file://localhost/A.wav\" _ 00.00.00.00/0000 _
+/// Two indexes of one file.
+const SHARED_FILE: &str = "(Index) 1 (F) \"URL:file://localhost/A.wav\" _ 00.00.00.00/0000 _
 (Index) 2 (F) \"URL:file://localhost/A.wav\" _ 01.00.00.00/0000 _
-</SOURCE_INDEX>
-<EVENT_LIST>
-(Entry) 1 (Cut) I 1 1 1 00.00.00.00/0100 01.00.00.00/0000 01.00.00.00/0200
+";
+
+/// An entry of each.
+const OF_EACH: &str = "(Entry) 1 (Cut) I 1 1 1 00.00.00.00/0100 01.00.00.00/0000 01.00.00.00/0200
 (Entry) 2 (Cut) I 2 1 1 01.00.00.00/0200 02.00.00.00/0000 02.00.00.00/0200
-</EVENT_LIST>
-</ADL>
 ";
 
 /// The list of a project as `write` leaves it on a bench.
@@ -71,7 +65,8 @@ fn made_anew(alloc: Global, project: &Project) -> Result<Project, AllocError> {
 
 #[test]
 fn a_copy_and_a_project_of_the_same_parts_are_the_same_list(rt: HostRuntime) -> Result<(), Fail> {
-    for text in [WRITTEN, SHARED_FILE] {
+    let shared = list_of(rt.alloc(), SHARED_FILE, OF_EACH)?;
+    for text in [WRITTEN, shared.as_str()] {
         let project = read(rt.alloc(), text.as_bytes())?;
         let given = written(rt.alloc(), &project)?;
         for other in [project.try_copy()?, made_anew(rt.alloc(), &project)?] {

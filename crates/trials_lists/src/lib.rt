@@ -11,8 +11,6 @@ mod copies;
 #[cfg(test)]
 mod flat_cut;
 #[cfg(test)]
-mod lists;
-#[cfg(test)]
 mod media_schedules;
 #[cfg(test)]
 mod orders;

@@ -1,13 +1,14 @@
 // Works whose jobs go by time and by source.
 ghost use Rattle.rendering.specs.Rendering.{HaveChannels};
 
-use crate::lists::{head, list};
 use crate::schedules::round;
 use consolidate::{Depth, Options, Order, Work, run_schedule};
 use sampletime::SampleTime;
 use shelf::{MemoryBench, MemoryShelf};
 use std::alloc::Global;
 use std::test::Fail;
+use trials_projects::lists::list;
+use trials_projects::media::head;
 
 /// The frames of a block.
 const BLOCK: usize = 4_096;

@@ -1,5 +1,4 @@
 // Renderings and consolidations by the events of any number of workers, over files in memory.
-use crate::lists::{list, sound};
 use consolidate::{
     BoardEvent, Depth, Fault, Options, Order, Progress, Work, consolidate, render, run_schedule,
 };
@@ -7,6 +6,8 @@ use shelf::{MemoryBench, MemoryShelf};
 use std::alloc::{AllocError, Global};
 use std::process::Abort;
 use std::test::Fail;
+use trials_projects::lists::list;
+use trials_projects::media::sound;
 
 /// An entry of 8,193 frames of one channel: its rendering has three blocks, each a job.
 const ENTRY: &str = "(Entry) 1 (Cut) I 1 1 1 00.00.00.00/0000 00.00.00.00/0000 00.00.00.04/0513
