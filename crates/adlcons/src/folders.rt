@@ -1,5 +1,5 @@
 // The program over the file system.
-ghost use Rattle.std.specs.Prelude.{◌≡◌, ◌≢◌, ◌≤◌, ◌⊎◌, ◌++◌, ◌∷◌, [], ℕ, Bool, List, None, Some, Err, Ok, true, false, IfOk, OnErr, OnOk};
+ghost use Rattle.std.specs.Prelude.{◌≡◌, ◌≢◌, ◌≤◌, ◌⊎◌, ◌++◌, ◌∷◌, [], ℕ, List, None, Some, Err, Ok, true, false, IfOk, OnErr, OnOk};
 ghost use Rattle.clap.specs.Walk.{Text, texts};
 ghost use Rattle.consolidate.specs.Commands.{IsConsolidation};
 ghost use Rattle.commandline.specs.declared.choice.MediaReport as choice;

@@ -71,20 +71,18 @@ pub fn report_difference<E: Console>(
     let one = read(alloc, lists.first).ok();
     let other = read(alloc, lists.second).ok();
     let (one, other) = (events_of(&one), events_of(&other));
-    let sample = SampleOfList {
-        list: ListOfTwo::First,
-        at,
-        channel,
-        sum: first,
-    };
-    report_sample(sample, one, err);
-    let sample = SampleOfList {
-        list: ListOfTwo::Second,
-        at,
-        channel,
-        sum: second,
-    };
-    report_sample(sample, other, err);
+    for (list, sum, events) in [
+        (ListOfTwo::First, first, one),
+        (ListOfTwo::Second, second, other),
+    ] {
+        let sample = SampleOfList {
+            list,
+            at,
+            channel,
+            sum,
+        };
+        report_sample(sample, events, err);
+    }
     if let Some(from) = selection.from.or(first_in(one, other)) {
         err.print_line(Agreement {
             from,
