@@ -222,7 +222,7 @@ def broken_append(scene: Scene) -> None:
     """What is appended behind an append that broke off for want of room stands behind what was written of that."""
     if not TRIALS.exists():
         raise Skipped("the tests of trials_stores aren't built (rt test in its folder)")
-    words = [TRIALS, "folders::appends_go_on_behind_what_is_there"]
+    words = [TRIALS, "tests::folders::appends_go_on_behind_what_is_there"]
     for room, told in (
         ("6", b"3 of 4 calls: [1, 2, 3, 4, 5, 6, 9]"), ("99", b"4 of 4 calls: [1, 2, 3, 4, 5, 6, 7, 8, 9]"),
     ):

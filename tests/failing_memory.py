@@ -180,7 +180,7 @@ def each_allocation_of_test(name: str, met: set):
         for fails in count(1):
             log.unlink(missing_ok=True)
             got = subprocess.run(
-                [TRIALS, f"memory::{name}"], cwd=scene.folder, env={**environment, "ALLOC_FAILS": str(fails)},
+                [TRIALS, f"tests::memory::{name}"], cwd=scene.folder, env={**environment, "ALLOC_FAILS": str(fails)},
                 capture_output=True, timeout=TIMEOUT)
             if got.returncode != 0 and not got.stderr.startswith((b"error: Alloc", b"error: Memory\n")):
                 raise Mismatch(f"allocation {fails} failed: {got.stdout!r} and {got.stderr!r}")

@@ -23,8 +23,8 @@ use Rattle.answers.specs.Times.{selection_of}
 use Rattle.checkreport.specs.Reported.{PrintsUnread}
 use Rattle.adlcons.specs.declared.folders.OpenFault.{OpenFault}
 use Rattle.adlcons.specs.declared.folders.OpenFault.TheVariants as opened
-use Rattle.adlcons.specs.declared.reading.ReadFault.{ReadFault}
-use Rattle.adlcons.specs.declared.reading.ReadFault.TheVariants.{Unreadable, Endless, Memory}
+use Rattle.adlcons.specs.declared.list_file.ReadFault.{ReadFault}
+use Rattle.adlcons.specs.declared.list_file.ReadFault.TheVariants.{Unreadable, Endless, Memory}
 
 abbrev early : ℕ → Where → Refusal
 early number place = record { number = number; location = place; late = false }

@@ -10,7 +10,7 @@ ghost use Rattle.console.specs.Lines.{refusal_text};
 ghost use Rattle.console.specs.Places.{where_of};
 ghost use Rattle.console.specs.Printing.{Prints};
 ghost use Rattle.sound_terms.specs.Passes.{standard_groups};
-ghost use Rattle.rendering.specs.declared.cutting.JobLength.TheVariants.{Longer};
+ghost use Rattle.rendering.specs.declared.job_length.JobLength.TheVariants.{Longer};
 ghost use Rattle.answers.specs.Answers.{RendersBy, ResumesBy, asking, rendered_lines, resumed_lines, written_lines};
 ghost use Rattle.list_terms.specs.Text.{rate_of};
 ghost use Rattle.answers.specs.Answers.{MayBeMistaken};
@@ -19,18 +19,18 @@ ghost use Rattle.adlcons.specs.Openings.{CantBeDone, ChecksFolder, ComparesFolde
 ghost use Rattle.shelf.specs.declared.Overwrite.TheVariants as overwrite;
 
 use crate::asides::{FolderAsides, listed};
-use crate::comparing::compare_folders;
 use crate::head::{changed_position, report_change};
+use crate::list_file::{ReadFault, read_list};
 use crate::looks::{report_folder, show_folder};
 use crate::media::{Manner, open_media, report_found};
 use crate::meter::{Progress, WorkMeter};
 use crate::newer::{newer_sources, report_newer};
 use crate::output::{HeldFolder, Lock, hold_folder, require_ready_folder, require_unshared};
-use crate::reading::{ReadFault, read_list};
 use crate::room::report_room;
 use crate::session::Session;
 use crate::sources::ShownShelf;
-use crate::verifying::verify_in_folders;
+use crate::two_lists::compare_folders;
+use crate::verification::verify_in_folders;
 use answers::{
     Command, Drawing, MISTAKE, REFUSED, Terminal, answer_error, answer_request, answer_standard,
     can_be_timed, explain, explain_notice, tell_further,

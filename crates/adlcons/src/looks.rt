@@ -8,9 +8,9 @@ ghost use Rattle.adlcons.specs.Openings.{IsReportUnread, ReportsFolder};
 
 use crate::asides::FolderAsides;
 use crate::folders::{keep_unread, tell_all_further, tell_unlisted, unlisted_reason};
+use crate::list_file::{ReadFault, read_list};
 use crate::media::report_found;
 use crate::meter::{Progress, WorkMeter};
-use crate::reading::{ReadFault, read_list};
 use crate::session::Session;
 use crate::sources::ShownShelf;
 use answers::{

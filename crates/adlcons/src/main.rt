@@ -3,21 +3,21 @@
 #![tactic(auto)]
 
 mod asides;
-mod comparing;
 mod example;
 mod folders;
 mod head;
+mod list_file;
 mod looks;
 mod media;
 mod meter;
 mod newer;
 mod output;
-mod reading;
 mod room;
 mod session;
 mod sources;
 mod stored;
-mod verifying;
+mod two_lists;
+mod verification;
 
 use anyhow::Result;
 use console::Printer;

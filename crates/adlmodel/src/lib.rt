@@ -6,6 +6,7 @@ mod bytes;
 mod header;
 mod place;
 mod project;
+mod reach;
 mod source;
 mod sources;
 

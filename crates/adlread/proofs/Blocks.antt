@@ -22,7 +22,7 @@ use Rattle.list_terms.specs.WholeProject.{both_rates, lines_of_section, no_rates
 use Rattle.adlread.specs.CutLines.{NumberedLine, is_empty, with_numbers, texts}
 use Rattle.adlread.specs.Spells.{AreBlocks, BlankBlock, Block, NoBlocks, SectionBlock, Spells, SpellsAtRate, Titled, lines_of_block}
 use Rattle.adlread.proofs.FieldLaws.{ok_same}
-use Rattle.adlread.proofs.Fits.{Continues, EventsFit, Fits, IndexFits, IsCounted, IsSound, section_walked}
+use Rattle.adlread.proofs.Fits.{Continues, EventsFit, Fits, IndexFits, IsCounted, IsSound, continued, section_walked}
 use Rattle.adlread.proofs.LineLaws.{lines_are_cut}
 use Rattle.adlread.proofs.SettingLines.{rates_read, settings_read}
 use Rattle.adlread.proofs.Stages.{outside_of, read_all, read_from-all, read_inside, read_last, read_step}
@@ -225,13 +225,7 @@ module _ (rate : ℕ) where
       } in
       let first = outside_of nothing_read in
       let fits : Fits rate first h.blocks p = record {
-        header = record {
-          version = h.header.version;
-          project = h.header.project;
-          system = h.header.system;
-          sequence = h.header.sequence;
-          track_list = h.header.track_list;
-        };
+        header = continued h.header.version h.header.project h.header.system h.header.sequence h.header.track_list;
         index = (refl, (h.index.part, (h.index.once, h.index.lines)));
         events = (
           refl,

@@ -75,6 +75,46 @@ none_told : (fade : Option ℕ) → IsFree fade true → fade ≡ None
 none_told None h = refl
 none_told (Some fade) h = absurd (cc)
 
+-- the same lines told this of the entry before the first of them
+abbrev with_told :
+    {c : Context} {events : List Event} (entry new : OpenEntry) {separators : List ℕ} {next : Context}
+    (r : AreTold c events new separators next) (rise fall : Option ℕ)
+    → IsFree rise entry.has_rise × IsFree fall entry.has_fall
+    → faded new.event r.rise r.fall ≡ faded entry.event rise fall → AreTold c events entry separators next
+with_told {events = events} entry new r rise fall free same = record {
+  rise = rise;
+  fall = fall;
+  entries = r.entries;
+  free_rise = free.0;
+  free_fall = free.1;
+  last = r.last;
+  is = r.is;
+  all_are = r.all_are ∙ ap (λ e. events ++ e ∷ events_of r.entries) same;
+  separators_are = r.separators_are;
+}
+
+-- the line of this keyword tells a fade, once
+record TellsFade (rate : ℕ) (entry : OpenEntry) (name : List ℕ) (with : ℕ → OpenEntry) (told : Bool) : Type 0 where
+  other : (token : TokenText) → is_keyword name token ≡ true → is_keyword (codes "Entry") token ≡ false
+  form : (token : TokenText) → is_keyword name token ≡ true
+      → entry_with rate entry token ≡ Unless told RepeatedFade (mapped with (fade_fields rate))
+
+tells_rise :
+    (rate : ℕ) (entry : OpenEntry) → TellsFade rate entry (codes "Infade") (with_rise entry) entry.has_rise
+unfolding entry_with
+tells_rise rate entry = record {
+  other = λ token is. other_keyword (codes "Infade") (codes "Entry") token refl is;
+  form = λ token is. rw is refl;
+}
+
+tells_fall :
+    (rate : ℕ) (entry : OpenEntry) → TellsFade rate entry (codes "Outfade") (with_fall entry) entry.has_fall
+unfolding entry_with
+tells_fall rate entry = record {
+  other = λ token is. other_keyword (codes "Outfade") (codes "Entry") token refl is;
+  form = λ token is. rw (other_keyword (codes "Outfade") (codes "Infade") token refl is, is) refl;
+}
+
 module _ (rate : ℕ) where
   -- ---- one line as it is read
 
@@ -156,34 +196,18 @@ module _ (rate : ℕ) where
                 (all_cut (λ t. is_zero t.content) (length f.rest) f.rest tokens (omega arith) f.cut zeros),
           ) refl)
 
-      rise_read :
-          (fade : ℕ) → SpellsLine (fade_line rate (codes "Infade")) text fade → entry.has_rise ≡ false
-          → Tells (with_rise entry fade)
-      unfolding further_line entry_with
-      rise_read fade h free =
-          let f = is_named (codes "Infade") (fade_fields rate) text fade h in
-          further_read f.rest f.keyword (behind events entry separators)
-          (behind events (with_rise entry fade) separators) h.cut.untagged f.at
-          (other_keyword (codes "Infade") (codes "Entry") f.keyword refl f.is)
+      -- a fade that wasn't told, by the line of its keyword
+      fade_read :
+          {name : List ℕ} {with : ℕ → OpenEntry} {told : Bool} → TellsFade rate entry name with told → (fade : ℕ)
+          → SpellsLine (fade_line rate name) text fade → told ≡ false → Tells (with fade)
+      unfolding further_line
+      fade_read {name} {with} {told} tells fade h free =
+          let f = is_named name (fade_fields rate) text fade h in
+          further_read f.rest f.keyword (behind events entry separators) (behind events (with fade) separators)
+          h.cut.untagged f.at (tells.other f.keyword f.is)
           (rw (
-            f.is,
-            told_read (with_rise entry) entry.has_rise RepeatedFade (fade_fields rate) f.rest fade free
-                f.says,
-          ) refl)
-
-      fall_read :
-          (fade : ℕ) → SpellsLine (fade_line rate (codes "Outfade")) text fade → entry.has_fall ≡ false
-          → Tells (with_fall entry fade)
-      unfolding further_line entry_with
-      fall_read fade h free =
-          let f = is_named (codes "Outfade") (fade_fields rate) text fade h in
-          further_read f.rest f.keyword (behind events entry separators)
-          (behind events (with_fall entry fade) separators) h.cut.untagged f.at
-          (other_keyword (codes "Outfade") (codes "Entry") f.keyword refl f.is)
-          (rw (
-            other_keyword (codes "Outfade") (codes "Infade") f.keyword refl f.is,
-            f.is,
-            told_read (with_fall entry) entry.has_fall RepeatedFade (fade_fields rate) f.rest fade free f.says,
+            tells.form f.keyword f.is,
+            told_read with told RepeatedFade (fade_fields rate) f.rest fade free f.says,
           ) refl)
 
   -- ---- all lines, as they are read
@@ -228,11 +252,11 @@ module _ (rate : ℕ) where
       (read_behind others c events entry separators r f distinct)
   read_behind (RiseLine line fade {lines} {fall} {entries} h others) c events entry separators r f distinct =
       one_more line lines c (behind events entry separators) (behind events (with_rise entry fade) separators) _ _
-      (rise_read c line.number line.text events entry separators fade h r)
+      (fade_read c line.number line.text events entry separators (tells_rise rate entry) fade h r)
       (read_behind others c events (with_rise entry fade) separators tt f distinct)
   read_behind (FallLine line fade {lines} {rise} {entries} h others) c events entry separators r f distinct =
       one_more line lines c (behind events entry separators) (behind events (with_fall entry fade) separators) _ _
-      (fall_read c line.number line.text events entry separators fade h f)
+      (fade_read c line.number line.text events entry separators (tells_fall rate entry) fade h f)
       (read_behind others c events (with_fall entry fade) separators r tt distinct)
   read_behind (NextEntry line g {lines} {rise} {fall} {entries} h others) c events entry separators r f distinct =
       let front = events ++ entry.event ∷ [] in
@@ -365,34 +389,14 @@ module _ (rate : ℕ) where
   with_further line lines c events entry new separators next (Gain h) (r, spells) = (r, GainLine line h spells)
   with_further line lines c events entry new separators next (Rise fade h free) (r, spells) =
       let none = none_told r.rise r.free_rise in (
-        record {
-          rise = Some fade;
-          fall = r.fall;
-          entries = r.entries;
-          free_rise = free;
-          free_fall = r.free_fall;
-          last = r.last;
-          is = r.is;
-          all_are =
-              r.all_are ∙ ap (λ rise. events ++ faded (with_rise entry fade).event rise r.fall ∷ events_of r.entries) none;
-          separators_are = r.separators_are;
-        },
+        with_told entry (with_rise entry fade) r (Some fade) r.fall (free, r.free_fall)
+            (ap (λ rise. faded (with_rise entry fade).event rise r.fall) none),
         RiseLine line fade h (subst (λ rise. SpellsBehind rate lines rise r.fall r.entries) none spells),
       )
   with_further line lines c events entry new separators next (Fall fade h free) (r, spells) =
       let none = none_told r.fall r.free_fall in (
-        record {
-          rise = r.rise;
-          fall = Some fade;
-          entries = r.entries;
-          free_rise = r.free_rise;
-          free_fall = free;
-          last = r.last;
-          is = r.is;
-          all_are =
-              r.all_are ∙ ap (λ fall. events ++ faded (with_fall entry fade).event r.rise fall ∷ events_of r.entries) none;
-          separators_are = r.separators_are;
-        },
+        with_told entry (with_fall entry fade) r r.rise (Some fade) (r.free_rise, free)
+            (ap (λ fall. faded (with_fall entry fade).event r.rise fall) none),
         FallLine line fade h (subst (λ fall. SpellsBehind rate lines r.rise fall r.entries) none spells),
       )
 

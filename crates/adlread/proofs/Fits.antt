@@ -104,7 +104,7 @@ pub record IsHeaderPart (s : Section) : Type 0 where
       → HeaderFits (put_lines s (Some (texts part.content)) now) blocks all
       → HeaderFits now (Titled (record part { meaning = s }) ∷ blocks) all
 
-continued :
+pub continued :
     {now all : Header} {v p s q t : List (List (List ℕ))} → Continues now.version v all.version
     → Continues now.project p all.project → Continues now.system s all.system → Continues now.sequence q all.sequence
     → Continues now.track_list t all.track_list → IsContinued now v p s q t all

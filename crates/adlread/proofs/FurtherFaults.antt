@@ -87,17 +87,20 @@ passed-cut (Some t) (Text f location stood) new rate c n m line lines further co
 
 -- that ends none of them
 pub passed-alone :
-    (fault : AdlFault) (rate : ℕ) (c : Context) (n m k : ℕ) (b : Bool) (line : List ℕ) (lines : List (List ℕ))
-    (further : List Refusal) (complete : Bool) → n + 1 ≡ m → is_of_one_line fault ≡ true
-    → Reads {X = Unit {0}} (λ _. c) (Err fault) (with_line rate c m line)
-    → AreFaults rate c n (line ∷ left k b m lines) further complete
+    (f : Faults) (fault : AdlFault) (n m : ℕ) (line : List ℕ) (further : List Refusal) (complete : Bool) → n + 1 ≡ m
+    → is_of_one_line fault ≡ true
+    → Reads {X = Unit {0}} (λ _. context_of f.draft) (Err fault)
+    (with_line (frames_per_second f.rate) (context_of f.draft) m line)
+    → AreFaults (frames_per_second f.rate) (context_of f.draft) n
+    (line ∷ left f.first f.is_in_faulty_entry m f.lines.lines) further complete
     → (others : List Refusal) × (further ≡ refusal fault ∷ others)
-    × ((next : Context) → with_line rate c m [] ≡ Ok next
-    → AreFaults rate next m (left k (b || opens_entry line) m lines) others complete)
-passed-alone Memory rate c n m k b line lines further complete at own reads are =
-    absurd (let no : false ≡ true = own in cc)
-passed-alone (Text f location stood) rate c n m k b line lines further complete at own reads are =
-    AreFaults-emptied rate c n m k b line lines (record { fault = f; location = location }) at reads own are
+    × ((next : Context) → with_line (frames_per_second f.rate) (context_of f.draft) m [] ≡ Ok next
+    → AreFaults (frames_per_second f.rate) next m
+    (left f.first (f.is_in_faulty_entry || opens_entry line) m f.lines.lines) others complete)
+passed-alone f Memory n m line further complete at own reads are = absurd (let no : false ≡ true = own in cc)
+passed-alone f (Text fault location stood) n m line further complete at own reads are =
+    AreFaults-emptied (frames_per_second f.rate) (context_of f.draft) n m f.first f.is_in_faulty_entry line
+    f.lines.lines (record { fault = fault; location = location }) at reads own are
 
 pub emptied-left :
     (new : Faults) (further : List Refusal) (complete : Bool) (m : ℕ) (b opens : Bool) (line : List ℕ)

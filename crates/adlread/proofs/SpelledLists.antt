@@ -17,10 +17,10 @@ use Rattle.adlread.specs.CutLines.{NumberedLine, is_empty, with_numbers, texts}
 use Rattle.adlread.specs.Spells.{AreBlocks, Blank, BlankBlock, Block, NoBlocks, SectionBlock, SectionText, Spells, SpellsAtRate, Titled, lines_of_block, one_or_none}
 use Rattle.adlread.proofs.Blocks.{before_line_is, outside_line_is}
 use Rattle.adlread.proofs.FieldLaws.{chain, err_map_ok, ok_same, unless_ok}
-use Rattle.adlread.proofs.Fits.{EventsFit, Fits, IndexFits, titled}
+use Rattle.adlread.proofs.Fits.{EventsFit, Fits, IndexFits, continued, titled}
 use Rattle.adlread.proofs.LineLaws.{has_lines}
 use Rattle.adlread.proofs.SettingLines.{rates_are, settings_are}
-use Rattle.adlread.proofs.Stages.{goes_on, read_on, outside_of, read_all, read_from-all, section_is_read, stays_inside}
+use Rattle.adlread.proofs.Stages.{Parted, at_first, goes_on, one_before, read_on, outside_of, read_all, read_from-all, section_is_read, stays_inside}
 use Rattle.adlread.proofs.WalkedSections.{IsFresh, IsWalkedOver, walked_over}
 
 -- ---- the end of a list
@@ -33,9 +33,8 @@ all_there false b c h = absurd (cc)
 
 -- the rest of a section and what is behind it, in fewer lines
 shorter :
-    (content rest lines : List NumberedLine) (end : NumberedLine) (fuel : ℕ) → lines ≡ content ++ (end ∷ rest)
-    → length lines ≤ fuel → length rest ≤ fuel
-shorter content rest lines end fuel e short = omega (arith, ap length e, length-append content (end ∷ rest))
+    (lines : List NumberedLine) (c : Parted lines) (fuel : ℕ) → length lines ≤ fuel → length c.after ≤ fuel
+shorter lines c fuel short = omega (arith, ap length c.are, length-append c.before (c.line ∷ c.after))
 
 module _ (rate : ℕ) where
   end_is_read : (c : Context) (p : ListProject) (n : ℕ) → finished rate (record c { stage = stage.Behind }) n ≡ Ok p
@@ -49,13 +48,9 @@ module _ (rate : ℕ) where
       let both = all_there (is_some c.header.lines.sequence) c.has_index c.has_events there.0 in
       let same : project_of rate c ≡ p = ok_same _ _ told.1 in
       let known : Fits rate c [] (project_of rate c) = record {
-        header = record {
-          version = append-nil (one_or_none c.header.lines.version);
-          project = append-nil (one_or_none c.header.lines.project);
-          system = append-nil (one_or_none c.header.lines.system);
-          sequence = append-nil (one_or_none c.header.lines.sequence);
-          track_list = append-nil (one_or_none c.header.lines.track_list);
-        };
+        header = continued (append-nil (one_or_none c.header.lines.version))
+            (append-nil (one_or_none c.header.lines.project)) (append-nil (one_or_none c.header.lines.system))
+            (append-nil (one_or_none c.header.lines.sequence)) (append-nil (one_or_none c.header.lines.track_list));
         index = subst (λ has. IndexFits rate has c.sources [] c.sources) (sym both.0) (refl, refl);
         events =
             subst (λ has. EventsFit rate has c.entries [] (all_events c.entries.events c.entries.entry)
@@ -68,11 +63,10 @@ module _ (rate : ℕ) where
 
   record IsBody (c : Context) (lines : List NumberedLine) (p : ListProject) : Type 0 where
     blocks : List Block
-    end : NumberedLine
-    behind : List NumberedLine
-    lines_are : lines ≡ flat_map lines_of_block blocks ++ (end ∷ behind)
+    cut : Parted lines
+    before_are : cut.before ≡ flat_map lines_of_block blocks
     are : AreBlocks blocks
-    ends : is_end (codes "ADL") (trimmed end.text) ≡ true
+    ends : is_end (codes "ADL") (trimmed cut.line.text) ≡ true
     fits : Fits rate c blocks p
     same_rate : p.rate ≡ rate
 
@@ -81,9 +75,8 @@ module _ (rate : ℕ) where
       → IsBody c lines p → IsBody c (line ∷ lines) p
   with_blank c line lines p empty r = record {
     blocks = Blank line ∷ r.blocks;
-    end = r.end;
-    behind = r.behind;
-    lines_are = ap (λ ls. line ∷ ls) r.lines_are;
+    cut = one_before line r.cut;
+    before_are = ap (λ ls. line ∷ ls) r.before_are;
     are = BlankBlock line empty r.are;
     ends = r.ends;
     fits = record { header = r.fits.header; index = r.fits.index; events = r.fits.events; notices = r.fits.notices };
@@ -102,12 +95,16 @@ module _ (rate : ℕ) where
       let s : SectionText = record part { meaning = section_of part.name; notices = f.0 } in
       record {
         blocks = Titled s ∷ r.blocks;
-        end = r.end;
-        behind = r.behind;
-        lines_are = ap (λ ls. part.opening ∷ (part.content ++ (part.ending ∷ ls))) r.lines_are
-            ∙ sym (ap (λ ls. part.opening ∷ ls)
-            (append_assoc (part.content ++ (part.ending ∷ [])) (flat_map lines_of_block r.blocks) (r.end ∷ r.behind)
-            ∙ append_assoc part.content (part.ending ∷ []) (flat_map lines_of_block r.blocks ++ (r.end ∷ r.behind))));
+        cut = record {
+          before = lines_of_block (Titled s) ++ r.cut.before;
+          line = r.cut.line;
+          after = r.cut.after;
+          are = ap (λ ls. part.opening ∷ (part.content ++ (part.ending ∷ ls))) r.cut.are
+              ∙ sym (ap (λ ls. part.opening ∷ ls)
+              (append_assoc (part.content ++ (part.ending ∷ [])) r.cut.before (r.cut.line ∷ r.cut.after)
+              ∙ append_assoc part.content (part.ending ∷ []) (r.cut.before ++ (r.cut.line ∷ r.cut.after))));
+        };
+        before_are = ap (λ ls. lines_of_block (Titled s) ++ ls) r.before_are;
         are =
             SectionBlock s (record { meant = refl; opens = opens; inside = inside; ends = ends; noticed = f.1.1 }) r.are;
         ends = r.ends;
@@ -134,9 +131,8 @@ module _ (rate : ℕ) where
         let last = end_is_read c p line.number e in
         record {
           blocks = [];
-          end = line;
-          behind = lines;
-          lines_are = refl;
+          cut = at_first line lines;
+          before_are = refl;
           are = NoBlocks;
           ends = ends;
           fits = last.0;
@@ -145,12 +141,12 @@ module _ (rate : ℕ) where
     with_first c line lines next fuel short is fresh (Opens name some more opens free) e ih =
         let b = begun c line.number (section_of name) name in
         let s = section_is_read rate (section_of name) lines b line.number p refl e in
-        let part = titled (section_of name) name line s.content s.end [] in
+        let part = titled (section_of name) name line s.cut.before s.cut.line [] in
         let w = walked_over rate c part s.last fresh (section_of name) free s.walked in
-        let r = ih s.rest (outside_of s.last) s.end.number
-        (shorter s.content s.rest lines s.end fuel s.lines_are short) refl w.fresh s.others in
-        subst (λ ls. IsBody c (line ∷ ls) p) (sym s.lines_are)
-        (with_section_text c s.last part s.rest p opens s.inside s.ends w r)
+        let r = ih s.cut.after (outside_of s.last) s.cut.line.number (shorter lines s.cut fuel short) refl w.fresh
+        s.others in
+        subst (λ ls. IsBody c (line ∷ ls) p) (sym s.cut.are)
+        (with_section_text c s.last part s.cut.after p opens s.inside s.ends w r)
 
     body_is_read : (fuel : ℕ) → IsReadWithin fuel
     body_is_read fuel [] c n short is fresh e = absurd (cc)
@@ -165,13 +161,10 @@ module _ (rate : ℕ) where
   -- ---- the whole list
 
   record IsList (c : Context) (lines : List NumberedLine) (p : ListProject) : Type 0 where
-    before : List NumberedLine
-    begin : NumberedLine
-    rest : List NumberedLine
-    lines_are : lines ≡ before ++ (begin ∷ rest)
-    blank : list_all is_empty (texts before) ≡ true
-    begins : is_list_begin (trimmed begin.text) ≡ true
-    others : read_all rate (outside_of c) begin.number rest ≡ Ok p
+    cut : Parted lines
+    blank : list_all is_empty (texts cut.before) ≡ true
+    begins : is_list_begin (trimmed cut.line.text) ≡ true
+    others : read_all rate (outside_of c) cut.line.number cut.after ≡ Ok p
 
   list_is_read :
       (lines : List NumberedLine) (c : Context) (n : ℕ) (p : ListProject) → c.stage ≡ stage.Before
@@ -189,24 +182,13 @@ module _ (rate : ℕ) where
         by_line next g (BlankBefore blank) ih =
             let r = ih (goes_on rate c line.number lines p (ap is_behind is) g) in
             record {
-              before = line ∷ r.before;
-              begin = r.begin;
-              rest = r.rest;
-              lines_are = ap (λ ls. line ∷ ls) r.lines_are;
-              blank = and_both (is_empty line.text) (list_all is_empty (texts r.before)) blank r.blank;
+              cut = one_before line r.cut;
+              blank = and_both (is_empty line.text) (list_all is_empty (texts r.cut.before)) blank r.blank;
               begins = r.begins;
               others = r.others;
             }
         by_line next g (Begins some begins) ih =
-            record {
-              before = [];
-              begin = line;
-              rest = lines;
-              lines_are = refl;
-              blank = refl;
-              begins = begins;
-              others = g;
-            }
+            record { cut = at_first line lines; blank = refl; begins = begins; others = g }
 
   -- a list that was read at this rate
   record IsSpelledAt (text : List ℕ) (p : ListProject) : Type 0 where
@@ -219,19 +201,20 @@ module _ (rate : ℕ) where
   spelled_at text p is read =
       let l = list_is_read (with_numbers 1 (lines_of text)) nothing_read 0 p refl
       (sym (read_from-all rate nothing_read 0 (lines_of text)) ∙ read) in
-      let b = body_is_read p (length l.rest) l.rest (outside_of nothing_read) l.begin.number (omega arith) refl
-      (record { index = λ _. refl; events = λ _. refl }) l.others in
+      let b = body_is_read p (length l.cut.after) l.cut.after (outside_of nothing_read) l.cut.line.number
+      (omega arith) refl (record { index = λ _. refl; events = λ _. refl }) l.others in
       let whole = subst (λ r. IsHeader r p.header) b.same_rate is.header in
       record {
         spelled = record {
           all = lines_of text;
           cut = has_lines text;
-          before = l.before;
-          begin = l.begin;
+          before = l.cut.before;
+          begin = l.cut.line;
           blocks = b.blocks;
-          end = b.end;
-          behind = b.behind;
-          lines = l.lines_are ∙ ap (λ ls. l.before ++ (l.begin ∷ ls)) b.lines_are;
+          end = b.cut.line;
+          behind = b.cut.after;
+          lines = l.cut.are ∙ ap (λ ls. l.cut.before ++ (l.cut.line ∷ ls))
+              (b.cut.are ∙ ap (λ ls. ls ++ (b.cut.line ∷ b.cut.after)) b.before_are);
           blank = l.blank;
           begins = l.begins;
           are_blocks = b.are;

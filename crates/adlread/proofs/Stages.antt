@@ -16,6 +16,22 @@ use Rattle.adlread.specs.CutLines.{NumberedLine, with_numbers, texts}
 use Rattle.adlread.proofs.FieldLaws.{chain, ok_same}
 use Rattle.adlread.proofs.Walk.{walk, walk_step}
 
+-- ---- lines in two parts
+
+-- the lines up to one, this one, and those after it
+pub record Parted (lines : List NumberedLine) : Type 0 where
+  pub before : List NumberedLine
+  pub line : NumberedLine
+  pub after : List NumberedLine
+  pub are : lines ≡ before ++ (line ∷ after)
+
+abbrev pub at_first : (line : NumberedLine) (lines : List NumberedLine) → Parted (line ∷ lines)
+at_first line lines = record { before = []; line = line; after = lines; are = refl }
+
+abbrev pub one_before : (line : NumberedLine) {lines : List NumberedLine} → Parted lines → Parted (line ∷ lines)
+one_before line c =
+    record { before = line ∷ c.before; line = c.line; after = c.after; are = ap (λ ls. line ∷ ls) c.are }
+
 -- ---- inside a section
 
 abbrev pub outside_of : Context → Context
@@ -123,15 +139,12 @@ module _ (rate : ℕ) where
 
   -- the lines up to the end of the open section, and those behind it
   pub record IsSectionRead (s : Section) (c : Context) (lines : List NumberedLine) (project : ListProject) : Type 0 where
-    pub content : List NumberedLine
-    pub end : NumberedLine
-    pub rest : List NumberedLine
+    pub cut : Parted lines
     pub last : Context
-    pub lines_are : lines ≡ content ++ (end ∷ rest)
-    pub inside : list_all (stays_inside c.name) (texts content) ≡ true
-    pub ends : is_end c.name (trimmed end.text) ≡ true
-    pub walked : walk rate s c content ≡ Ok last
-    pub others : read_all (outside_of last) end.number rest ≡ Ok project
+    pub inside : list_all (stays_inside c.name) (texts cut.before) ≡ true
+    pub ends : is_end c.name (trimmed cut.line.text) ≡ true
+    pub walked : walk rate s c cut.before ≡ Ok last
+    pub others : read_all (outside_of last) cut.line.number cut.after ≡ Ok project
 
   pub section_is_read :
       (s : Section) (lines : List NumberedLine) (c : Context) (n : ℕ) (project : ListProject) → c.stage ≡ stage.Inside s
@@ -149,11 +162,8 @@ module _ (rate : ℕ) where
             → IsSectionRead s next lines project)
             → IsSectionRead s c (line ∷ lines) project
         by_line next g (Closes ends same) ih = record {
-          content = [];
-          end = line;
-          rest = lines;
+          cut = at_first line lines;
           last = c;
-          lines_are = refl;
           inside = refl;
           ends = ends;
           walked = refl;
@@ -164,16 +174,13 @@ module _ (rate : ℕ) where
             let at = stays.0 ∙ open_is in
             let r = ih next at (goes_on next line.number lines project (ap is_behind at) g) in
             record {
-              content = line ∷ r.content;
-              end = r.end;
-              rest = r.rest;
+              cut = one_before line r.cut;
               last = r.last;
-              lines_are = ap (λ ls. line ∷ ls) r.lines_are;
               inside =
-                  and_both (stays_inside c.name line.text) (list_all (stays_inside c.name) (texts r.content))
+                  and_both (stays_inside c.name line.text) (list_all (stays_inside c.name) (texts r.cut.before))
                   (ap not more)
-                  (subst (λ name. list_all (stays_inside name) (texts r.content) ≡ true) stays.1 r.inside);
-              ends = subst (λ name. is_end name (trimmed r.end.text) ≡ true) stays.1 r.ends;
-              walked = walk_step rate s c next line r.content i ∙ r.walked;
+                  (subst (λ name. list_all (stays_inside name) (texts r.cut.before) ≡ true) stays.1 r.inside);
+              ends = subst (λ name. is_end name (trimmed r.cut.line.text) ≡ true) stays.1 r.ends;
+              walked = walk_step rate s c next line r.cut.before i ∙ r.walked;
               others = r.others;
             }

@@ -4,7 +4,7 @@ use Rattle.devices.specs.declared.source.Shelf as source
 use Rattle.devices.specs.declared.bench.Bench as output
 use Rattle.list_terms.specs.Accepted.{OptionValues}
 use Rattle.list_terms.specs.Text.{rate_of}
-use Rattle.rendering.specs.declared.cutting.JobLength.{JobLength}
+use Rattle.rendering.specs.declared.job_length.JobLength.{JobLength}
 use Rattle.commandline.specs.CommandLine.{Chosen}
 use Rattle.console.specs.declared.console.Console as console
 use Rattle.answers.specs.Answers.{IsAnswered, RendersAs, RendersBy, ResumesAs, ResumesBy, rendered_lines, resumed_lines}

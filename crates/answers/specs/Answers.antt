@@ -1,13 +1,13 @@
 -- What the program prints and answers of a command.
 use Rattle.std.specs.Prelude.{◌≡◌, ℕ, Bool, true, false, IsOk, IsErr, ⊤, List, [], ◌∷◌, ◌++◌, Option, None, Some, Result, Ok, Err, IfErr, codes, if◌then◌else◌}
 use Rattle.work_terms.specs.Refusals.{Refusal, Nowhere}
-use Rattle.opening.specs.declared.checking.Accepted.{Accepted}
+use Rattle.opening.specs.declared.accepted_list.Accepted.{Accepted}
 use Rattle.devices.specs.declared.source.Shelf as source
 use Rattle.opening.specs.Further.{WasRead}
 use Rattle.devices.specs.declared.bench.Bench as output
 use Rattle.list_terms.specs.Accepted.{OptionValues}
 use Rattle.list_terms.specs.Text.{rate_of}
-use Rattle.rendering.specs.declared.cutting.JobLength.{JobLength}
+use Rattle.rendering.specs.declared.job_length.JobLength.{JobLength}
 use Rattle.provenance.specs.Asked.{AskedReport}
 use Rattle.consolidate.specs.Commands.{IsChecking, IsRendering}
 use Rattle.consolidate.specs.Resuming.{IsResuming}
@@ -17,7 +17,7 @@ use Rattle.consolidate.specs.Comparing.{IsComparing}
 use Rattle.consolidate.specs.CompareFault as comparing
 use Rattle.consolidate.specs.declared.compare_fault.CompareFault.{CompareFault}
 use Rattle.consolidate.specs.declared.compare_fault.CompareFault.TheVariants as compare
-use Rattle.consolidate.specs.declared.compared.Compared.{Compared}
+use Rattle.consolidate.specs.declared.compare_call.Compared.{Compared}
 use Rattle.comparison.specs.declared.projects.Comparison.{Comparison}
 use Rattle.comparison.specs.declared.projects.Comparison.TheVariants.{Same, Differs}
 use Rattle.comparison.specs.declared.range.Selection.{Selection}

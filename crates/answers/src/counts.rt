@@ -5,7 +5,6 @@ ghost use Rattle.answers.specs.Terminals.{KeepsOutput};
 use crate::asides::{Asides, AsidesOfTwo};
 use crate::difference::BothLists;
 use crate::meter::Meter;
-use crate::room::last_out;
 use crate::terminal::Terminal;
 use comparison::{DifferingCounts, differing_in};
 use console::Console;
@@ -101,7 +100,7 @@ pub fn count_from<M: Meter, A: Asides, B: Asides>(
     meter.clear();
     let end = match selection.to {
         Some(end) => end,
-        None => last_out(one.project().events()).max(last_out(other.project().events())),
+        None => one.project().last_out().max(other.project().last_out()),
     };
     Some(CountsFrom {
         counts: counts.ok()?,

@@ -1,5 +1,5 @@
 // How many bytes the outputs of a list take.
-use adlmodel::{Event, Project};
+use adlmodel::Project;
 use checkreport::Room;
 use commandline::Chosen;
 use console::Console;
@@ -111,13 +111,12 @@ fn head_size(bound: &Bound, index: u32) -> u64 {
 
 /// What the head of a rendering that was chosen so tells; nothing where a time can't be read.
 pub fn rendering_info(alloc: Global, project: &Project, chosen: Chosen<'_>) -> Option<SoundInfo> {
-    let events = project.events();
-    let from = time_or(chosen.from, project.rate(), first_in(events))?;
-    let to = time_or(chosen.to, project.rate(), last_out(events))?;
+    let from = time_or(chosen.from, project.rate(), project.first_in())?;
+    let to = time_or(chosen.to, project.rate(), project.last_out())?;
     let frames = to.get().checked_sub(from.get())?;
     let channels = match chosen.channels {
         Some(channels) => channels,
-        None => last_channel(events),
+        None => project.last_channel(),
     };
     let bext = Bext {
         text: [0; 338],
@@ -132,34 +131,4 @@ fn time_or(text: Option<&str>, rate: Rate, otherwise: SampleTime) -> Option<Samp
         None => Some(otherwise),
         Some(text) => Some(parse_time(text.as_bytes(), rate)?.0),
     }
-}
-
-/// The time at which the first entry begins; 0 without an entry.
-fn first_in(events: &[Event]) -> SampleTime {
-    let Some((first, others)) = events.split_first() else {
-        return SampleTime::ZERO;
-    };
-    let mut least = first.dest_in;
-    for event in others {
-        least = least.min(event.dest_in);
-    }
-    least
-}
-
-/// The time at which the last entry has ended; 0 without an entry.
-pub fn last_out(events: &[Event]) -> SampleTime {
-    let mut greatest = SampleTime::ZERO;
-    for event in events {
-        greatest = greatest.max(event.dest_out);
-    }
-    greatest
-}
-
-/// The last channel of an entry, at least 1.
-fn last_channel(events: &[Event]) -> u8 {
-    let mut greatest = 1;
-    for event in events {
-        greatest = greatest.max(event.dest.last);
-    }
-    greatest
 }

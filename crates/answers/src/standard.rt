@@ -8,7 +8,7 @@ ghost use Rattle.consolidate.specs.Commands.{IsConsolidation};
 ghost use Rattle.sound_terms.specs.Passes.{standard_groups};
 ghost use Rattle.console.specs.Printing.{Prints};
 ghost use Rattle.list_terms.specs.Text.{rate_of as rate_at};
-ghost use Rattle.rendering.specs.declared.cutting.JobLength.TheVariants.{Longer};
+ghost use Rattle.rendering.specs.declared.job_length.JobLength.TheVariants.{Longer};
 ghost use Rattle.answers.specs.Answers.{IsAnswered, MayBeMistaken, RendersBy, ResumesBy, asking, rendered_lines, resumed_lines, written_lines};
 ghost use Rattle.answers.specs.Terminals.{GivesBack};
 ghost use Rattle.answers.specs.Times.{bad_time_line, values_of};

@@ -6,12 +6,12 @@ ghost use Rattle.answers.specs.Terminals.{GivesBack, KeepsOutput};
 ghost use Rattle.console.specs.Printing.{Prints};
 
 use crate::asides::{Asides, AsidesOfTwo};
-use crate::comparing::{explain_list, put_comparison, put_refusal_in, report_compared, status_of};
 use crate::difference::BothLists;
 use crate::meter::Meter;
 use crate::report::tell_changed;
 use crate::requests::{DONE, REFUSED};
 use crate::terminal::Terminal;
+use crate::two_lists::{explain_list, put_comparison, put_refusal_in, report_compared, status_of};
 use console::{Console, ListOfTwo};
 use consolidate::{CompareFault, Compared, Comparison, Selection, compare};
 use shelf::{Reasons, Shelf};

@@ -1,7 +1,7 @@
 // The program as a call: words, a list and stores.
 ghost use Rattle.std.specs.Prelude.{◌≡◌, ◌≢◌, ◌≤◌, ◌⊎◌, ℕ, None, Some, false, true};
 ghost use Rattle.clap.specs.Walk.{Text, texts};
-ghost use Rattle.rendering.specs.declared.cutting.JobLength.TheVariants.{OneBlock};
+ghost use Rattle.rendering.specs.declared.job_length.JobLength.TheVariants.{OneBlock};
 ghost use Rattle.consolidate.specs.Commands.{IsConsolidation};
 ghost use Rattle.passes.specs.Left.{left_by};
 ghost use Rattle.commandline.specs.declared.choice.MediaReport as choice;

@@ -1,11 +1,11 @@
 -- Sums that are kept at the depth of their block.
-use Rattle.std.proofs.Common.{◌≡◌, ◌⊎◌, inl, inr, ℕ, All, ◌+◌, ◌-◌, ◌*◌, ◌^◌, ◌<◌, ◌≤◌, List, ◌++◌, length, map, take, drop, set, get_or, refl, sym, ap, ◌∙◌, subst, arith, length-append}
+use Rattle.std.proofs.Common.{◌≡◌, ◌⊎◌, inl, inr, ℕ, suc, All, ◌+◌, ◌-◌, ◌*◌, ◌^◌, ◌<◌, ◌≤◌, List, ◌++◌, length, map, take, drop, set, get_or, refl, sym, ap, ◌∙◌, subst, arith, length-append}
 use Rattle.std.specs.Prelude.{ℤ, pos, negsuc, ◌+ℤ◌, ◌*ℤ◌}
 use Rattle.std.specs.Int.{int_div_euclid, saturate_to_bits}
 use Rattle.std.proofs.lemmas.Int.{ints}
 use Rattle.std.proofs.lemmas.Bool.{cases_lt}
-use Rattle.std.proofs.lemmas.List.{drop-map, ext_get_or, get_or-map, get_or-set_other, get_or-set_same, get_or-take, get_or_append_left, length-map, length-take-le, map-append, take-map}
-use Rattle.std.proofs.lemmas.Nat.{div-mul-add}
+use Rattle.std.proofs.lemmas.List.{drop-map, ext_get_or, get_or_default, get_or-map, get_or-set_other, get_or-set_same, get_or-take, get_or_append_left, length-map, length-take-le, map-append, take-map}
+use Rattle.std.proofs.Math.Nat.{mul-le-mul_right}
 use Rattle.std.proofs.Math.IntN.{negsuc-*ℤ-pos, pos-*ℤ-pos}
 use borrow.Rule.Slice.PartMut.{post_of, put_mid}
 use mir.Syntax.{w32}
@@ -16,7 +16,8 @@ use Rattle.sound_terms.specs.Depth.{bits_of}
 use Rattle.sound_terms.specs.Mix.{full_scale, quantized}
 use Rattle.sound_terms.specs.Blocks.{held}
 use Rattle.pcm.specs.Samples.{FitsDepth}
-use Rattle.blockmachine.specs.Sums.{IsWithin, widened}
+use Rattle.soundlaw.specs.Laws.{floor_whole}
+use Rattle.blockmachine.specs.Sums.{AreFew, AreSums, AreZero, IsWithin, block_of, widened}
 use Rattle.blockmachine.proofs.Bounds.{held_few, within_add}
 use Rattle.blockmachine.proofs.Full.{full_sample}
 
@@ -50,15 +51,35 @@ full_zero depth = pos-*ℤ-pos 0 (2 ^ (48 - depth)) ∙ ap pos (omega arith)
 pub length-front : (n : ℕ) (new rest : List ℤ) → n ≤ length new → length (take n (new ++ rest)) ≡ n
 length-front n new rest room = length-take-le n (new ++ rest) (omega (arith, length-append new rest))
 
--- sums of zero
-pub zero_at : (depth n : ℕ) (new rest : List ℤ) → ((k : ℕ) → get_or new k (pos 0) ≡ pos 0) → n ≤ length new
+-- sums of zero, written over all that were kept
+zero_at : (depth n : ℕ) (new rest : List ℤ) → AreZero new → length new ≡ n
     → (k : ℕ) → k < n → get_or (widened depth (take n (new ++ rest))) k (pos 0) ≡ pos 0
-zero_at depth n new rest zero room k below =
-    let inside : k < length (take n (new ++ rest)) = omega (arith, length-front n new rest room) in
+zero_at depth n new rest zero long k below =
+    let inside : k < length (take n (new ++ rest)) = omega (arith, length-front n new rest (omega (arith, long)), below) in
     get_or-widened depth (take n (new ++ rest)) k inside
     ∙ ap (full_scale depth) (get_or-take n (new ++ rest) k (pos 0) below
-    ∙ get_or_append_left new rest (pos 0) k (omega arith) ∙ zero k)
+    ∙ get_or_append_left new rest (pos 0) k (omega (arith, long, below)) ∙ zero k)
     ∙ full_zero depth
+
+pub cleared_few : (depth n from : ℕ) (new rest : List ℤ) → AreZero new → length new ≡ n
+    → AreFew 0 from (widened depth (take n (new ++ rest)))
+cleared_few depth n from new rest zero long =
+    let front = length-front n new rest (omega (arith, long)) in
+    let wide = length-map (take n (new ++ rest)) (full_scale depth) in
+    let nothing : (k : ℕ) → k < length (widened depth (take n (new ++ rest)))
+    → IsWithin 0 (get_or (widened depth (take n (new ++ rest))) k (pos 0)) = λ k below.
+    subst (IsWithin 0) (sym (zero_at depth n new rest zero long k (omega (arith, below, front, wide))))
+    (omega (arith, ints), omega (arith, ints)) in (
+      λ k d below. subst (IsWithin 0) (sym (get_or_default _ k d (pos 0) below)) (nothing k below),
+      λ k later below. nothing k below,
+    )
+
+pub cleared_sums : (depth n frames channels : ℕ) (new rest : List ℤ) → AreZero new → length new ≡ n
+    → n ≡ frames * channels
+    → AreSums (block_of frames channels (widened depth (take n (new ++ rest)))) (λ _ _. pos 0)
+cleared_sums depth n frames channels new rest zero long whole = λ i channel near low high.
+    let row : suc i * channels ≤ frames * channels = mul-le-mul_right channels near in
+    zero_at depth n new rest zero long (i * channels + (channel - 1)) (omega (arith, row, whole, low, high))
 
 no_sum : (z : ℤ) → IsWithin 0 z → z ≡ pos 0
 no_sum (pos n) within = ap pos (omega (arith, ints, within))
@@ -100,13 +121,6 @@ layer_sum depth sum x small fit =
 
 -- ---- what it is handed out as
 
-pub floor_whole : (y : ℤ) (r step : ℕ) → r < step → int_div_euclid (y *ℤ pos step +ℤ pos r) (pos step) ≡ y
-floor_whole (pos m) r step small = ap pos (div-mul-add m step r small)
-floor_whole (negsuc k) r step small =
-    let product = negsuc-*ℤ-pos k step in
-    let turned : negsuc k *ℤ pos step +ℤ pos r ≡ negsuc (k * step + (step - r - 1)) = omega (arith, ints, product) in
-    ap (λ z. int_div_euclid z (pos step)) turned ∙ ap negsuc (div-mul-add k step (step - r - 1) (omega arith))
-
 pub quantized_layer : (depth : Depth) (z : ℤ)
     → quantized (bits_of depth) (full_scale (bits_of depth) z) ≡ saturate_to_bits (bits_of depth - 1) z
 quantized_layer Sixteen z = ap (saturate_to_bits 15) (floor_whole z (2 ^ 31) (2 ^ 32) (omega arith))
@@ -126,3 +140,13 @@ entry_more P n l v inside before here k below = by_place (cases_lt k n) where
       let same : n ≡ k = omega arith in
       subst (λ m. P m (get_or (set l n v) m (pos 0))) same
       (subst (P n) (sym (get_or-set_same l n v (pos 0) inside)) here)
+
+-- one sum more that is kept at a depth is handed out at another one
+pub rounded_more : (kept depth : Depth) (sums out : List ℤ) (n : ℕ) (z : ℤ) → n < length out
+    → ((k : ℕ) → k < n → get_or out k (pos 0)
+    ≡ quantized (bits_of depth) (full_scale (bits_of kept) (get_or sums k (pos 0))))
+    → z ≡ quantized (bits_of depth) (full_scale (bits_of kept) (get_or sums n (pos 0)))
+    → (k : ℕ) → k < n + 1 → get_or (set out n z) k (pos 0)
+    ≡ quantized (bits_of depth) (full_scale (bits_of kept) (get_or sums k (pos 0)))
+rounded_more kept depth sums out n z =
+    entry_more (λ k z. z ≡ quantized (bits_of depth) (full_scale (bits_of kept) (get_or sums k (pos 0)))) n out z

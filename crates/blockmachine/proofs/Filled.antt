@@ -1,9 +1,10 @@
 -- The frames of a file that fills a block as it is are what the block hands out.
-use Rattle.std.proofs.Common.{◌≡◌, ◌≤◌, ◌<◌, ℕ, suc, ◌+◌, ◌-◌, ◌*◌, ◌^◌, true, All, List, length, get_or, sym, ap, ◌∙◌, arith}
+use Rattle.std.proofs.Common.{◌≡◌, ◌≤◌, ◌<◌, ℕ, suc, ◌+◌, ◌-◌, ◌*◌, ◌^◌, true, All, List, length, map, get_or, sym, ap, ◌∙◌, arith}
 use Rattle.std.specs.Prelude.{ℤ, pos, negsuc, neg_ℤ, ◌+ℤ◌, ◌*ℤ◌, ◌≤ℤ◌, ◌<ℤ◌, min, nat_le, nat_lt}
 use Rattle.std.specs.Int.{int_div_euclid, saturate_to_bits}
 use Rattle.std.proofs.lemmas.Bool.Decides.{nat_tests}
 use Rattle.std.proofs.lemmas.Int.{ints}
+use Rattle.std.proofs.lemmas.List.{get_or-map, length-map, take_all}
 use Rattle.std.proofs.lemmas.Nat.{div-mul-add}
 use Rattle.std.proofs.Math.IntN.{negsuc-*ℤ-pos, pos-*ℤ-pos}
 use Rattle.std.proofs.Math.Nat.{mul-le-mul_right}
@@ -13,11 +14,12 @@ use Rattle.sound_terms.specs.declared.piece.Shape.TheVariants.{Flat}
 use Rattle.sound_terms.specs.Depth.{bits_of}
 use Rattle.sound_terms.specs.Mix.{Reading, full_scale, quantized}
 use Rattle.sound_terms.specs.Blocks.{block_samples, held, sums_with}
+use Rattle.clipping.specs.Clips.{block_sums}
 use Rattle.pcm.specs.Samples.{FitsDepth}
 use Rattle.blockmachine.specs.Alone.{filling}
 use Rattle.blockmachine.specs.Playing.{Plays}
 use Rattle.blockmachine.proofs.Added.{flat_share}
-use Rattle.blockmachine.proofs.Emitted.{by_samples}
+use Rattle.blockmachine.proofs.Emitted.{by_sums, frames_taken}
 
 -- a sample at full scale, rounded to its own depth, is that sample: h bits and a sign, from this step
 module _ (h half step : ℕ) (small : half < step) where
@@ -71,16 +73,22 @@ same_depth Sixteen x fits = back 15 (2 ^ 31) (2 ^ 32) (omega arith) (omega arith
 same_depth TwentyFour x fits = back 23 (2 ^ 23) (2 ^ 24) (omega arith) (omega arith) x fits.0 fits.1
 same_depth ThirtyTwo x fits = back 31 (2 ^ 15) (2 ^ 16) (omega arith) (omega arith) x fits.0 fits.1
 
+-- a sample of a depth as the only one of a sum
+abbrev pub only : (depth : ℕ) → ℤ → ℤ
+only depth x = held (pos 0 +ℤ full_scale depth x)
+
 module _ (reading : Reading) (file frame frames channels : ℕ) (depth : Depth) (out : List ℤ)
     (plays : Plays reading (filling file frame frames channels) channels (bits_of depth) out)
     (fit : All (FitsDepth (bits_of depth)) out) (long : length out ≡ frames * channels) where
   abbrev sums : ℕ → ℕ → ℤ
   sums = sums_with reading (filling file frame frames channels) Flat (λ i channel. pos 0)
 
-  -- a sample of it
-  sample_at : (i j : ℕ) → i < frames → j < channels
-      → quantized (bits_of depth) (sums i (1 + j)) ≡ get_or out (i * channels + j) (pos 0)
-  sample_at i j below on =
+  abbrev values : List ℤ
+  values = map (only (bits_of depth)) out
+
+  -- a sum of it
+  sum_at : (i j : ℕ) → i < frames → j < channels → sums i (1 + j) ≡ get_or values (i * channels + j) (pos 0)
+  sum_at i j below on =
       let low : nat_le 1 (1 + j) ≡ true = grind (arith, nat_tests) in
       let high : nat_lt (1 + j) (1 + channels) ≡ true = grind (arith, nat_tests) in
       let begun : nat_le 0 i ≡ true = grind (arith, nat_tests) in
@@ -91,10 +99,18 @@ module _ (reading : Reading) (file frame frames channels : ℕ) (depth : Depth) 
       let place : i - 0 ≡ i = omega arith in
       let same : 1 - 1 + j ≡ j = omega arith in
       rw (low, high, begun, ends, flat_share (reading file (1 + (1 + j - 1)) (frame + (i - 0))), channel, place)
-      (ap (λ z. quantized (bits_of depth) (held (pos 0 +ℤ z))) (sym (plays i j below on))
-      ∙ ap (λ m. quantized (bits_of depth) (held (pos 0
-      +ℤ full_scale (bits_of depth) (get_or out (i * channels + m) (pos 0))))) same
-      ∙ same_depth depth (get_or out (i * channels + j) (pos 0)) (fit (i * channels + j) (pos 0) within))
+      (ap (λ z. held (pos 0 +ℤ z)) (sym (plays i j below on))
+      ∙ ap (λ m. only (bits_of depth) (get_or out (i * channels + m) (pos 0))) same
+      ∙ sym (get_or-map (only (bits_of depth)) out (i * channels + j) (pos 0) (pos 0) within))
+
+  pub are_values : values ≡ block_sums sums channels 0 frames
+  are_values =
+      let each = length-map out (only (bits_of depth)) in
+      sym (take_all (frames * channels) values (omega (arith, each, long)))
+      ∙ frames_taken sums channels frames values (omega (arith, each, long)) sum_at frames (omega arith)
 
   pub hands_itself_out : out ≡ block_samples (bits_of depth) sums channels 0 frames
-  hands_itself_out = by_samples (bits_of depth) sums channels frames out long sample_at
+  hands_itself_out =
+      by_sums (bits_of depth) sums channels frames out values are_values (sym (length-map out (only (bits_of depth))))
+      (λ k below. sym (ap (quantized (bits_of depth)) (get_or-map (only (bits_of depth)) out k (pos 0) (pos 0) below)
+      ∙ same_depth depth (get_or out k (pos 0)) (fit k (pos 0) below)))

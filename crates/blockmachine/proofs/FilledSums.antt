@@ -12,19 +12,13 @@ use Rattle.sound_terms.specs.Depth.{bits_of}
 use Rattle.sound_terms.specs.Mix.{Reading, full_scale}
 use Rattle.sound_terms.specs.Blocks.{held, sums_with}
 use Rattle.pcm.specs.Samples.{FitsDepth}
+use Rattle.soundlaw.specs.Laws.{floor_whole}
 use Rattle.clipping.specs.Clips.{block_sums, is_clipped}
 use Rattle.blockmachine.specs.Alone.{filling}
 use Rattle.blockmachine.specs.Playing.{Plays}
-use Rattle.blockmachine.proofs.Added.{flat_share}
-use Rattle.blockmachine.proofs.AtDepth.{floor_whole}
 use Rattle.blockmachine.proofs.Bounds.{held_few}
 use Rattle.blockmachine.proofs.Full.{full_sample}
-use Rattle.blockmachine.proofs.Filled.{none_more}
-use Rattle.blockmachine.proofs.UnclippedSums.{frames_taken}
-
--- a sample of a depth as the only one of a sum
-abbrev only : (depth : ℕ) → ℤ → ℤ
-only depth x = held (pos 0 +ℤ full_scale depth x)
+use Rattle.blockmachine.proofs.Filled.{are_values, none_more, only}
 
 kept_whole : (depth : Depth) (x : ℤ) → FitsDepth (bits_of depth) x
     → only (bits_of depth) x ≡ full_scale (bits_of depth) x
@@ -61,35 +55,10 @@ module _ (reading : Reading) (file frame frames channels : ℕ) (depth : Depth) 
   abbrev sums : ℕ → ℕ → ℤ
   sums = sums_with reading (filling file frame frames channels) Flat (λ i channel. pos 0)
 
-  abbrev values : List ℤ
-  values = map (only (bits_of depth)) out
-
-  -- a sum of it
-  sum_at : (i j : ℕ) → i < frames → j < channels → sums i (1 + j) ≡ get_or values (i * channels + j) (pos 0)
-  sum_at i j below on =
-      let low : nat_le 1 (1 + j) ≡ true = grind (arith, nat_tests) in
-      let high : nat_lt (1 + j) (1 + channels) ≡ true = grind (arith, nat_tests) in
-      let begun : nat_le 0 i ≡ true = grind (arith, nat_tests) in
-      let ends : nat_lt i (0 + frames) ≡ true = grind (arith, nat_tests) in
-      let row : suc i * channels ≤ frames * channels = mul-le-mul_right channels below in
-      let within : i * channels + j < length out = omega arith in
-      let channel : 1 + (1 + j - 1) ≡ 1 + j = omega arith in
-      let place : i - 0 ≡ i = omega arith in
-      let same : 1 - 1 + j ≡ j = omega arith in
-      rw (low, high, begun, ends, flat_share (reading file (1 + (1 + j - 1)) (frame + (i - 0))), channel, place)
-      (ap (λ z. held (pos 0 +ℤ z)) (sym (plays i j below on))
-      ∙ ap (λ m. only (bits_of depth) (get_or out (i * channels + m) (pos 0))) same
-      ∙ sym (get_or-map (only (bits_of depth)) out (i * channels + j) (pos 0) (pos 0) within))
-
-  are_values : values ≡ block_sums sums channels 0 frames
-  are_values =
-      let each = length-map out (only (bits_of depth)) in
-      sym (take_all (frames * channels) values (omega (arith, each, long)))
-      ∙ frames_taken sums channels frames values (omega (arith, each, long)) sum_at frames (omega arith)
-
   pub filled_unclipped : All (λ sum. is_clipped (bits_of depth) sum ≡ false) (block_sums sums channels 0 frames)
   filled_unclipped =
-      subst (All (λ sum. is_clipped (bits_of depth) sum ≡ false)) are_values (λ k d below.
+      subst (All (λ sum. is_clipped (bits_of depth) sum ≡ false))
+      (are_values reading file frame frames channels depth out plays fit long) (λ k d below.
       let within : k < length out = omega (arith, below, length-map out (only (bits_of depth))) in
       subst (λ z. is_clipped (bits_of depth) z ≡ false)
       (sym (get_or-map (only (bits_of depth)) out k (pos 0) d within))

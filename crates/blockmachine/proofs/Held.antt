@@ -1,10 +1,12 @@
 -- Frames of a file that a buffer holds as they are stored.
-use Rattle.std.proofs.Common.{◌≡◌, ℕ, zero, suc, ◌+◌, ◌*◌, ◌/◌, ◌≤◌, List, [], ◌∷◌, Some, length, take, drop, get_or, refl, ap, ◌∙◌, arith}
+use Rattle.std.proofs.Common.{◌≡◌, ℕ, zero, suc, ◌+◌, ◌*◌, ◌/◌, ◌≤◌, List, [], ◌∷◌, Some, length, take, drop, get_or, refl, sym, ap, ◌∙◌, subst, arith}
 use Rattle.std.specs.Prelude.{pos, slice_get}
-use Rattle.std.proofs.lemmas.Option.{slice_get_read, slice_get_within}
+use Rattle.std.proofs.Math.Nat.{mul-le-mul_left}
+use Rattle.std.proofs.lemmas.Option.{same_Some, slice_get_read, slice_get_within}
 use Rattle.sound_terms.specs.declared.block.Stretch.{Stretch}
 use Rattle.sound_terms.specs.Depth.{bits_of}
-use Rattle.sound_terms.specs.Media.{frame_length}
+use Rattle.sound_terms.specs.Laws.{bits_bounded}
+use Rattle.sound_terms.specs.Media.{LiesInFile, frame_length}
 use Rattle.sound_terms.specs.Blocks.{IsFull}
 use Rattle.sound_terms.specs.Sounds.{SoundFacts, reading_by}
 use Rattle.work_terms.specs.Disk.{Files, IsRange}
@@ -14,11 +16,34 @@ use Rattle.blockmachine.specs.Playing.{Plays}
 use Rattle.blockmachine.proofs.Full.{full_frames}
 use Rattle.blockmachine.proofs.Played.{plays_sound}
 
--- a sound that was read at a file's index is the opened file
-pub opened : (sounds : List SoundFacts) (file : ℕ) (facts sound : SoundFacts) → slice_get sounds file ≡ Some facts
-    → sound ≡ get_or sounds file sound → slice_get sounds file ≡ Some sound
-opened sounds file facts sound there is =
-    slice_get_read sounds (length sounds) file sound refl (slice_get_within sounds file facts there) is
+-- a sound that was read at the index of a stretch's file is the opened file
+pub opened : (sounds : List SoundFacts) (part : Stretch)
+    → LiesInFile sounds part.file part.first part.width part.frame part.length → (sound : SoundFacts)
+    → sound ≡ get_or sounds part.file sound → slice_get sounds part.file ≡ Some sound
+opened sounds part lies sound is =
+    slice_get_read sounds (length sounds) part.file sound refl (slice_get_within sounds part.file lies.facts lies.there) is
+
+-- so the stretch lies in that
+pub lies_in : (sounds : List SoundFacts) (part : Stretch)
+    → LiesInFile sounds part.file part.first part.width part.frame part.length → (sound : SoundFacts)
+    → slice_get sounds part.file ≡ Some sound
+    → (part.first + part.width ≤ sound.channels + 1) × (part.frame + part.length ≤ sound.frames)
+lies_in sounds part lies sound found =
+    subst (λ (f : SoundFacts). (part.first + part.width ≤ f.channels + 1) × (part.frame + part.length ≤ f.frames))
+    (same_Some lies.facts sound (sym lies.there ∙ found)) (lies.channels, lies.frames)
+
+-- the bytes of so many frames: there is room for them where there is for as many samples, each of up to four
+pub room_for : (facts : SoundFacts) (n samples bytes : ℕ) → n * facts.channels ≤ samples → samples * 4 ≤ bytes
+    → n * frame_length facts ≤ bytes
+room_for facts n samples bytes few room =
+    let narrow : bits_of facts.depth / 8 ≤ 4 = omega (arith, bits_bounded facts.depth) in
+    let wide = mul-le-mul_left (n * facts.channels) narrow in
+    omega (arith, few, wide, room)
+
+pub bytes_of : (facts : SoundFacts) (n channels width : ℕ) → channels ≡ facts.channels
+    → width ≡ bits_of facts.depth / 8 → n * channels * width ≡ n * frame_length facts
+bytes_of facts n channels width alike wide =
+    ap (λ m. n * m * width) alike ∙ ap (λ w. n * facts.channels * w) wide ∙ omega arith
 
 -- the first of some bytes
 pub small_front : (n : ℕ) (bytes : List ℕ) → AreBytes bytes → AreBytes (take n bytes)

@@ -64,6 +64,19 @@ module _ (depth channels : ℕ) where
             (sym (get_or_append_left xs ys (pos 0) (is.frame * channels + channel) is.within)) is.clipped;
       }
 
+  -- what is clipped among the first is clipped of them alone
+  clipped_front : (xs ys : List ℤ) (channel : ℕ) (is : IsClippedOn depth channels (xs ++ ys) channel)
+      → is.frame * channels + channel < length xs → IsClippedOn depth channels xs channel
+  clipped_front xs ys channel is early =
+      record {
+        is_channel = is.is_channel;
+        frame = is.frame;
+        within = early;
+        clipped =
+            subst (λ z. IsTrue (is_clipped depth z))
+            (get_or_append_left xs ys (pos 0) (is.frame * channels + channel) early) is.clipped;
+      }
+
   -- those of the frames that come next, after them
   pub clipped_right : (xs ys : List ℤ) (frames channel : ℕ) → length xs ≡ frames * channels
       → IsClippedOn depth channels ys channel → IsClippedOn depth channels (xs ++ ys) channel
@@ -94,14 +107,7 @@ module _ (depth channels : ℕ) where
 
       by_index : (is.frame * channels + channel < length xs) ⊎ (length xs ≤ is.frame * channels + channel)
           → IsClippedOn depth channels xs channel ⊎ IsClippedOn depth channels ys channel
-      by_index (inl early) = inl (record {
-        is_channel = is.is_channel;
-        frame = is.frame;
-        within = early;
-        clipped =
-            subst (λ z. IsTrue (is_clipped depth z))
-            (get_or_append_left xs ys (pos 0) (is.frame * channels + channel) early) is.clipped;
-      })
+      by_index (inl early) = inl (clipped_front xs ys channel is early)
       by_index (inr late) =
           let after : frames ≤ is.frame = by_frame (cases_lt is.frame frames) late in
           let split : is.frame ≡ frames + (is.frame - frames) = omega (arith, after) in
@@ -126,14 +132,7 @@ module _ (depth channels : ℕ) where
       by_index (cases_lt (is.frame * channels + other) (length xs)) where
         by_index : (is.frame * channels + other < length xs) ⊎ (length xs ≤ is.frame * channels + other)
             → IsClippedOn depth channels xs other ⊎ ((other ≡ channel) × IsTrue (is_clipped depth sum))
-        by_index (inl early) = inl (record {
-          is_channel = is.is_channel;
-          frame = is.frame;
-          within = early;
-          clipped =
-              subst (λ z. IsTrue (is_clipped depth z))
-              (get_or_append_left xs (sum ∷ []) (pos 0) (is.frame * channels + other) early) is.clipped;
-        })
+        by_index (inl early) = inl (clipped_front xs (sum ∷ []) other is early)
         by_index (inr late) =
             let last : is.frame * channels + other ≡ length xs = omega (arith, is.within, length-append xs (sum ∷ []), late) in
             let same : other ≡ channel =

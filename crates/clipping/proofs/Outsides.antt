@@ -1,6 +1,6 @@
 -- Sums that are kept at a depth, one by one.
 use Rattle.std.specs.Prelude.{◌≡◌, ◌≢◌, ◌⊎◌, ◌↔◌, ℕ, suc, ◌+◌, ◌-◌, ◌*◌, ◌%◌, ◌==◌, ◌^◌, ◌<◌, ◌≤◌, max, Bool, true, false, IsTrue, ℤ, pos, List, [], ◌∷◌, ◌++◌, length, take, drop, slice_index_or, unsigned_abs, Option, None, Some, if◌then◌else◌, refl}
-use Rattle.std.specs.Int.{IsBitSet}
+use Rattle.std.specs.Int.{IsBitSet, w32}
 use Rattle.std.specs.Int.Bits.{bit_or}
 use Rattle.std.specs.List.{All, filter, position}
 use Rattle.std.specs.Option.{option_map, option_or}
@@ -8,10 +8,10 @@ use Rattle.std.proofs.Common.{inl, inr, sym, ap, ◌∙◌, subst, arith, get_or
 use Rattle.std.proofs.Math.Nat.{mul-le-mul_right}
 use Rattle.std.proofs.lemmas.Bool.{cases_lt, true≢false}
 use Rattle.std.proofs.lemmas.Bool.Decides.{Decides-eqb, not_from_Decides}
-use Rattle.std.proofs.lemmas.Int.{unsigned_abs-mul}
+use Rattle.std.proofs.lemmas.Int.{to_z-of_z, unsigned_abs-mul}
 use Rattle.std.proofs.lemmas.List.Elements.{All-cons, All-nil}
 use Rattle.std.proofs.lemmas.List.{get_or-map, length-map, length-take-le, map-append, take-append-drop, take_more}
-use mir.Val.{bool_byte}
+use mir.Val.{SFits, bool_byte, of_z, to_z}
 use Rattle.sound_terms.specs.declared.Depth.{Depth}
 use Rattle.sound_terms.specs.declared.Depth.TheVariants.{Sixteen, TwentyFour, ThirtyTwo}
 use Rattle.sound_terms.specs.Depth.{bits_of}
@@ -22,6 +22,13 @@ use Rattle.clipping.proofs.Marked.{new_bit, old_bit}
 use Rattle.clipping.proofs.Counted.{count-le, count_more, count_same, first_noted, first_same, loud_more, loud_same, position-append}
 
 module _ (depth : ℕ) where
+  -- what a test finds of a sum in 32 bits is so of the sum
+  pub test_of : (sum : ℤ) (found known : Bool) → SFits w32 sum
+      → found ≡ is_clipped depth (full_scale depth (to_z w32 (of_z w32 sum))) → found ≡ known
+      → is_clipped depth (full_scale depth sum) ≡ known
+  test_of sum found known fits is has =
+      ap (λ z. is_clipped depth (full_scale depth z)) (sym (to_z-of_z w32 sum fits)) ∙ sym is ∙ has
+
   -- one more at the end
   one_more : (sums : List ℤ) (sum : ℤ)
       → at_full_scale depth (sums ++ sum ∷ []) ≡ at_full_scale depth sums ++ full_scale depth sum ∷ []

@@ -8,7 +8,7 @@ use Rattle.list_terms.specs.Heard.{project_mix}
 use Rattle.list_terms.specs.Project.{ListProject}
 use Rattle.work_terms.specs.Disk.{Files}
 use Rattle.devices.specs.declared.source.Shelf as source
-use Rattle.comparison.specs.declared.differing.Difference.{Difference}
+use Rattle.comparison.specs.declared.difference.Difference.{Difference}
 use Rattle.comparison.specs.declared.fault.CompareFault.{CompareFault}
 use Rattle.comparison.specs.declared.range.Region.{Region}
 use Rattle.comparison.specs.Alike.{IsCompared}

@@ -13,7 +13,7 @@ use Rattle.list_terms.specs.Heard.{project_mix, reading_of}
 use Rattle.list_terms.specs.Project.{ListProject}
 use Rattle.list_terms.specs.WholeProject.{is_event}
 use Rattle.work_terms.specs.Disk.{Files}
-use Rattle.comparison.specs.declared.differing.Difference.{Difference}
+use Rattle.comparison.specs.declared.difference.Difference.{Difference}
 use Rattle.comparison.specs.declared.range.Selection.{Selection}
 use Rattle.comparison.specs.Alike.{AreAlike, DifferFirst, IsCompared}
 use Rattle.comparison.specs.Range.{Extent, IsChosen, compared_in, extent_of, is_inside}

@@ -1,6 +1,6 @@
 -- Whether two mixes sound the same in a range, and where they differ first.
 use Rattle.std.specs.Prelude.{◌≡◌, ◌≢◌, ℕ, ◌<◌, ◌≤◌, ℤ, pos, List, slice_index_or, Option, None, Some}
-use Rattle.comparison.specs.declared.differing.Difference.{Difference}
+use Rattle.comparison.specs.declared.difference.Difference.{Difference}
 
 -- the same exact sum on each of so many channels at each time from one up to, and without, another
 abbrev pub AreAlike : (from to channels : ℕ) → (mix other : ℕ → ℕ → ℤ) → Type 0

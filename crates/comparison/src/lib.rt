@@ -11,12 +11,11 @@
 #![tactic(auto)]
 
 mod block;
-mod comparing;
 mod counterparts;
-mod counting;
 mod depths;
-mod differing;
+mod difference;
 mod fault;
+mod first_difference;
 mod matches;
 mod projects;
 mod range;
@@ -24,6 +23,7 @@ mod side;
 mod sides;
 mod stored;
 mod stretches;
+mod tally;
 
 pub use fault::{CompareFault, SideFault};
 pub use projects::{Comparison, compare_projects};

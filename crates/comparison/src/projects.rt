@@ -16,8 +16,8 @@ ghost use Rattle.comparison.specs.Range as range;
 ghost use Rattle.comparison.specs.Range.{HasChannels};
 ghost use Rattle.comparison.specs.Whole.{HasCompared, IsComparison};
 
-use crate::comparing::compare_sides;
-use crate::differing::Difference;
+use crate::difference::Difference;
+use crate::first_difference::compare_sides;
 use crate::matches::Matches;
 use crate::range::{Region, Selection, compared_in};
 use crate::side::Side;

@@ -7,7 +7,6 @@ ghost use Rattle.comparison.specs.Range.{HasChannels, compared_in};
 
 use adlmodel::Project;
 use sampletime::SampleTime;
-use sound_terms::Event;
 
 /// What may be chosen of a comparison: the samples from the time `from` up to, and without, `to`, on this many channels
 /// from 1 on (1 to 64). By default it goes from the first entry's start to the last one's end, of both projects, on all
@@ -55,55 +54,19 @@ pub struct Region {
     ghost few_channels: { channels ≤ 64 },
 }
 
-/// The time at which the first event begins; 0 without an event.
-fn first_in(events: &[Event]) -> SampleTime
-    ensures { result ≡ least_of (λ event. event.dest_in) events.now }
+/// The time at which the first entry of two projects begins; 0 without an entry.
+fn first_in_both(first: &Project, second: &Project) -> SampleTime
+    ensures { result ≡ least_of (λ event. event.dest_in) (first.now.events ++ second.now.events) }
 {
-    let Some((first, others)) = events.split_first() else {
-        return SampleTime::ZERO;
-    };
-    let mut least = first.dest_in;
-    for event in others {
-        least = least.min(event.dest_in);
-    }
-    least
-}
-
-/// The time at which the first event of two lists begins; 0 without an event.
-fn first_in_both(events: &[Event], others: &[Event]) -> SampleTime
-    ensures { result ≡ least_of (λ event. event.dest_in) (events.now ++ others.now) }
-{
+    let events = first.events();
+    let others = second.events();
     if events.is_empty() {
-        first_in(others)
+        second.first_in()
     } else if others.is_empty() {
-        first_in(events)
+        first.first_in()
     } else {
-        first_in(events).min(first_in(others))
+        first.first_in().min(second.first_in())
     }
-}
-
-/// The time at which the last event has ended; 0 without an event.
-fn last_out(events: &[Event]) -> SampleTime
-    ensures { result ≡ greatest_of (λ event. event.dest_out) events.now }
-{
-    let mut greatest = SampleTime::ZERO;
-    for event in events {
-        greatest = greatest.max(event.dest_out);
-    }
-    greatest
-}
-
-/// The last channel on which an event of a project sounds, at least 1.
-fn last_channel(project: &Project) -> u8
-    ensures value { result ≡ max 1 (greatest_of (λ event. event.dest.last) project.now.events) }
-    ensures few { result ≤ 64 }
-{
-    let events = project.events();
-    let mut greatest = 1;
-    for event in events {
-        greatest = greatest.max(event.dest.last);
-    }
-    greatest
 }
 
 /// What is compared of two projects.
@@ -114,11 +77,11 @@ pub fn compared_in(selection: &Selection, first: &Project, second: &Project) -> 
     ensures channels { result.channels ≡ (compared_in selection.now first.now.events second.now.events).channels }
     ensures whole { IsTrue (list_all is_event (first.now.events ++ second.now.events)) }
 {
-    let events = first.events();
-    let others = second.events();
-    let from = first_in_both(events, others);
-    let to = last_out(events).max(last_out(others));
-    let channels = last_channel(first).max(last_channel(second));
+    let from = first_in_both(first, second);
+    let to = first.last_out().max(second.last_out());
+    let channels = first.last_channel().max(second.last_channel());
+    let _ = first.events();
+    let _ = second.events();
     Extent {
         from: selection.from.unwrap_or(from),
         to: selection.to.unwrap_or(to),

@@ -9,9 +9,9 @@ ghost use Rattle.comparison.specs.Matched.{ReadFiles};
 ghost use Rattle.comparison.specs.Range as range;
 ghost use Rattle.comparison.specs.Range.{HasChannels};
 
-use crate::counting::count_sides;
 use crate::projects::{sides_of, time_of};
 use crate::range::{Extent, Region, Selection, compared_in};
+use crate::tally::count_sides;
 use crate::{CompareFault, SideFault};
 use devices::{Shelf, Watch};
 use projectcheck::Checked;

@@ -17,7 +17,7 @@ use Rattle.markfile.specs.Opened.{opened_of}
 use Rattle.markfile.specs.Started.{NoneStarted, is_started}
 use Rattle.markfile.specs.declared.fault.MarkFault.{MarkFault}
 use Rattle.execution.specs.declared.fault.ExecutionFault.{ExecutionFault}
-use Rattle.opening.specs.declared.checking.Opened.{Opened}
+use Rattle.opening.specs.declared.accepted_list.Opened.{Opened}
 use Rattle.rendering.specs.Marked as of_run
 use Rattle.rendering.specs.Marked.{IsLeftByRun, full_marks, run_of}
 use Rattle.rendering.specs.Rendering as rendering

@@ -19,7 +19,7 @@ use Rattle.rendering.specs.Marked.{MarkedWork}
 use Rattle.rendering.specs.Work.{RenderWork, done_before, heard}
 use Rattle.work_terms.specs.Disk.{Files}
 use Rattle.consolidate.specs.Listed.{IsPlannedAs, marks_in, mix_in, range_in}
-use Rattle.consolidate.specs.declared.requested.Listed.{Listed}
+use Rattle.consolidate.specs.declared.request.Listed.{Listed}
 
 -- what a work that has noted its open jobs makes of it
 abbrev pub Counts : MarkedWork → Clips → Type 0

@@ -17,7 +17,7 @@ use Rattle.rendering.specs.Rendering as rendering_file
 use Rattle.rendering.specs.Work.{whole_of}
 use Rattle.consolidate.specs.Listed.{IsMarkedIn, IsPlannedAs, marking_in, mix_in, range_in}
 use Rattle.consolidate.specs.Marks.{HoldsMarked, IsLeftByRendering, IsLeftOf, file_marking, list_marking}
-use Rattle.consolidate.specs.declared.requested.Listed.{Listed}
+use Rattle.consolidate.specs.declared.request.Listed.{Listed}
 use Rattle.consolidate.proofs.Crashes.{weaker}
 use Rattle.consolidate.proofs.Due.{one_accepted}
 

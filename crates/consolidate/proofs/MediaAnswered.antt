@@ -15,7 +15,7 @@ use Rattle.passes.specs.Left.{Leaving}
 use Rattle.provenance.specs.Asked.{AskedReport}
 use Rattle.consolidation.specs.Consolidated.{IsWorkOf}
 use Rattle.execution.specs.declared.fault.ExecutionFault.{ExecutionFault}
-use Rattle.opening.specs.declared.checking.Opened.{Opened}
+use Rattle.opening.specs.declared.accepted_list.Opened.{Opened}
 use Rattle.consolidate.specs.Commands.{IsMediaAnswer, OpensList, RefusesByWork}
 use Rattle.consolidate.specs.Fault.{refusal_of}
 use Rattle.consolidate.specs.MediaOutcome.{ConsolidatesList}

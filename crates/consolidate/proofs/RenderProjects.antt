@@ -38,7 +38,7 @@ use Rattle.rendering.specs.Maker.{HasSoundJobs, IsReopened, marks_of, plan_of}
 use Rattle.rendering.specs.MakerLaws.{run_leaves, started_as}
 use Rattle.rendering.specs.Marked.{HoldsMarked, IsFoundAs, IsLeftByRun, IsResumable, MarkedWork, full_marks, run_of}
 use Rattle.rendering.specs.Work.{AreCutBy, done_before, heard, work_of}
-use Rattle.rendering.specs.declared.cutting.JobLength.{JobLength}
+use Rattle.rendering.specs.declared.job_length.JobLength.{JobLength}
 use Rattle.consolidate.specs.Commands.{IsOutput, IsSource}
 use Rattle.consolidate.specs.Fault.{refusal_of}
 use Rattle.consolidate.specs.Listed.{BeginsListed, GoesOnListed, IsLeftListed, IsMarkedIn, IsPlannedAs, KeepsListed, ResumesListed, marking_in, marks_in, mix_in, range_in, run_in, values_in}
@@ -47,7 +47,7 @@ use Rattle.consolidate.specs.RenderOutcome.{GoesOnBound, IsRenderedWork, IsResum
 use Rattle.consolidate.specs.RenderWorks.{BeginsWork, DoesWork, GoesOnWithWork, KeepsMarked, StandsAsMarked, WorksOn}
 use Rattle.consolidate.specs.declared.fault.Fault.{Fault}
 use Rattle.consolidate.specs.declared.fault.Fault.TheVariants as fault
-use Rattle.consolidate.specs.declared.requested.Listed.{Listed}
+use Rattle.consolidate.specs.declared.request.Listed.{Listed}
 use Rattle.consolidate.proofs.Clipped.{reopened_clips}
 use Rattle.consolidate.proofs.Crashes.{joined, weaker}
 use Rattle.consolidate.proofs.Listed.{as_list, fewer_left, left_as_list, marked_in, now_resumable}

@@ -17,7 +17,7 @@ use Rattle.consolidate.specs.declared.compare_fault.ListFault.{ListFault}
 use Rattle.consolidate.specs.declared.compare_fault.ListFault.TheVariants.{Project, Intervals, Memory, Source}
 use Rattle.consolidate.specs.declared.compare_fault.CompareFault.{CompareFault}
 use Rattle.consolidate.specs.declared.compare_fault.CompareFault.TheVariants.{EmptyRange, First, Second}
-use Rattle.consolidate.specs.declared.compared.Compared.{Compared}
+use Rattle.consolidate.specs.declared.compare_call.Compared.{Compared}
 use Rattle.consolidate.specs.CompareFault.{ForFirst, ForSecond, HoldsOfDevice, IsDevice, IsFirst, IsOfSums, IsOwn, IsReportedAs, IsReportedOfTwo, OfFirst, OfSecond, refusal_of}
 use Rattle.consolidate.specs.Comparing.{AnswersFirst, AnswersRange, AnswersSecond}
 

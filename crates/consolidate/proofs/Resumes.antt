@@ -32,7 +32,7 @@ use Rattle.consolidate.specs.Marks.{count_in, fault_in, file_marking, marks_refu
 use Rattle.consolidate.specs.Own.{IsOfRendering, IsOfResuming}
 use Rattle.consolidate.specs.Resuming.{resume_refusal}
 use Rattle.consolidate.specs.declared.fault.Fault.{Fault}
-use Rattle.consolidate.specs.declared.requested.Listed.{Listed}
+use Rattle.consolidate.specs.declared.request.Listed.{Listed}
 use Rattle.consolidate.specs.declared.fault.Fault.TheVariants as fault
 use Rattle.consolidate.proofs.Listed.{same_file}
 use Rattle.consolidate.proofs.Due.{due_behind, opening_due, range_due}

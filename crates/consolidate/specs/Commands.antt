@@ -20,12 +20,12 @@ use Rattle.adlread.specs.Spells.{Spells}
 use Rattle.passes.specs.Left.{Leaving}
 use Rattle.opening.specs.Commands as opening
 use Rattle.opening.specs.Faults as opening_faults
-use Rattle.opening.specs.declared.checking.Accepted.{Accepted}
-use Rattle.opening.specs.declared.checking.Opened.{Opened}
+use Rattle.opening.specs.declared.accepted_list.Accepted.{Accepted}
+use Rattle.opening.specs.declared.accepted_list.Opened.{Opened}
 use Rattle.markfile.specs.Format.{marks_name}
 use Rattle.markfile.specs.Started.{NoneStarted}
 use Rattle.rendering.specs.Marked.{IsOther}
-use Rattle.rendering.specs.declared.cutting.JobLength.{JobLength}
+use Rattle.rendering.specs.declared.job_length.JobLength.{JobLength}
 use Rattle.rendering.specs.Rendering as rendering
 use Rattle.provenance.specs.Asked.{AskedReport}
 use Rattle.consolidation.specs.Consolidated as consolidation
@@ -40,8 +40,8 @@ use Rattle.consolidate.specs.Marks.{AreBothDurable, HasAllMarks, IsLeftByRenderi
 use Rattle.consolidate.specs.declared.fault.Fault.{Fault}
 use Rattle.consolidate.specs.declared.fault.Fault.TheVariants as fault
 use Rattle.consolidate.specs.declared.fault.OutputFile.TheVariants as file
-use Rattle.consolidate.specs.declared.rendered.Rendered.{Rendered}
-use Rattle.consolidate.specs.declared.consolidated.Written.{Written}
+use Rattle.consolidate.specs.declared.render_call.Rendered.{Rendered}
+use Rattle.consolidate.specs.declared.consolidate_call.Written.{Written}
 
 -- the call fails by this refusal, or by one that may come in its place
 abbrev pub IsRefusedBy : {X : Type 0} → Refusal → Result X Fault → Type 0

@@ -17,7 +17,7 @@ use Rattle.consolidate.specs.Commands.{all_notices}
 use Rattle.consolidate.specs.CompareFault.{ForFirst, ForSecond, HoldsOfDevice, IsDevice, IsFirst, IsOfSums, IsOwn, OfFirst, OfSecond, refusal_of}
 use Rattle.consolidate.specs.declared.compare_fault.CompareFault.{CompareFault}
 use Rattle.consolidate.specs.declared.compare_fault.CompareFault.TheVariants.{EmptyRange, First, Second}
-use Rattle.consolidate.specs.declared.compared.Compared.{Compared}
+use Rattle.consolidate.specs.declared.compare_call.Compared.{Compared}
 
 -- Both lists are accepted, and what is reported of their exact sums, at all that was chosen, is so. Times are written
 -- as in the first one.

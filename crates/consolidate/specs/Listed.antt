@@ -25,7 +25,7 @@ use Rattle.consolidate.specs.Marks.{IsMarkedFor, list_marking}
 use Rattle.consolidate.specs.RenderOutcome.{RendersBound, ResumesBound}
 use Rattle.consolidate.specs.RenderWorks.{DoesWork}
 use Rattle.consolidate.specs.declared.fault.Fault.{Fault}
-use Rattle.consolidate.specs.declared.requested.Listed.{Listed}
+use Rattle.consolidate.specs.declared.request.Listed.{Listed}
 
 abbrev pub values_in : Listed → OptionValues
 values_in listed = values_of listed.choice.now.options

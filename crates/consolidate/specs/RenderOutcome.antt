@@ -21,7 +21,7 @@ use Rattle.rendering.specs.Maker.{HasSoundJobs, plan_of}
 use Rattle.rendering.specs.Marked.{MarkedWork, run_of}
 use Rattle.rendering.specs.Planned.{IsRenderingOf}
 use Rattle.rendering.specs.Work.{AreCutBy, done_before, work_of}
-use Rattle.rendering.specs.declared.cutting.JobLength.{JobLength}
+use Rattle.rendering.specs.declared.job_length.JobLength.{JobLength}
 use Rattle.workboard.specs.Indexed.{IsOrder}
 use Rattle.work_terms.specs.Disk.{Files}
 use Rattle.consolidate.specs.Marks.{IsMarkedFor}

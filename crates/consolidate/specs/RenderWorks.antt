@@ -30,7 +30,7 @@ use Rattle.consolidate.specs.Marks.{AreBothDurable}
 use Rattle.consolidate.specs.Outcomes.{AnswersAs, HasBegun, IsAllDone}
 use Rattle.consolidate.specs.RenderOutcome.{IsRenderedWork, IsResumedWork, in_rounds, rendering_fault}
 use Rattle.consolidate.specs.declared.fault.Fault.{Fault}
-use Rattle.consolidate.specs.declared.marked.Worked.{Worked}
+use Rattle.consolidate.specs.declared.marks.Worked.{Worked}
 use Rattle.consolidate.specs.declared.fault.Fault.TheVariants as fault
 
 -- no memory was found before the first write

@@ -12,13 +12,13 @@ use Rattle.markfile.specs.Format.{marks_name}
 use Rattle.markfile.specs.Opened.{opened_of}
 use Rattle.markfile.specs.Started.{is_started}
 use Rattle.rendering.specs.Marked.{run_of}
-use Rattle.rendering.specs.declared.cutting.JobLength.{JobLength}
+use Rattle.rendering.specs.declared.job_length.JobLength.{JobLength}
 use Rattle.consolidate.specs.Commands.{IsAnswer, IsRenderedWith, render_refusal}
 use Rattle.consolidate.specs.Marks.{HoldsMarked, IsLeftByRendering, count_in, marks_refusal}
 use Rattle.consolidate.specs.Own.{IsOfResuming}
 use Rattle.consolidate.specs.RenderOutcome.{ResumesList}
 use Rattle.consolidate.specs.declared.fault.Fault.{Fault}
-use Rattle.consolidate.specs.declared.resumed.Resumed.{Resumed}
+use Rattle.consolidate.specs.declared.resume_call.Resumed.{Resumed}
 
 -- the list is accepted, and its rendering is there as `render` leaves it
 abbrev pub IsResumed : List ℕ → OptionValues → Files → Files → Resumed → Type 0

@@ -12,7 +12,7 @@ use Rattle.list_terms.specs.Heard.{IsAccepted}
 use Rattle.list_terms.specs.Project.{ListProject}
 use Rattle.markfile.specs.Started.{NoneStarted}
 use Rattle.rendering.specs.Rendering as rendering
-use Rattle.rendering.specs.declared.cutting.JobLength.{JobLength}
+use Rattle.rendering.specs.declared.job_length.JobLength.{JobLength}
 use Rattle.passes.specs.Left.{Leaving}
 use Rattle.provenance.specs.Asked.{AskedReport}
 use Rattle.consolidation.specs.Consolidated as consolidation
@@ -26,8 +26,8 @@ use Rattle.consolidate.specs.RenderOutcome.{RendersList}
 use Rattle.consolidate.specs.declared.fault.Fault.{Fault}
 use Rattle.consolidate.specs.declared.fault.Fault.TheVariants as fault
 use Rattle.consolidate.specs.declared.fault.OutputFile.TheVariants as file
-use Rattle.consolidate.specs.declared.schedules.Work.{Work}
-use Rattle.consolidate.specs.declared.schedules.Work.TheVariants as work
+use Rattle.consolidate.specs.declared.schedule_call.Work.{Work}
+use Rattle.consolidate.specs.declared.schedule_call.Work.TheVariants as work
 
 -- what is made of a list has 1 to 64 channels, where their number is chosen
 abbrev pub WorkHasChannels : {X : Type 0} {P : X → Type 0} → Work X P → Type 0

@@ -10,7 +10,7 @@ use Rattle.markfile.specs.Opened.{opened_of}
 use Rattle.renderreport.specs.Report.{Facts, content, report_name, report_text, sound_name}
 use Rattle.rendering.specs.Clipping.{marked_in}
 use Rattle.rendering.specs.Marked.{run_of}
-use Rattle.rendering.specs.declared.cutting.JobLength.{JobLength}
+use Rattle.rendering.specs.declared.job_length.JobLength.{JobLength}
 use Rattle.sound_terms.specs.declared.Depth.{Depth}
 use Rattle.consolidate.specs.Clipping.{ClipsList}
 use Rattle.consolidate.specs.Commands.{HoldsOfOutput, IsRendering}
@@ -20,10 +20,10 @@ use Rattle.consolidate.specs.declared.choice.RenderReport.{RenderReport}
 use Rattle.consolidate.specs.declared.fault.Fault.{Fault}
 use Rattle.consolidate.specs.declared.fault.Fault.TheVariants as fault
 use Rattle.consolidate.specs.declared.fault.OutputFile.TheVariants as file
-use Rattle.consolidate.specs.declared.rendered.Rendered.{Rendered}
-use Rattle.consolidate.specs.declared.rendered.RenderedSound.{RenderedSound}
-use Rattle.consolidate.specs.declared.resumed.Resumed.{Resumed}
-use Rattle.consolidate.specs.declared.resumed.ResumedSound.{ResumedSound}
+use Rattle.consolidate.specs.declared.render_call.Rendered.{Rendered}
+use Rattle.consolidate.specs.declared.render_call.RenderedSound.{RenderedSound}
+use Rattle.consolidate.specs.declared.resume_call.Resumed.{Resumed}
+use Rattle.consolidate.specs.declared.resume_call.ResumedSound.{ResumedSound}
 
 -- by the program of this name and version
 pub record SoundReport : Type 0 where

@@ -6,8 +6,8 @@ ghost use Rattle.rendering.specs.Rendering.{values_of};
 ghost use Rattle.consolidate.specs.SoundReports.{IsReportedRendering, IsReportedResuming, WritesReport, asked_of, sound_facts};
 
 use crate::choice::{Clipping, RenderReport, ReportedChoice};
-use crate::rendered::{RenderedSound, render_watched};
-use crate::resumed::{ResumedSound, resume_watched};
+use crate::render_call::{RenderedSound, render_watched};
+use crate::resume_call::{ResumedSound, resume_watched};
 use crate::{Fault, OutputFile};
 use devices::{Bench, Shelf, Watch};
 use rendering::Depth;

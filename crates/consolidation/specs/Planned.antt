@@ -92,6 +92,17 @@ pub record MediaPlan : Type 0 where
   pub entries : ℕ
   pub report : Option Report
 
+-- of these runs with their homes
+abbrev pub plan_of : List SoundFacts → HomedRuns → List ℕ → ℕ → Option Report → MediaPlan
+plan_of sounds found text entries report = record {
+  sounds = sounds;
+  homes = found.homes;
+  runs = found.runs;
+  text = text;
+  entries = entries;
+  report = report;
+}
+
 -- it is a piece of one of the runs
 abbrev pub HasPiece : MediaPlan → CopyJob → Type 0
 HasPiece plan piece = IsPieceOf plan.sounds plan.runs piece

@@ -4,7 +4,6 @@
 mod fault;
 mod jobs;
 mod last;
-mod layout;
 mod list;
 mod maker;
 mod media;
@@ -12,7 +11,7 @@ mod outcome;
 mod output_groups;
 mod outputs;
 mod plan;
-mod planning;
+mod plan_parts;
 mod sizes;
 mod written;
 

@@ -11,10 +11,10 @@ ghost use Rattle.mediacopy.specs.Moment.{IsLater};
 use crate::Consolidation;
 use devices::Bench;
 use execution::OutputFault;
-use mediacopy::{LONGEST_HEADER, medium_name};
+use mediacopy::{LONGEST_HEADER, info_of, lay_out_in, medium_name};
 
 impl<'a> Consolidation<'a> {
-    /// Lays out the medium at a position. Its header is made in `room`.
+    /// Makes the medium at a position at its full length, all samples zero. Its header is made in `room`.
     fn lay_out_output<B: Bench>(
         &self,
         position: u32,
@@ -27,7 +27,12 @@ impl<'a> Consolidation<'a> {
             (FailsAtMedium (length self.now.runs)) }
         ensures later { IsLater B.moment bench.old bench.new }
     {
-        match self.blank_medium(position as usize, room, bench) {
+        let run = &self.runs.as_slice()[position as usize];
+        let sound = &self.bound.sounds()[run.file as usize];
+        let base = self.runs.homes().base(run.file);
+        let info = info_of(sound, base, run);
+        let name = medium_name(u64::from(position) + 1);
+        match lay_out_in(bench, name.as_str(), &info, room) {
             Ok(()) => Ok(()),
             Err(_) => Err(OutputFault { file: position }),
         }

@@ -15,7 +15,7 @@ ghost use Rattle.consolidation.specs.There.{AreThere};
 
 use crate::ConsolidationFault;
 use crate::output_groups::groups_left;
-use crate::planning::plan_of;
+use crate::plan_parts::plan_of;
 use devices::{Shelf, Watch};
 use interval::from_checked;
 use mediaset::Runs;
@@ -54,23 +54,9 @@ impl<'a> Model for Consolidation<'a> {
 
     ghost Value = { planned.MediaPlan };
 
-    ghost view = { λ c. record {
-      sounds = sounds_of c.bound.now;
-      homes = c.runs.homes;
-      runs = c.runs.runs;
-      text = c.text.items;
-      entries = c.entries;
-      report = c.report;
-    } };
+    ghost view = { λ c. planned.plan_of (sounds_of c.bound.now) c.runs c.text.items c.entries c.report };
 
-    ghost invariant = { λ c. planned.IsMediaPlan (record {
-      sounds = sounds_of c.bound.now;
-      homes = c.runs.homes;
-      runs = c.runs.runs;
-      text = c.text.items;
-      entries = c.entries;
-      report = c.report;
-    })
+    ghost invariant = { λ c. planned.IsMediaPlan (planned.plan_of (sounds_of c.bound.now) c.runs c.text.items c.entries c.report)
         × AreEnds c.runs.runs c.ends.items };
 }
 

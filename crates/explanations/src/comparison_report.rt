@@ -1,5 +1,5 @@
 // What a comparison found, as JSON.
-use crate::differing::{SoundingEntries, fmt_time};
+use crate::difference::{SoundingEntries, fmt_time};
 use consolidate::{Compared, Comparison};
 use list_terms::Notice;
 use sampletime::SampleTime;

@@ -32,6 +32,22 @@ rank_behind (Fall offset den) cut = refl
 next_start : (p q : Piece) → IsTrue (may_follow p q) → q.start ≡ p.start + p.length
 next_start p q follows = grind (arith, nat_tests)
 
+-- a stretch of a piece is one
+stretch_is_piece : (p : Piece) (start frame length : ℕ) (shape : Shape) → IsPiece p → 1 ≤ length
+    → start + length ≤ p.start + p.length → frame + length ≤ p.frame + p.length → IsRamp shape length
+    → IsPiece (record p { start = start; length = length; frame = frame; shape = shape })
+stretch_is_piece p start frame length shape ok some ends frames ramp = record {
+  wide = ok.wide;
+  source_from_one = ok.source_from_one;
+  source_to_64 = ok.source_to_64;
+  dest_from_one = ok.dest_from_one;
+  dest_to_64 = ok.dest_to_64;
+  some = omega arith;
+  in_day = omega (arith, ok.in_day);
+  source_in_day = omega (arith, ok.source_in_day);
+  ramp = ramp;
+}
+
 -- a piece before a time is one
 before_is_piece : (time : ℕ) (p : Piece) → IsPiece p → All IsPiece (piece_before time p)
 before_is_piece time p ok = by_ends (nat_le time p.start) (nat_le (p.start + p.length) time) refl refl where
@@ -42,17 +58,9 @@ before_is_piece time p ok = by_ends (nat_le time p.start) (nat_le (p.start + p.l
   by_ends false false e f =
       let low : p.start < time = grind (arith, nat_tests) in
       let high : time < p.start + p.length = grind (arith, nat_tests) in
-      rw (e, f) (All-cons IsPiece _ [] (record {
-        wide = ok.wide;
-        source_from_one = ok.source_from_one;
-        source_to_64 = ok.source_to_64;
-        dest_from_one = ok.dest_from_one;
-        dest_to_64 = ok.dest_to_64;
-        some = omega arith;
-        in_day = omega (arith, ok.in_day);
-        source_in_day = omega (arith, ok.source_in_day);
-        ramp = ramp_shorter p.shape p.length (time - p.start) (omega arith) ok.ramp;
-      }) (All-nil IsPiece))
+      rw (e, f) (All-cons IsPiece _ [] (stretch_is_piece p p.start p.frame (time - p.start) p.shape ok
+      (omega arith) (omega arith) (omega arith) (ramp_shorter p.shape p.length (time - p.start) (omega arith) ok.ramp))
+      (All-nil IsPiece))
 
 behind_is_piece : (time : ℕ) (p : Piece) → IsPiece p → All IsPiece (piece_behind time p)
 behind_is_piece time p ok = by_ends (nat_le time p.start) (nat_le (p.start + p.length) time) refl refl where
@@ -63,17 +71,11 @@ behind_is_piece time p ok = by_ends (nat_le time p.start) (nat_le (p.start + p.l
   by_ends false false e f =
       let low : p.start < time = grind (arith, nat_tests) in
       let high : time < p.start + p.length = grind (arith, nat_tests) in
-      rw (e, f) (All-cons IsPiece _ [] (record {
-        wide = ok.wide;
-        source_from_one = ok.source_from_one;
-        source_to_64 = ok.source_to_64;
-        dest_from_one = ok.dest_from_one;
-        dest_to_64 = ok.dest_to_64;
-        some = omega arith;
-        in_day = omega (arith, ok.in_day);
-        source_in_day = omega (arith, ok.source_in_day);
-        ramp = ramp_within p.shape (time - p.start) (p.length - (time - p.start)) p.length (omega arith) ok.ramp;
-      }) (All-nil IsPiece))
+      let left = p.length - (time - p.start) in
+      rw (e, f) (All-cons IsPiece _ [] (stretch_is_piece p time (p.frame + (time - p.start)) left
+      (shape_behind (time - p.start) p.shape) ok (omega arith) (omega arith) (omega arith)
+      (ramp_within p.shape (time - p.start) left p.length (omega arith) ok.ramp))
+      (All-nil IsPiece))
 
 pub front_pieces : (time : ℕ) (group : List Piece) → All IsPiece group → All IsPiece (front time group)
 front_pieces time [] all = All-nil IsPiece

@@ -1,7 +1,7 @@
 //! The sound of a list as groups of pieces over files.
 #![tactic(auto)]
 
-mod cutting;
+mod cuts;
 mod fault;
 mod group;
 mod intervals;

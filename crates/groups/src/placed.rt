@@ -1,5 +1,5 @@
 // Groups as events.
-ghost use Rattle.std.specs.Prelude.{◌≡◌, ◌≤◌, ◌∷◌, [], ℕ, IsTrue, IfOk, map, option_to_list};
+ghost use Rattle.std.specs.Prelude.{◌≡◌, ◌+◌, ◌≤◌, ◌∷◌, [], ℕ, IsTrue, IfOk, map, option_to_list};
 ghost use Rattle.std.specs.List.{sum_by};
 ghost use Rattle.sampletime.specs.TimeCode.{day};
 ghost use Rattle.sound_terms.specs.Mix.{Reading};
@@ -42,28 +42,25 @@ fn falling_in(piece: &Piece) -> u64
     }
 }
 
-/// How many samples of these pieces rise.
-fn rise_of(pieces: &[Piece]) -> u64
-    requires { sum_by entries.rising_in pieces.now ≤ day }
-    ensures { result ≡ sum_by entries.rising_in pieces.now }
-{
-    let mut rise = 0;
-    for piece in pieces {
-        rise += rising_in(piece);
-    }
-    rise
+/// How many samples of pieces lie in ramps.
+struct Ramps {
+    rise: u64,
+    fall: u64,
 }
 
-/// How many samples of these pieces fall.
-fn fall_of(pieces: &[Piece]) -> u64
-    requires { sum_by entries.falling_in pieces.now ≤ day }
-    ensures { result ≡ sum_by entries.falling_in pieces.now }
+/// How many samples of these pieces rise, and how many fall.
+fn ramps_of(pieces: &[Piece]) -> Ramps
+    requires { sum_by entries.rising_in pieces.now + sum_by entries.falling_in pieces.now ≤ day }
+    ensures rise { result.rise ≡ sum_by entries.rising_in pieces.now }
+    ensures fall { result.fall ≡ sum_by entries.falling_in pieces.now }
 {
+    let mut rise = 0;
     let mut fall = 0;
     for piece in pieces {
+        rise += rising_in(piece);
         fall += falling_in(piece);
     }
-    fall
+    Ramps { rise, fall }
 }
 
 impl Group {
@@ -73,6 +70,7 @@ impl Group {
     {
         let pieces = self.pieces();
         let first = pieces.first()?;
+        let Ramps { rise, fall } = ramps_of(pieces);
         Some(Placed {
             start: first.start,
             length: length_of(pieces),
@@ -81,8 +79,8 @@ impl Group {
             first: first.first,
             dest: first.dest,
             width: first.width,
-            rise: rise_of(pieces),
-            fall: fall_of(pieces),
+            rise,
+            fall,
         })
     }
 }

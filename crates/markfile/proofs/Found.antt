@@ -12,7 +12,7 @@ use Rattle.markfile.specs.declared.run.RunId.{RunId}
 use Rattle.markfile.specs.declared.fault.MarkFault.{MarkFault}
 use Rattle.markfile.specs.declared.fault.MarkFault.TheVariants.{BadMarks, OtherRun}
 use Rattle.markfile.specs.Format.{AreMarksOf, head_of, is_marked, marks_name, sound_name}
-use Rattle.markfile.specs.declared.opening.Marks.{Marks}
+use Rattle.markfile.specs.declared.found_marks.Marks.{Marks}
 use Rattle.markfile.specs.Opened.{Answers, AreFound, fits_run, front_fault, has_length, marks_in, opened_by, opened_of, told}
 use Rattle.markfile.specs.Started.{is_started}
 

@@ -175,3 +175,11 @@ moments_set bench run from behind order marks old new lasts =
     weaker bench.moment bench.left_since old new (IsAfter (bench.may_leave old) (IsTorn (44 + from) (behind - from)))
     (LeavesMarks run from behind marks (bench.may_leave old))
     (while_set run from behind order marks lasts.ours (bench.may_leave old) lasts.kept)
+
+-- and after a crash then
+pub outcome_set : {B : Type 0} (bench : Ghosts B) (run : RunId) (from behind : ℕ) → from ≤ behind → (marks : List ℕ)
+    → (old : B) → Lasts bench run marks old → (c : Files)
+    → IsAfter (bench.may_leave old) (IsTorn (44 + from) (behind - from)) c
+    → LeavesMarks run from behind marks (bench.may_leave old) c
+outcome_set bench run from behind order marks old lasts =
+    while_set run from behind order marks lasts.ours (bench.may_leave old) lasts.kept

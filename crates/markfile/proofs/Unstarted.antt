@@ -3,8 +3,9 @@ use Rattle.std.proofs.Common.{◌≡◌, ◌∙◌, ℕ, ◌<◌, Bool, true, fa
 use Rattle.std.specs.Prelude.{OnOk}
 use Rattle.std.proofs.lemmas.List.{get_or-take}
 use Rattle.std.proofs.lemmas.Bool.Decides.{nat_tests}
-use Rattle.work_terms.specs.Disk.{ChangesOnly, Files, HasTornEnd, HasTornRange, IsBeside, IsDurable, IsPending, IsTorn, IsTornBehind, IsWritten, end_of}
+use Rattle.work_terms.specs.Disk.{ChangesOnly, Files, HasTornEnd, HasTornRange, IsBeside, IsDurable, IsPending, IsTorn, IsTornBehind, IsWritten, LeavesOnly, end_of}
 use Rattle.devices.specs.declared.bench.Bench.{Ghosts}
+use Rattle.markfile.proofs.Moments.{and_then, weaker}
 use Rattle.markfile.specs.declared.run.RunId.{RunId}
 use Rattle.markfile.specs.Format.{fresh_marks, head_of, marks_name}
 use Rattle.markfile.specs.Started.{Holds, IsAfter, LeavesStart, LeavesUnstarted, NoneStarted, is_started}
@@ -87,6 +88,42 @@ added o mid step marks before lasts still c after = record {
   beside = beside_again o mid (λ d left. (before d left).beside) c (beside mid step c after);
   unstarted = still (after.0 marks_name) (c marks_name) (lasts after.0 after.1) after.2.here;
 }
+
+-- a gate that is shut is added to marks that were made just now
+module _ {B : Type 0} (bench : Ghosts B) (start made : B) (none : NoneStarted (bench.may_leave start))
+    (making : (c : Files) → bench.may_leave made c → IsAfter (bench.may_leave start) IsPending c)
+    (empty : bench.stored made marks_name ≡ Some [])
+    (durable : IsDurable marks_name (bench.stored made) (bench.may_leave made)) where
+  abbrev GateStep : Option (List ℕ) → Option (List ℕ) → Type 0
+  GateStep = IsTornBehind (end_of (bench.stored made marks_name)) 1
+
+  gate_left : (c : Files) → IsAfter (bench.may_leave made) GateStep c → LeavesUnstarted (bench.may_leave start) c
+  gate_left =
+      added (bench.may_leave start) (bench.may_leave made) GateStep []
+      (λ x left. created (bench.may_leave start) none x (making x left)) (λ x left. durable x left ∙ empty)
+      (λ old new was torn. first_append (bench.stored made marks_name) old new 1 empty was (omega arith) torn)
+
+  pub gate_moments : (now : B)
+      → LeavesOnly bench.moment bench.left_since start made (IsAfter (bench.may_leave start) IsPending)
+      → LeavesOnly bench.moment bench.left_since made now (IsAfter (bench.may_leave made) GateStep)
+      → LeavesOnly bench.moment bench.left_since start now (LeavesUnstarted (bench.may_leave start))
+  gate_moments now first second =
+      and_then bench.moment bench.left_since start made now (LeavesUnstarted (bench.may_leave start))
+      (IsAfter (bench.may_leave made) GateStep) gate_left
+      (weaker bench.moment bench.left_since start made (IsAfter (bench.may_leave start) IsPending)
+      (LeavesUnstarted (bench.may_leave start)) (created (bench.may_leave start) none) first)
+      second
+
+  -- and more is added behind it
+  pub gate_then : (mid : B) → ((c : Files) → bench.may_leave mid c → IsAfter (bench.may_leave made) GateStep c)
+      → bench.stored mid marks_name ≡ Some (0 ∷ []) → IsDurable marks_name (bench.stored mid) (bench.may_leave mid)
+      → (n : ℕ) → (c : Files)
+      → IsAfter (bench.may_leave mid) (IsTornBehind (end_of (bench.stored mid marks_name)) n) c
+      → LeavesUnstarted (bench.may_leave start) c
+  gate_then mid adding shut lasts n =
+      added (bench.may_leave start) (bench.may_leave mid) (IsTornBehind (end_of (bench.stored mid marks_name)) n)
+      (0 ∷ []) (λ x left. gate_left x (adding x left)) (λ x left. lasts x left ∙ shut)
+      (λ old new was torn. next_append (bench.stored mid marks_name) old new n shut was torn)
 
 pub as_start : (run : RunId) (o : Files → Type 0) (c : Files) → LeavesUnstarted o c → LeavesStart run o c
 as_start run o c left = record {

@@ -5,7 +5,7 @@ use Rattle.sound_terms.specs.Waves.{u32_bytes}
 use Rattle.work_terms.specs.Disk.{Files, IsEmptyOrAbsent, IsUntouched}
 use Rattle.devices.specs.declared.bench.Bench.{Ghosts}
 use Rattle.markfile.specs.declared.run.RunId.{RunId}
-use Rattle.markfile.specs.declared.opening.Marks as opening
+use Rattle.markfile.specs.declared.found_marks.Marks as opening
 use Rattle.markfile.specs.declared.fault.MarkFault.{MarkFault}
 use Rattle.markfile.specs.declared.fault.MarkFault.TheVariants.{OtherRun, BadMarks, Memory}
 use Rattle.markfile.specs.declared.fault.MarkFault.TheVariants as fault

@@ -4,21 +4,21 @@
 
 mod fault;
 mod fields;
+mod found_marks;
 mod fresh;
+mod fresh_marks;
 mod front;
-mod opening;
+mod marked_blocks;
 mod run;
-mod setting;
 mod settled;
-mod starting;
 mod synced;
 
 pub use fault::{MarkFault, MarkedFile};
+pub use found_marks::{Marks, open_marks};
 pub use fresh::FreshMarks;
-pub use opening::{Marks, open_marks};
+pub use fresh_marks::{start, start_fresh};
+pub use marked_blocks::{MOST_AT_ONCE, mark, mark_all};
 pub use run::{RunId, RunRange};
-pub use setting::{MOST_AT_ONCE, mark, mark_all};
-pub use starting::{start, start_fresh};
 
 /// The name of the file that is rendered.
 pub const SOUND: &str = "render.wav";

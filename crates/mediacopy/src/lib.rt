@@ -2,16 +2,16 @@
 //! piece.
 #![tactic(auto)]
 
-mod copying;
 mod fault;
 mod info;
-mod laying;
-mod naming;
+mod layout;
+mod names;
 mod piece;
+mod piece_copy;
 
-pub use copying::{copy_piece, fetch_piece, is_piece, length_of, place_piece};
 pub use fault::CopyFault;
 pub use info::{info_of, reads_back};
-pub use laying::{LONGEST_HEADER, lay_out, lay_out_in};
-pub use naming::medium_name;
+pub use layout::{LONGEST_HEADER, lay_out, lay_out_in};
+pub use names::medium_name;
 pub use piece::CopyJob;
+pub use piece_copy::{copy_piece, fetch_piece, is_piece, length_of, place_piece};

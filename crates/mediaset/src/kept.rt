@@ -8,7 +8,7 @@ ghost use Rattle.sound_terms.specs.declared.piece.Run as run;
 ghost use Rattle.mediaset.specs.Runs.{AreIndexable, homed};
 
 use crate::RunFault;
-use crate::merging::merge;
+use crate::merged_spans::merge;
 use crate::spans::spans_of;
 use groups::Intervals;
 use sound_terms::{Homes, Run};

@@ -4,7 +4,7 @@
 mod bound;
 mod fault;
 mod kept;
-mod merging;
+mod merged_spans;
 mod spans;
 
 pub use bound::runs;

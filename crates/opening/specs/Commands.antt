@@ -11,7 +11,7 @@ use Rattle.list_terms.specs.Text.{text_value}
 use Rattle.adlread.specs.Spells.{Spells}
 use Rattle.opening.specs.Faults.{refusal_of}
 use Rattle.opening.specs.declared.fault.Fault.{Fault}
-use Rattle.opening.specs.declared.checking.Accepted as declared
+use Rattle.opening.specs.declared.accepted_list.Accepted as declared
 
 -- the place names a file of which this holds
 abbrev pub HoldsOfFile : (List ℕ → Type 0) → Where → Type 0

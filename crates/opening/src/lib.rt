@@ -2,12 +2,12 @@
 //! and tells what else is at fault in a list that is refused.
 #![tactic(auto)]
 
-mod checking;
+mod accepted_list;
 mod fault;
 mod further;
 mod open;
 
-pub use checking::{Accepted, AcceptedList, Opened, open_list};
+pub use accepted_list::{Accepted, AcceptedList, Opened, open_list};
 pub use fault::Fault;
 pub use further::{Further, Untold, further_faults};
 pub use open::open_project;

@@ -1,9 +1,12 @@
 -- What passes leave of groups, by the samples of the files.
 use Rattle.std.proofs.Common.{◌≡◌, refl}
-use Rattle.std.specs.Prelude.{Bool, List}
+use Rattle.std.specs.Prelude.{ℕ, Bool, false, List, IsTrue}
+use Rattle.std.specs.List.{list_any}
 use Rattle.sound_terms.specs.declared.piece.Piece.{Piece}
 use Rattle.sound_terms.specs.Mix.{Reading}
+use Rattle.sound_terms.specs.Groups.{mix_of, reads}
 use Rattle.sound_terms.specs.Passes.{in_turn, silences, standard_groups}
+use Rattle.passes.specs.Keeping.{StayWhole}
 use Rattle.passes.specs.Standard.{AreStandard}
 use mathlib.Core.Path.{fun_ext}
 
@@ -15,6 +18,21 @@ Leaving = Reading → List (List Piece) → List (List Piece)
 abbrev pub left_by : {B : Type 0} → (looks : B → Bool) → (gives : B → List (List Piece) → List Bool → List (List Piece))
     → List B → Leaving
 left_by looks gives passes reading groups = in_turn looks gives (silences reading) passes groups
+
+-- What `rest` of some passes makes of the groups left by the others is what all of them make of the given groups. What
+-- is left has the sum of the given groups, and plays no more frames. Where no pass looks, nothing is asked (`unasked`).
+abbrev pub IsLeft : {B : Type 0} → Reading → (is_honest unasked : Type 0) → (looks : B → Bool)
+    → (gives : B → List (List Piece) → List Bool → List (List Piece))
+    → (passes rest : List B) → (groups left : List (List Piece)) → Type 0
+IsLeft reading is_honest unasked looks gives passes rest groups left = record {
+  given : is_honest → in_turn looks gives (silences reading) rest left
+      ≡ in_turn looks gives (silences reading) passes groups;
+  same_mix : is_honest → (channel time : ℕ) → mix_of reading left channel time ≡ mix_of reading groups channel time;
+  whole : StayWhole groups left;
+  no_more : (file channel frame : ℕ) → IsTrue (reads left file channel frame)
+      → IsTrue (reads groups file channel frame);
+  quiet : list_any looks passes ≡ false → (list_any looks rest ≡ false) × unasked;
+}
 
 -- four passes in the standard order give the standard groups
 pub standard_in_turn : {B : Type 0} (looks : B → Bool) (gives : B → List (List Piece) → List Bool → List (List Piece))

@@ -1,5 +1,8 @@
 -- The groups that a pass has put out, with the marks by which they are found.
-use Rattle.std.specs.Prelude.{◌≡◌, map}
+use Rattle.std.specs.Prelude.{◌≡◌, List, Option, map}
+use Rattle.std.specs.List.{fold}
+use Rattle.sound_terms.specs.declared.piece.Piece.{Piece}
+use Rattle.passes.specs.declared.ends.End.{End}
 use Rattle.passes.specs.Ends.{flat_end, group_end}
 use Rattle.passes.specs.declared.output.Output.{Output}
 
@@ -10,3 +13,9 @@ HasFlatEnds output = output.ends ≡ map flat_end output.groups.items
 -- each group is marked by the end of its last piece
 abbrev pub HasLastEnds : Output → Type 0
 HasLastEnds output = output.ends ≡ map group_end output.groups.items
+
+-- the groups that wait are still to be put to those that are put out, to make `whole`, and each of these has its mark
+abbrev pub IsPuttingOut : (put : List (List Piece) → List Piece → List (List Piece)) → (mark : List Piece → Option End)
+    → (whole : List (List Piece)) → Output → (waiting : List (List Piece)) → Type 0
+IsPuttingOut put mark whole output waiting =
+    (fold put output.groups.items waiting ≡ whole) × (output.ends ≡ map mark output.groups.items)

@@ -6,15 +6,6 @@ ghost use Rattle.sound_terms.specs.Waves.{sample_bytes, sample_of};
 use byteorder::{ByteOrder, LittleEndian};
 use sound_terms::Depth;
 
-/// The sample of 16 bits that the bytes begin with.
-#[inline(always)]
-fn read_sixteen(bytes: &[u8]) -> i32
-    requires { 2 ≤ length bytes.now }
-    ensures { result ≡ sample_of 16 bytes.now }
-{
-    i32::from(LittleEndian::read_i16(bytes))
-}
-
 /// The sample of 24 bits that the bytes begin with.
 #[inline(always)]
 fn read_twenty_four(bytes: &[u8]) -> i32
@@ -46,15 +37,6 @@ fn twenty_four_at(bytes: &[u8], i: usize) -> i32
     }
 }
 
-/// The sample of 32 bits that the bytes begin with.
-#[inline(always)]
-fn read_thirty_two(bytes: &[u8]) -> i32
-    requires { 4 ≤ length bytes.now }
-    ensures { result ≡ sample_of 32 bytes.now }
-{
-    LittleEndian::read_i32(bytes)
-}
-
 /// Sample i of these.
 #[inline(always)]
 pub fn sample_at(depth: Depth, bytes: &[u8], i: usize) -> i32
@@ -62,9 +44,9 @@ pub fn sample_at(depth: Depth, bytes: &[u8], i: usize) -> i32
     ensures { result ≡ sample_of (bits_of depth) (drop (i * (bits_of depth / 8)) bytes.now) }
 {
     match depth {
-        Depth::Sixteen => read_sixteen(&bytes[i * 2..]),
+        Depth::Sixteen => i32::from(LittleEndian::read_i16(&bytes[i * 2..])),
         Depth::TwentyFour => twenty_four_at(bytes, i),
-        Depth::ThirtyTwo => read_thirty_two(&bytes[i * 4..]),
+        Depth::ThirtyTwo => LittleEndian::read_i32(&bytes[i * 4..]),
     }
 }
 

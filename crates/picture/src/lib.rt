@@ -2,7 +2,8 @@
 #![tactic(auto)]
 
 mod escaped;
-mod hatching;
+mod hatch;
+mod legend;
 mod part;
 mod picture;
 mod ruler;

@@ -1,6 +1,7 @@
 // The picture of a project.
 use crate::escaped::Escaped;
-use crate::hatching::put_pattern;
+use crate::hatch::put_pattern;
+use crate::legend::put_box;
 use crate::part::Part;
 use crate::ruler::TimeCode;
 use crate::scale::{LEFT, WIDTH};
@@ -182,16 +183,14 @@ const MEANING: u64 = 36;
 fn put_meaning<W: fmt::Write>(f: &mut fmt::Formatter<W>, top: u64) -> fmt::Result {
     let text = top.saturating_add(24);
     let box_top = top.saturating_add(13);
-    write!(
+    put_box(
         f,
-        "<rect x='{LEFT}' y='{box_top}' width='24' height='12' fill='#fff' stroke='#000'"
+        LEFT,
+        box_top,
+        " fill='#fff' stroke='#000' stroke-width='2.5' stroke-dasharray='6 3'",
     )?;
-    writeln!(f, " stroke-width='2.5' stroke-dasharray='6 3'/>")?;
     writeln!(f, "<text x='150' y='{text}'>at fault</text>")?;
-    writeln!(
-        f,
-        "<rect x='330' y='{box_top}' width='24' height='12' fill='url(#missing)'/>"
-    )?;
+    put_box(f, 330, box_top, " fill='url(#missing)'")?;
     writeln!(f, "<text x='360' y='{text}'>frames that are missing</text>")
 }
 

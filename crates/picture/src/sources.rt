@@ -1,5 +1,6 @@
 // What of each file is played, kept and dropped.
 use crate::escaped::Escaped;
+use crate::legend::put_box;
 use crate::scale::{DRAWN, LEFT, Scale, Tenths};
 use sound_terms::Run;
 use std::fmt;
@@ -65,15 +66,9 @@ impl SourceBars<'_> {
             "<text x='{LEFT}' y='{text}' font-weight='bold'>Files</text>"
         )?;
         writeln!(f, "<g stroke='#000'>")?;
-        writeln!(f, "<rect x='220' y='{box_top}' width='24' height='12'/>")?;
-        writeln!(
-            f,
-            "<rect x='330' y='{box_top}' width='24' height='12' fill-opacity='.25'/>"
-        )?;
-        writeln!(
-            f,
-            "<rect x='660' y='{box_top}' width='24' height='12' fill='#fff'/>"
-        )?;
+        put_box(f, 220, box_top, "")?;
+        put_box(f, 330, box_top, " fill-opacity='.25'")?;
+        put_box(f, 660, box_top, " fill='#fff'")?;
         writeln!(f, "</g>")?;
         writeln!(f, "<text x='250' y='{text}'>played</text>")?;
         let handle = self.handle;

@@ -1,6 +1,6 @@
 // The entries over time, in a lane for each channel.
 use crate::escaped::Escaped;
-use crate::hatching::put_missing;
+use crate::hatch::put_missing;
 use crate::part::Part;
 use crate::ruler::{TimeCode, put_ruler};
 use crate::scale::{DRAWN, LEFT, Scale, Tenths};

@@ -3,9 +3,9 @@
 #![tactic(auto)]
 
 mod asked;
+mod digests;
 mod entries;
 mod fault;
-mod hashing;
 mod kept;
 mod lines;
 mod media;

@@ -10,8 +10,8 @@ ghost use Rattle.provenance.specs.Media.{IsTellable};
 ghost use Rattle.provenance.specs.Report as spec;
 ghost use Rattle.provenance.specs.Report.{IsReportOf, consolidation_data, report_data};
 
+use crate::digests::hashed_media;
 use crate::entries::{entry_values, group_values};
-use crate::hashing::hashed_media;
 use crate::media::media_values;
 use crate::notices::notice_values;
 use crate::played::{given_entries, new_entries};

@@ -10,7 +10,7 @@ ghost use Rattle.provenance.specs.Fault.{FailsAt, IsDevice};
 ghost use Rattle.provenance.specs.Media as spec;
 ghost use Rattle.provenance.specs.Media.{HasSource};
 
-use crate::hashing::ROOM;
+use crate::digests::ROOM;
 use crate::{Medium, ReportFault};
 use devices::{DeviceFault, Shelf, ShelfFault};
 use sha2::{Digest, Sha256};

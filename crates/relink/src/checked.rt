@@ -14,7 +14,7 @@ ghost use Rattle.mediaset.specs.Runs.{AreIndexable, homed};
 ghost use Rattle.relink.specs.Linked.{HaveChannels};
 ghost use Rattle.relink.specs.declared.fault.RelinkFault.TheVariants.{TooManyEntries};
 
-use crate::relinking::MOST_ENTRIES;
+use crate::links::MOST_ENTRIES;
 use crate::{RelinkFault, relink_homed};
 use adlmodel::Project;
 use groups::Intervals;

@@ -5,7 +5,7 @@ ghost use Rattle.list_terms.specs.Renewed as spec;
 ghost use Rattle.list_terms.specs.Renewed.{numbered, run_source};
 ghost use Rattle.mediaset.specs.Runs.{AreIndexable, EndsInDay};
 
-use crate::naming::media_name;
+use crate::names::media_name;
 use adlmodel::{Bytes, Source, Sources};
 use mediaset::Runs;
 use sampletime::SampleTime;

@@ -5,11 +5,11 @@ mod checked;
 mod entries;
 mod fault;
 mod indexes;
-mod naming;
-mod relinking;
+mod links;
+mod names;
 mod search;
 
 pub use checked::relink;
 pub use fault::RelinkFault;
-pub use naming::media_name;
-pub use relinking::relink_homed;
+pub use links::relink_homed;
+pub use names::media_name;

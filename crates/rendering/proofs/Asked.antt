@@ -12,7 +12,7 @@ use Rattle.list_terms.specs.Accepted.{OptionValues, range_of}
 use Rattle.list_terms.specs.Binding.{Binding}
 use Rattle.list_terms.specs.Heard.{project_mix, reading_of}
 use Rattle.list_terms.specs.Project.{ListProject}
-use Rattle.rendering.specs.declared.cutting.JobLength.{JobLength}
+use Rattle.rendering.specs.declared.job_length.JobLength.{JobLength}
 use Rattle.rendering.specs.declared.stretch.Stretch.{Stretch}
 use Rattle.rendering.specs.Cut.{AreEven}
 use Rattle.rendering.specs.CutLaws.{cut-covers}

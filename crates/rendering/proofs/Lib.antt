@@ -4,13 +4,11 @@ mod Calls
 mod BlockMarks
 mod Both
 mod Resuming
-mod Chosen
 mod Clipped
 mod Cuts
 mod Frames
 mod Noted
 mod Parts
-mod Ranges
 mod Steps
 mod Stretches
 mod Works

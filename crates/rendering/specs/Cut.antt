@@ -2,8 +2,8 @@
 use Rattle.std.specs.Prelude.{◌≡◌, ℕ, ◌+◌, ◌-◌, ◌*◌, ◌/◌, ◌<◌, ◌≤◌, Bool, false, cond, nat_le, max, min, List, [], ◌∷◌, Vec, length, slice_index_or}
 use Rattle.std.specs.List.{All}
 use Rattle.std.specs.declared.alloc.Global.{Global}
-use Rattle.rendering.specs.declared.cutting.JobLength.{JobLength}
-use Rattle.rendering.specs.declared.cutting.JobLength.TheVariants as length_of_jobs
+use Rattle.rendering.specs.declared.job_length.JobLength.{JobLength}
+use Rattle.rendering.specs.declared.job_length.JobLength.TheVariants as length_of_jobs
 use Rattle.rendering.specs.declared.stretch.Stretch.{Stretch}
 
 -- the stretches follow one another, from one block on up to, and without, another; each has at least one block

@@ -11,7 +11,7 @@ use Rattle.list_terms.specs.Project.{ListProject}
 use Rattle.job_terms.specs.Workers.{jobs_over}
 use Rattle.execution.specs.Filled.{AreApart, AreParts}
 use Rattle.rendering.specs.Cut.{AreEven, IsCut}
-use Rattle.rendering.specs.declared.cutting.JobLength.{JobLength}
+use Rattle.rendering.specs.declared.job_length.JobLength.{JobLength}
 use Rattle.sound_terms.specs.Blocks.{block_count}
 use Rattle.rendering.specs.Work.{RenderWork, done_before, heard, job_blocks, whole_of, work_of}
 

@@ -15,7 +15,7 @@ use Rattle.renderplan.specs.Planned.{IsPlan, Planned}
 use Rattle.wavwrite.specs.Info.{Fits}
 use Rattle.job_terms.specs.Workers.{JobsBy}
 use Rattle.workboard.specs.Indexed.{IsOrder}
-use Rattle.rendering.specs.declared.cutting.JobLength.{JobLength}
+use Rattle.rendering.specs.declared.job_length.JobLength.{JobLength}
 use Rattle.rendering.specs.declared.stretch.Stretch.{Stretch}
 use Rattle.rendering.specs.Cut.{AreLongest, IsCut, IsShort, IsUniform, blocks_in_job}
 use Rattle.rendering.specs.Written.{bytes_of_blocks, frames_before}

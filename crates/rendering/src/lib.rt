@@ -2,20 +2,20 @@
 #![tactic(auto)]
 
 mod blocks;
-mod cutting;
 mod fault;
+mod job_length;
 mod layout;
 mod maker;
 mod marked;
-mod marking;
 mod options;
 mod order;
+mod placement;
 mod span;
 mod stretch;
 mod work;
 
-pub use cutting::JobLength;
 pub use fault::RenderFault;
+pub use job_length::JobLength;
 pub use job_terms::Order;
 pub use maker::RenderingWork;
 pub use options::Options;

@@ -25,9 +25,9 @@ ghost use Rattle.rendering.specs.Work.{AreCutBy, IsInRange, done_before, heard, 
 ghost use Rattle.rendering.specs.Written.{frames_before};
 
 use crate::blocks::BLOCK_LENGTH;
-use crate::cutting::JobLength;
+use crate::job_length::JobLength;
 use crate::marked::count_of;
-use crate::marking::place_marked;
+use crate::placement::place_marked;
 use crate::stretch::Stretch;
 use crate::{Options, Order, RenderFault, Rendered, Rendering};
 use clipping::Clips;

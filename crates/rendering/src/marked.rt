@@ -12,7 +12,7 @@ ghost use Rattle.rendering.specs.Written.{Spares, WritesRendering};
 
 use crate::Rendering;
 use crate::blocks::BLOCK_LENGTH;
-use crate::cutting::{JobLength, blocks_in_job, stretches_of};
+use crate::job_length::{JobLength, blocks_in_job, stretches_of};
 use crate::stretch::Stretch;
 use clipping::Clips;
 use devices::{Bench, DeviceFault, Shelf};

@@ -18,7 +18,7 @@ ghost use Rattle.rendering.specs.Work.{IsRenderWork, job_blocks};
 ghost use Rattle.rendering.specs.declared.fault.RenderFault.TheVariants.{Memory};
 
 use crate::blocks::{BLOCK_LENGTH, Blocks};
-use crate::cutting::{JobLength, blocks_in_job, fresh_stretches};
+use crate::job_length::{JobLength, blocks_in_job, fresh_stretches};
 use crate::span::span_of;
 use crate::stretch::Stretch;
 use crate::{Options, RenderFault};
@@ -165,7 +165,7 @@ fn prepared<'a>(
     ensures first { IfErr result (ComesFirst (accepted.range_of checked.now.project (values_of options.now))) }
     ensures whole { IfOk result (λ rendering. IsRenderWork rendering) }
 {
-    let span = span_of(checked.project().events(), options);
+    let span = span_of(checked.project(), options);
     let plan = plan_of(alloc, checked, &span)?;
     let info = info_of(&span);
     info.reads_back();

@@ -51,19 +51,13 @@ impl Reached {
           lines = program.old.lines ++ flat_map (lines_of window.from window.frames window.channels) self.now;
         } }
     {
-        let end = window.from + u64::from(window.frames);
         let pieces = self.pieces();
-        let mut next = 0;
+        let mut next = self.next_near(0, window);
         while next < pieces.len() {
-            let reach = self.reach_from(next);
-            if reach.is_outside(window.from, end) {
-                next += reach.count;
-            } else {
-                if let Some(line) = line_of(&pieces[next], window) {
-                    program.push(line);
-                }
-                next += 1;
+            if let Some(line) = line_of(&pieces[next], window) {
+                program.push(line);
             }
+            next = self.next_near(next + 1, window);
         }
     }
 }

@@ -1,9 +1,12 @@
 // An index of pieces by what they can be passed over for.
-ghost use Rattle.std.specs.Prelude.{◌≡◌, ◌+◌, ◌<◌, ◌^◌, ◌||◌, nat_le, drop, length, IfOk};
-ghost use Rattle.std.specs.List.{All};
+ghost use Rattle.std.specs.Prelude.{◌≡◌, ◌+◌, ◌<◌, ◌≤◌, ◌^◌, ◌||◌, nat_le, drop, length, IfOk};
+ghost use Rattle.std.specs.List.{All, flat_map};
+ghost use Rattle.sound_terms.specs.Blocks.{lines_of};
 ghost use Rattle.sound_terms.specs.Groups.{IsPiece};
 ghost use Rattle.renderplan.specs.Reaches.{AreReached, AreReaches, IsReach, joined_reach, last};
+ghost use Rattle.renderplan.specs.Sources.{first_source};
 
+use crate::lines::Window;
 use sound_terms::Piece;
 use std::alloc::{AllocError, Global};
 use std::marker::Model;
@@ -46,7 +49,7 @@ impl Reach {
     }
 
     /// Whether none of its pieces sounds from one time up to, and without, another.
-    pub fn is_outside(self, from: u64, to: u64) -> bool
+    fn is_outside(self, from: u64, to: u64) -> bool
         ensures { result ≡ (nat_le self.greatest from || nat_le to self.least) }
     {
         self.greatest <= from || to <= self.least
@@ -125,10 +128,32 @@ impl Reached {
     }
 
     /// The reach of the pieces from this one on.
-    pub fn reach_from(&self, next: usize) -> Reach
+    fn reach_from(&self, next: usize) -> Reach
         requires { next < length self.now }
         ensures { IsReach (drop next self.now) result }
     {
         self.reaches[self.pieces.len() - 1 - next]
+    }
+
+    /// The next piece from this one on that may sound in a block: the silent ones before it are passed over. Where none
+    /// is left, how many pieces there are.
+    pub fn next_near(&self, from: usize, window: Window) -> usize
+        ensures after { from ≤ result }
+        ensures there { from ≤ length self.now → result ≤ length self.now }
+        ensures lines { flat_map (lines_of window.from window.frames window.channels) (drop result self.now)
+            ≡ flat_map (lines_of window.from window.frames window.channels) (drop from self.now) }
+        ensures first { first_source window.from window.frames window.channels (drop result self.now)
+            ≡ first_source window.from window.frames window.channels (drop from self.now) }
+    {
+        let end = window.from + u64::from(window.frames);
+        let mut next = from;
+        while next < self.pieces.len() {
+            let reach = self.reach_from(next);
+            if !reach.is_outside(window.from, end) {
+                break;
+            }
+            next += reach.count;
+        }
+        next
     }
 }

@@ -29,19 +29,13 @@ impl Reached {
         ensures source { result ≡ spec.first_source window.from window.frames window.channels self.now }
         ensures in_day { IfSome result IsInDay }
     {
-        let end = window.from + u64::from(window.frames);
         let pieces = self.pieces();
-        let mut next = 0;
+        let mut next = self.next_near(0, window);
         while next < pieces.len() {
-            let reach = self.reach_from(next);
-            if reach.is_outside(window.from, end) {
-                next += reach.count;
-            } else {
-                if let Some(source) = heard_first(&pieces[next], window) {
-                    return Some(source);
-                }
-                next += 1;
+            if let Some(source) = heard_first(&pieces[next], window) {
+                return Some(source);
             }
+            next = self.next_near(next + 1, window);
         }
         None
     }

@@ -17,25 +17,26 @@ use Rattle.riff.specs.Found.{HasHead, IsAhead}
 use Rattle.riff.specs.Form.{IsLaid}
 
 -- the twelve bytes at the front decide the form
-is_riff-take : (file : List ℕ) → 12 ≤ length file → is_riff (take 12 file) ≡ is_riff file
-is_riff-take file enough =
-    let long : nat_le 12 (length file) ≡ true = grind (arith, nat_tests) in
-    let twelve : 12 ≤ length (take 12 file) = omega (arith, length-take {A = ℕ}) in
-    let taken : nat_le 12 (length (take 12 file)) ≡ true = grind (arith, nat_tests) in
-    let riff : take 4 (take 12 file) ≡ take 4 file = take-take 4 12 file (lit≤ tt) in
-    let wave : take 4 (drop 8 (take 12 file)) ≡ take 4 (drop 8 file) =
-    ap (take 4) (drop-take 8 4 file) ∙ take-take 4 4 _ (lit≤ tt) in
-    rw (long, taken, riff, wave)
+module _ (file : List ℕ) (enough : 12 ≤ length file) where
+  long : nat_le 12 (length file) ≡ true
+  long = grind (arith, nat_tests)
 
-is_rf64-take : (file : List ℕ) → 12 ≤ length file → is_rf64 (take 12 file) ≡ is_rf64 file
-is_rf64-take file enough =
-    let long : nat_le 12 (length file) ≡ true = grind (arith, nat_tests) in
-    let twelve : 12 ≤ length (take 12 file) = omega (arith, length-take {A = ℕ}) in
-    let taken : nat_le 12 (length (take 12 file)) ≡ true = grind (arith, nat_tests) in
-    let rf64 : take 4 (take 12 file) ≡ take 4 file = take-take 4 12 file (lit≤ tt) in
-    let wave : take 4 (drop 8 (take 12 file)) ≡ take 4 (drop 8 file) =
-    ap (take 4) (drop-take 8 4 file) ∙ take-take 4 4 _ (lit≤ tt) in
-    rw (long, taken, rf64, wave)
+  taken : nat_le 12 (length (take 12 file)) ≡ true
+  taken =
+      let twelve : 12 ≤ length (take 12 file) = omega (arith, length-take {A = ℕ}) in
+      grind (arith, nat_tests)
+
+  first : take 4 (take 12 file) ≡ take 4 file
+  first = take-take 4 12 file (lit≤ tt)
+
+  wave : take 4 (drop 8 (take 12 file)) ≡ take 4 (drop 8 file)
+  wave = ap (take 4) (drop-take 8 4 file) ∙ take-take 4 4 _ (lit≤ tt)
+
+  is_riff-take : is_riff (take 12 file) ≡ is_riff file
+  is_riff-take = rw (long, taken, first, wave)
+
+  is_rf64-take : is_rf64 (take 12 file) ≡ is_rf64 file
+  is_rf64-take = rw (long, taken, first, wave)
 
 front_read : (file form : List ℕ) → IsAhead file 0 form → length form ≡ 12 → form ≡ take 12 file
 front_read file form ahead twelve = ahead.same ∙ ap (λ n. take n file) twelve

@@ -135,57 +135,47 @@ pub none-or : (slot : Option Span) → slot ≡ option_or slot None
 none-or None = refl
 none-or (Some span) = refl
 
--- what is found in one more chunk that counts, at each of the three ids: its slot holds the first
-pub format_more : (chunks : List Chunk) (found : Found) (id : List ℕ) (contents : Span) (left : ℕ) (slot : Option Span)
-    (taken : Bool)
-    → IsFoundIn (contents.at + left) chunks found → bytes_eq id (codes "fmt ") ≡ true
-    → slot ≡ option_or found.format (Some contents) → taken ≡ is_some found.format
-    → (found.format ≡ None → contents.length ≤ left)
+-- what is found in one more chunk that counts
+counted_more : (own : List ℕ) (chunks : List Chunk) (found : Found) (id : List ℕ) (contents : Span) (left : ℕ)
+    (taken : Bool) (next : Found) → IsCounted own → bytes_eq own (codes "JUNK") ≡ false
+    → IsFoundIn (contents.at + left) chunks found → bytes_eq id own ≡ true
+    → taken ≡ is_some (option_map span_of (first_of own chunks))
+    → (option_map span_of (first_of own chunks) ≡ None → contents.length ≤ left)
+    → next.format ≡ option_or found.format (option_map span_of (first_of (codes "fmt ") (chunk_at own contents ∷ [])))
+    → next.bext ≡ option_or found.bext (option_map span_of (first_of (codes "bext") (chunk_at own contents ∷ [])))
+    → next.sound ≡ option_or found.sound (option_map span_of (first_of (codes "data") (chunk_at own contents ∷ [])))
+    → next.others ≡ (found.others || taken)
+    → IsFoundIn (contents.at + left) (chunks ++ chunk_at id contents ∷ []) next
+counted_more own chunks found id contents left taken next counted no_junk known same seen inside format bext sound others =
+    subst (λ x. IsFoundIn (contents.at + left) (chunks ++ chunk_at x contents ∷ []) next)
+    (sym ((bytes_eq-Decides id own).0 same))
+    (one_more _ _ _ _ _ known (fine_counted chunks own contents left counted inside) format bext sound
+    (others ∙ ap (λ b. found.others || b) (seen ∙ sym (others_counted chunks own contents counted no_junk))))
+
+-- the slot of its id holds the first
+abbrev TakesFirst : List ℕ → (Found → Option Span) → (Option Span → Found → Found) → Type 0
+TakesFirst own slot_of with_slot =
+    (chunks : List Chunk) (found : Found) (id : List ℕ) (contents : Span) (left : ℕ) (slot : Option Span) (taken : Bool)
+    → IsFoundIn (contents.at + left) chunks found → bytes_eq id own ≡ true
+    → slot ≡ option_or (slot_of found) (Some contents) → taken ≡ is_some (slot_of found)
+    → (slot_of found ≡ None → contents.length ≤ left)
     → IsFoundIn (contents.at + left) (chunks ++ chunk_at id contents ∷ [])
-    (record found { format = slot; others = found.others || taken })
+    (record (with_slot slot found) { others = found.others || taken })
+
+pub format_more : TakesFirst (codes "fmt ") (λ found. found.format) (λ slot found. record found { format = slot })
 format_more chunks found id contents left slot taken known same first seen inside =
-    subst (λ x. IsFoundIn (contents.at + left) (chunks ++ chunk_at x contents ∷ [])
-    (record found { format = slot; others = found.others || taken }))
-    (sym ((bytes_eq-Decides id (codes "fmt ")).0 same))
-    (one_more _ _ _ _ _ known (fine_counted chunks (codes "fmt ") contents left refl
-    (λ none. inside (known.format ∙ none)))
-    first (none-or _) (none-or _)
-    (ap (λ b. found.others || b) (seen ∙ ap is_some known.format
-    ∙ sym (others_counted chunks (codes "fmt ") contents refl refl))))
+    counted_more (codes "fmt ") _ _ _ _ _ taken _ refl refl known same (seen ∙ ap is_some known.format)
+    (λ none. inside (known.format ∙ none)) first (none-or _) (none-or _) refl
 
-pub bext_more : (chunks : List Chunk) (found : Found) (id : List ℕ) (contents : Span) (left : ℕ) (slot : Option Span)
-    (taken : Bool)
-    → IsFoundIn (contents.at + left) chunks found → bytes_eq id (codes "bext") ≡ true
-    → slot ≡ option_or found.bext (Some contents) → taken ≡ is_some found.bext
-    → (found.bext ≡ None → contents.length ≤ left)
-    → IsFoundIn (contents.at + left) (chunks ++ chunk_at id contents ∷ [])
-    (record found { bext = slot; others = found.others || taken })
+pub bext_more : TakesFirst (codes "bext") (λ found. found.bext) (λ slot found. record found { bext = slot })
 bext_more chunks found id contents left slot taken known same first seen inside =
-    subst (λ x. IsFoundIn (contents.at + left) (chunks ++ chunk_at x contents ∷ [])
-    (record found { bext = slot; others = found.others || taken }))
-    (sym ((bytes_eq-Decides id (codes "bext")).0 same))
-    (one_more _ _ _ _ _ known (fine_counted chunks (codes "bext") contents left refl
-    (λ none. inside (known.bext ∙ none)))
-    (none-or _) first (none-or _)
-    (ap (λ b. found.others || b) (seen ∙ ap is_some known.bext
-    ∙ sym (others_counted chunks (codes "bext") contents refl refl))))
+    counted_more (codes "bext") _ _ _ _ _ taken _ refl refl known same (seen ∙ ap is_some known.bext)
+    (λ none. inside (known.bext ∙ none)) (none-or _) first (none-or _) refl
 
-pub sound_more : (chunks : List Chunk) (found : Found) (id : List ℕ) (contents : Span) (left : ℕ) (slot : Option Span)
-    (taken : Bool)
-    → IsFoundIn (contents.at + left) chunks found → bytes_eq id (codes "data") ≡ true
-    → slot ≡ option_or found.sound (Some contents) → taken ≡ is_some found.sound
-    → (found.sound ≡ None → contents.length ≤ left)
-    → IsFoundIn (contents.at + left) (chunks ++ chunk_at id contents ∷ [])
-    (record found { sound = slot; others = found.others || taken })
+pub sound_more : TakesFirst (codes "data") (λ found. found.sound) (λ slot found. record found { sound = slot })
 sound_more chunks found id contents left slot taken known same first seen inside =
-    subst (λ x. IsFoundIn (contents.at + left) (chunks ++ chunk_at x contents ∷ [])
-    (record found { sound = slot; others = found.others || taken }))
-    (sym ((bytes_eq-Decides id (codes "data")).0 same))
-    (one_more _ _ _ _ _ known (fine_counted chunks (codes "data") contents left refl
-    (λ none. inside (known.sound ∙ none)))
-    (none-or _) (none-or _) first
-    (ap (λ b. found.others || b) (seen ∙ ap is_some known.sound
-    ∙ sym (others_counted chunks (codes "data") contents refl refl))))
+    counted_more (codes "data") _ _ _ _ _ taken _ refl refl known same (seen ∙ ap is_some known.sound)
+    (λ none. inside (known.sound ∙ none)) (none-or _) (none-or _) first refl
 
 -- what holds anyway holds at an error
 pub OnErr_always : {T E : Type 0} (result : Result T E) {P : Type 0} → P → OnErr result P

@@ -1,14 +1,16 @@
 -- Bytes that were read stand in the file.
-use Rattle.std.proofs.Common.{◌≡◌, ℕ, ◌+◌, ◌-◌, ◌≤◌, List, Option, Some, length, take, drop, sym, ap, subst, ◌∙◌, arith}
-use Rattle.std.proofs.lemmas.List.{drop-take, drop-drop, take-take}
+use Rattle.std.proofs.Common.{◌≡◌, ℕ, ◌+◌, ◌-◌, ◌≤◌, Bool, IsTrue, List, Option, Some, length, take, drop, sym, ap, subst, ◌∙◌, arith}
+use Rattle.std.proofs.lemmas.List.{drop-take, drop-drop, take-take, take_rest}
 use Rattle.facts.specs.Tests.{same_some}
 use Rattle.byteorder.specs.Endian.{little_number}
 use Rattle.byteorder.specs.Numbers.{little_from-take}
 use Rattle.sound_terms.specs.Chunks.{number_at}
-use Rattle.work_terms.specs.Disk.{IsRange}
+use Rattle.work_terms.specs.Disk.{Files, IsRange}
+use Rattle.sound_terms.specs.declared.Ds64.{Ds64}
 use Rattle.riff.specs.declared.head.Head.{Head}
+use Rattle.riff.specs.declared.found.Found.{Found}
 use Rattle.riff.specs.declared.entry.Entry.{Entry}
-use Rattle.riff.specs.Found.{HasHead, IsAhead}
+use Rattle.riff.specs.Found.{HasHead, IsAhead, IsWalked}
 use Rattle.riff.specs.Sizes.{HasEntry}
 
 -- a range that was read of this file
@@ -41,20 +43,41 @@ number_ahead file at offset n bytes ahead within =
     ap (little_number n) (ahead_at file at offset bytes ahead (omega arith))
     ∙ number_front n (length bytes - offset) _ (omega arith)
 
+-- an id and the number after it, in bytes that were read
+module _ (file : List ℕ) (at offset : ℕ) (bytes : List ℕ) (ahead : IsAhead file at bytes) where
+  id_ahead : offset + 4 ≤ length bytes → take 4 (drop offset bytes) ≡ take 4 (drop (at + offset) file)
+  id_ahead within =
+      ap (take 4) (ahead_at file at offset bytes ahead (omega arith)) ∙ take-take 4 (length bytes - offset) _ (omega arith)
+
+  size_ahead : (n : ℕ) → offset + 4 + n ≤ length bytes
+      → number_at n 4 (drop offset bytes) ≡ number_at n (at + offset + 4) file
+  size_ahead n within =
+      let place : at + (offset + 4) ≡ at + offset + 4 = omega arith in
+      ap (little_number n) (drop-drop 4 offset bytes) ∙ number_ahead file at (offset + 4) n bytes ahead (omega arith)
+      ∙ ap (λ k. number_at n k file) place
+
 -- the head of a chunk in bytes that were read
 pub head_ahead : (file : List ℕ) (at offset : ℕ) (bytes : List ℕ) (head : Head) → IsAhead file at bytes
     → offset + 8 ≤ length bytes
     → head.id ≡ take 4 (drop offset bytes) → head.size ≡ number_at 4 4 (drop offset bytes)
     → HasHead file (at + offset) head
-head_ahead file at offset bytes head ahead within id size =
-    let place : at + (offset + 4) ≡ at + offset + 4 = omega arith in
-    record {
-      inside = omega (arith, ahead.inside);
-      id = id ∙ ap (take 4) (ahead_at file at offset bytes ahead (omega arith))
-          ∙ take-take 4 (length bytes - offset) _ (omega arith);
-      size = size ∙ ap (little_number 4) (drop-drop 4 offset bytes)
-          ∙ number_ahead file at (offset + 4) 4 bytes ahead (omega arith) ∙ ap (λ n. number_at 4 n file) place;
-    }
+head_ahead file at offset bytes head ahead within id size = record {
+  inside = omega (arith, ahead.inside);
+  id = id ∙ id_ahead file at offset bytes ahead (omega arith);
+  size = size ∙ size_ahead file at offset bytes ahead 4 (omega arith);
+}
+
+-- the same of the bytes after some
+pub head_after : (file : List ℕ) (end first left : ℕ) (bytes : List ℕ) (head : Head) → IsAhead file (end - first) bytes
+    → first - left + 8 ≤ length bytes → end - first + (first - left) ≡ end - left
+    → head.id ≡ take 4 (take (length bytes - (first - left)) (drop (first - left) bytes))
+    → head.size ≡ number_at 4 4 (take (length bytes - (first - left)) (drop (first - left) bytes))
+    → HasHead file (end - left) head
+head_after file end first left bytes head ahead within place id size =
+    let rest = take_rest bytes (first - left) in
+    subst (λ n. HasHead file n head) place
+    (head_ahead file (end - first) (first - left) bytes head ahead within (id ∙ ap (take 4) rest)
+    (size ∙ ap (number_at 4 4) rest))
 
 -- the same at the front
 pub head_front : (file : List ℕ) (at : ℕ) (bytes : List ℕ) (head : Head) → IsAhead file at bytes → 8 ≤ length bytes
@@ -63,16 +86,35 @@ head_front file at bytes head ahead enough id size =
     let none : at + 0 ≡ at = omega arith in
     subst (λ n. HasHead file n head) none (head_ahead file at 0 bytes head ahead (omega arith) id size)
 
--- an entry of the table in bytes that were read
-pub entry_ahead : (file : List ℕ) (at offset : ℕ) (bytes : List ℕ) (entry : Entry) → IsAhead file at bytes
+-- an entry of the table in the bytes after some that were read
+pub entry_after : (file : List ℕ) (at offset : ℕ) (bytes : List ℕ) (entry : Entry) → IsAhead file at bytes
     → offset + 12 ≤ length bytes
-    → entry.id ≡ take 4 (drop offset bytes) → entry.size ≡ number_at 8 4 (drop offset bytes)
+    → entry.id ≡ take 4 (take (length bytes - offset) (drop offset bytes))
+    → entry.size ≡ number_at 8 4 (take (length bytes - offset) (drop offset bytes))
     → HasEntry file (at + offset) entry
-entry_ahead file at offset bytes entry ahead within id size =
-    let place : at + (offset + 4) ≡ at + offset + 4 = omega arith in
+entry_after file at offset bytes entry ahead within id size =
+    let rest = take_rest bytes offset in
     record {
-      id = id ∙ ap (take 4) (ahead_at file at offset bytes ahead (omega arith))
-          ∙ take-take 4 (length bytes - offset) _ (omega arith);
-      size = size ∙ ap (little_number 8) (drop-drop 4 offset bytes)
-          ∙ number_ahead file at (offset + 4) 8 bytes ahead (omega arith) ∙ ap (λ n. number_at 8 n file) place;
+      id = id ∙ ap (take 4) rest ∙ id_ahead file at offset bytes ahead (omega arith);
+      size = size ∙ ap (number_at 8 4) rest ∙ size_ahead file at offset bytes ahead 8 (omega arith);
     }
+
+-- what holds of the file as it is holds of it as it was, where nothing changed
+pub still_holds : {old new : Files} {was is : Bool} {name : List ℕ} {P : List ℕ → Type 0} → new ≡ old → is ≡ was
+    → (IsTrue is → (file : List ℕ) → new name ≡ Some file → P file)
+    → IsTrue was → (file : List ℕ) → old name ≡ Some file → P file
+still_holds {name} same honest_same holds honest file there =
+    holds (subst IsTrue (sym honest_same) honest) file (ap (λ (files : Files). files name) same ∙ there)
+
+-- where no chunk was taken in, the chunks that are left begin with the head that was read
+pub next_head : {stored : Option (List ℕ)} {bytes : List ℕ} {sizes : Option Ds64} {end left rest : ℕ} {old new : Found}
+    (file : List ℕ) → IsRange stored (end - left) bytes → stored ≡ Some file
+    → (IsAhead file (end - left) bytes → IsWalked file sizes end left old → IsWalked file sizes end rest new)
+    → IsWalked file sizes end left old → rest ≡ left
+    → (head : Head) → 8 ≤ length bytes → head.id ≡ take 4 bytes → head.size ≡ number_at 4 4 bytes
+    → IsWalked file sizes end left new × HasHead file (end - left) head
+next_head {stored} {bytes} {sizes} {end} {left} {new = new} file range there walks before same head enough id size =
+    let ahead = ranged stored file (end - left) bytes range there in (
+      subst (λ n. IsWalked file sizes end n new) same (walks ahead before),
+      head_front file (end - left) bytes head ahead enough id size,
+    )

@@ -1,19 +1,26 @@
 // The entries of the table of `ds64` (EBU Tech 3306).
-ghost use Rattle.std.specs.Prelude.{◌≡◌, ◌≤◌, ◌*◌, length, take};
+ghost use Rattle.std.specs.Prelude.{◌≡◌, ◌≤◌, ◌+◌, ◌*◌, ℕ, List, Some, IfOk, IsTrue, length, take};
+ghost use Rattle.devices.specs.Fault.{IsThere};
+ghost use Rattle.devices.specs.Frame.{OnlyReads};
 ghost use Rattle.byteorder.specs.Endian.{little_number};
 ghost use Rattle.sound_terms.specs.Chunks.{number_at};
+ghost use Rattle.riff.specs.Found.{IsAhead};
 ghost use Rattle.riff.specs.Ids.{IsId};
 
 use byteorder::{ByteOrder, LittleEndian};
+use devices::{Shelf, ShelfFault};
 
-/// Where the table of `ds64` begins: behind the head of the form, that of `ds64` and its 28 bytes of fields.
-pub const TABLE: u64 = 48;
+/// Where the table of `ds64` begins: after the head of the form, that of `ds64` and its 28 bytes of fields.
+const TABLE: u64 = 48;
 
 /// The bytes of an entry: the id of a chunk, and its size.
 pub const ENTRY_LENGTH: usize = 12;
 
 /// How many entries are read at once.
-pub const BLOCK: u32 = 341;
+const BLOCK: u32 = 341;
+
+/// How many bytes so many entries have.
+pub const BLOCK_LENGTH: usize = 4092;
 
 /// An entry of the table of `ds64`: the size of the chunks of this id.
 #[derive(Clone, Copy)]
@@ -42,6 +49,28 @@ impl Entry {
             size: LittleEndian::read_u64(&bytes[4..]),
         }
     }
+}
+
+/// Reads the entries after the first `done` of the table, where so many follow: as many as are read at once.
+pub fn read_entries<'a, S: Shelf>(
+    shelf: &mut S,
+    name: &str,
+    done: u32,
+    left: u32,
+    block: &'a mut [u8; BLOCK_LENGTH],
+) -> Result<Entries<'a>, ShelfFault>
+    ensures ahead { IsTrue (S.honest shelf.old) → (file : List ℕ) → S.stored shelf.old name.now ≡ Some file
+        → IfOk result (λ entries. IsAhead file (48 + 12 * done) entries.bytes.now) }
+    ensures some { 1 ≤ left → IfOk result (λ entries. 1 ≤ entries.count) }
+    ensures within { IfOk result (λ entries. entries.count ≤ left) }
+    ensures not_missing { IsThere result }
+    ensures only_reads { OnlyReads S.Shelf shelf.old shelf.new result (λ fault. fault ≡ ShelfFault.Device)
+        (λ _ failed. failed name.now) }
+{
+    let count = BLOCK.min(left) as usize;
+    let bytes = &mut block[..count * ENTRY_LENGTH];
+    shelf.read_at(name, TABLE + ENTRY_LENGTH as u64 * u64::from(done), bytes)?;
+    Ok(Entries { bytes, count })
 }
 
 /// The number that stands for an id.

@@ -6,7 +6,7 @@ ghost use Rattle.riff.specs.Found.{IsAhead};
 ghost use Rattle.riff.specs.Sizes.{HasEntry, IsIndexed, entries_of};
 
 use crate::MediaFault;
-use crate::entry::{BLOCK, ENTRY_LENGTH, Entries, Entry, TABLE, key_of};
+use crate::entry::{BLOCK_LENGTH, ENTRY_LENGTH, Entries, Entry, key_of, read_entries};
 use devices::Shelf;
 use sound_terms::Ds64;
 use std::alloc::{AllocError, Global};
@@ -64,18 +64,12 @@ pub fn index_of<S: Shelf>(
 {
     let entries = entries_of(sizes);
     let mut index = BTreeMap::new(alloc);
-    let mut block = [0u8; 4092];
+    let mut block = [0u8; BLOCK_LENGTH];
     let mut done = 0;
     while done < entries {
-        let count = BLOCK.min(entries - done);
-        let bytes = &mut block[..count as usize * ENTRY_LENGTH];
-        shelf.read_at(name, TABLE + ENTRY_LENGTH as u64 * u64::from(done), bytes)?;
-        let block_entries = Entries {
-            bytes,
-            count: count as usize,
-        };
-        add_block(&mut index, &block_entries)?;
-        done += count;
+        let read = read_entries(shelf, name, done, entries - done, &mut block)?;
+        add_block(&mut index, &read)?;
+        done += read.count as u32;
     }
     Ok(index)
 }

@@ -7,7 +7,7 @@ ghost use Rattle.riff.specs.Found.{IsAhead};
 ghost use Rattle.riff.specs.Sizes.{HasSize, HasEntrySize, IsIndexed, IsIndexOf, TellsSize, entry_from, entry_size};
 
 use crate::MediaFault;
-use crate::entry::{BLOCK, ENTRY_LENGTH, Entries, Entry, TABLE, key_of};
+use crate::entry::{BLOCK_LENGTH, ENTRY_LENGTH, Entries, Entry, key_of, read_entries};
 use crate::head::Head;
 use crate::index::Index;
 use devices::{Shelf, ShelfFault};
@@ -82,20 +82,14 @@ fn entry_of<S: Shelf>(
     ensures only_reads { OnlyReads S.Shelf shelf.old shelf.new result (λ fault. fault ≡ ShelfFault.Device)
         (λ _ failed. failed name.now) }
 {
-    let mut block = [0u8; 4092];
+    let mut block = [0u8; BLOCK_LENGTH];
     let mut done = 0;
     while done < entries {
-        let count = BLOCK.min(entries - done);
-        let bytes = &mut block[..count as usize * ENTRY_LENGTH];
-        shelf.read_at(name, TABLE + ENTRY_LENGTH as u64 * u64::from(done), bytes)?;
-        let block_entries = Entries {
-            bytes,
-            count: count as usize,
-        };
-        if let Some(size) = size_among(&block_entries, id) {
+        let read = read_entries(shelf, name, done, entries - done, &mut block)?;
+        if let Some(size) = size_among(&read, id) {
             return Ok(Some(size));
         }
-        done += count;
+        done += read.count as u32;
     }
     Ok(None)
 }

@@ -11,6 +11,10 @@ pub fn zero_heads(bytes: &[u8]) -> u64
     ensures within { 8 * result ≤ length bytes.now }
     ensures zeros { take (8 * result) bytes.now ≡ replicate (8 * result) 0 }
 {
+    // hardly any head is of zeros, and a group is long
+    if bytes.is_empty() || bytes[0] != 0 {
+        return 0;
+    }
     let mut groups = 0;
     while groups < bytes.len() / TOGETHER
         && are_zeros(&bytes[groups * TOGETHER..(groups + 1) * TOGETHER])

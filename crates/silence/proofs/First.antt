@@ -1,6 +1,6 @@
 -- The first frame that sounds, in one count of frames and in another.
 use Rattle.std.proofs.Common.{◌≡◌, ℕ, ◌+◌, ◌-◌, ◌<◌, ◌≤◌, Option, None, Some, arith}
-use Rattle.std.specs.Prelude.{◌↔◌, option_map}
+use Rattle.std.specs.Prelude.{◌↔◌, IfSome, option_map}
 use Rattle.silence.specs.Zero.{IsFirstSounding}
 
 -- counted from a frame of the file on
@@ -16,3 +16,9 @@ counted_from P Q from count same (Some n) (low, high, each, sounds) =
       before i least below =
           let there : i ≡ from + (i - from) = omega arith in
           rw there ((same (i - from) (omega arith)).0 (each (i - from) (omega arith) (omega arith)))
+
+-- it is one of so many frames
+pub found_below : (P : ℕ → Type 0) (count : ℕ) (found : Option ℕ) → IsFirstSounding P 0 count found
+    → IfSome found (λ i. i < count)
+found_below P count None each = tt
+found_below P count (Some n) (low, high, each, sounds) = high

@@ -48,6 +48,12 @@ heard files facts channel frame file stored inside first last =
     let high : nat_le channel facts.channels ≡ true = grind (arith, nat_tests) in
     rw (stored, frames, low, high) refl
 
+-- so many frames of all channels
+pub read_count : (frames : List ℤ) (count channels : ℕ) → length frames ≡ count * channels → 1 ≤ channels
+    → length frames / channels ≡ count
+read_count frames count channels whole some =
+    ap (λ n. n / channels) whole ∙ mul-div_cancel count {n = channels} some
+
 module _ (files : Files) (facts : SoundFacts) (part : Part) (file : List ℕ) (frames : List ℤ) (count : ℕ)
     (stored : files facts.name ≡ Some file)
     (are : AreFrames file (facts.offset + part.from * frame_length facts) (bits_of facts.depth) frames)
@@ -94,8 +100,7 @@ module _ (files : Files) (facts : SoundFacts) (part : Part) (file : List ℕ) (f
       → IsFirstSounding (IsZeroAt (sound_by files facts) part.first part.width) part.from part.to
       (option_map (λ i. part.from + i) found)
   first_found ends some found first =
-      let counted : length frames / facts.channels ≡ count =
-      ap (λ n. n / facts.channels) whole ∙ mul-div_cancel count {n = facts.channels} some in
+      let counted = read_count frames count facts.channels whole some in
       rw (← ends) (counted_from (IsFrameZero frames facts.channels part.first part.width)
       (IsZeroAt (sound_by files facts) part.first part.width) part.from count read_zero found (rw counted at first))
 

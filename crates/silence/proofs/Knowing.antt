@@ -1,5 +1,5 @@
 -- What is known of a file answers for its parts.
-use Rattle.std.proofs.Common.{◌≡◌, ◌⊎◌, inl, inr, ℕ, ◌+◌, ◌<◌, ◌≤◌, true, false, Option, None, Some, IsTrue, refl, arith}
+use Rattle.std.proofs.Common.{◌≡◌, ◌⊎◌, inl, inr, ℕ, ◌+◌, ◌<◌, ◌≤◌, Bool, true, false, Option, None, Some, IsTrue, refl, arith}
 use Rattle.std.specs.Prelude.{ℤ, pos, ◌↔◌, nat_le, is_some, unwrap_or}
 use Rattle.std.proofs.lemmas.Bool.{cases_lt}
 use Rattle.std.proofs.lemmas.Bool.Decides.{nat_tests}
@@ -79,6 +79,21 @@ module _ (reading : Reading) (known : Known) (file : ℕ) (part : Part) (reaches
           rw (← same (part.first + j) to, ← reaches.same_file, ← reaches.first) (silent j wider));
     }
 
+-- it reaches up to the part still, where it ends no earlier than the part begins
+reaches_on : (known : Known) (file : ℕ) (part : Part) → Reaches known file part → (to : ℕ) (sounds : Bool)
+    → part.from ≤ to → Reaches (record {
+      file = known.file;
+      part = record known.part { to = to };
+      sounds = sounds;
+    }) file part
+reaches_on known file part reaches to sounds up_to = record {
+  same_file = reaches.same_file;
+  first = reaches.first;
+  width = reaches.width;
+  before = reaches.before;
+  up_to = up_to;
+}
+
 -- it tells of the part then
 pub tells_then : (known : Known) (file : ℕ) (part : Part) → Reaches known file part → known.part.to < part.to
     → (is_zero : ℕ → Type 0) (found : Option ℕ) → IsFirstSounding is_zero known.part.to part.to found
@@ -88,22 +103,10 @@ pub tells_then : (known : Known) (file : ℕ) (part : Part) → Reaches known fi
       sounds = is_some found;
     }) file part
 tells_then known file part reaches less is_zero None first = record {
-  reaches = record {
-    same_file = reaches.same_file;
-    first = reaches.first;
-    width = reaches.width;
-    before = reaches.before;
-    up_to = let up_to = reaches.up_to in omega arith;
-  };
+  reaches = reaches_on known file part reaches part.to false (let up_to = reaches.up_to in omega arith);
   decided = inl (omega arith);
 }
 tells_then known file part reaches less is_zero (Some to) (low, high, rest, sounds) = record {
-  reaches = record {
-    same_file = reaches.same_file;
-    first = reaches.first;
-    width = reaches.width;
-    before = reaches.before;
-    up_to = let up_to = reaches.up_to in omega arith;
-  };
+  reaches = reaches_on known file part reaches to true (let up_to = reaches.up_to in omega arith);
   decided = inr refl;
 }

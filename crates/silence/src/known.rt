@@ -7,8 +7,8 @@ ghost use Rattle.devices.specs.Frame.{OnlyReads};
 ghost use Rattle.silence.specs.Known.{IsSo, Reaches, Tells};
 ghost use Rattle.silence.specs.Zero.{LiesIn};
 
-use crate::looking::Looking;
 use crate::part::Part;
+use crate::progress::Looking;
 use crate::room::Room;
 use crate::zeros::first_sounding;
 use devices::{Shelf, ShelfFault, Watch};

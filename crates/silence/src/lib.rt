@@ -2,9 +2,9 @@
 #![tactic(auto)]
 
 mod known;
-mod looking;
 mod part;
 mod pieces;
+mod progress;
 mod room;
 mod search;
 mod silences;

@@ -1,5 +1,5 @@
 // A search for silence in opened sound files.
-ghost use Rattle.std.specs.Prelude.{◌≡◌, IfOk, IsTrue, OnOk, OnErr};
+ghost use Rattle.std.specs.Prelude.{◌≡◌, slice_get, IfOk, IsTrue, MatchOption, None, OnOk, OnErr, Some};
 ghost use Rattle.sound_terms.specs.Groups.{IsPiece};
 ghost use Rattle.sound_terms.specs.Mix.{Reading};
 ghost use Rattle.sound_terms.specs.Sounds.{reading_by};
@@ -9,8 +9,8 @@ ghost use Rattle.silence.specs.Fault.{FailsAt};
 ghost use Rattle.silence.specs.Known.{IsSo};
 
 use crate::known::{Known, looked_at};
-use crate::looking::Looking;
 use crate::part::Part;
+use crate::progress::Looking;
 use crate::room::Room;
 use devices::{Shelf, Watch};
 use groups::Piece;
@@ -18,6 +18,14 @@ use passes::PassFault;
 use std::alloc::{AllocError, Global};
 use std::marker::Model;
 use wavread::Sound;
+
+/// The sound of the file of this number.
+fn sound_of(sounds: &[Sound], file: u32) -> Option<&Sound>
+    ensures { MatchOption result (slice_get sounds.now file ≡ None)
+        (λ sound. slice_get sounds.now file ≡ Some sound.now) }
+{
+    sounds.get(file as usize)
+}
 
 /// Room for some frames of every file, and what is known of the last file that was looked at.
 /// A clause sees what is known.
@@ -62,7 +70,7 @@ impl Search {
         ensures unchanged { OnErr result (self.new ≡ self.old) }
         ensures only_reads { OnlyReads S.Shelf shelf.old shelf.new result IsDevice (FailsAt sounds.now) }
     {
-        let Some(sound) = sounds.get(piece.file as usize) else {
+        let Some(sound) = sound_of(sounds, piece.file) else {
             return Ok(true);
         };
         let part = Part::inside(piece, sound);

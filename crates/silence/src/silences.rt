@@ -9,8 +9,8 @@ ghost use Rattle.passes.specs.Silent.{IsDevice, silences_of};
 ghost use Rattle.devices.specs.Frame.{OnlyReads};
 ghost use Rattle.silence.specs.Fault.{FailsAt};
 
-use crate::looking::Looking;
 use crate::pieces::{pieces_of, reading_order};
+use crate::progress::Looking;
 use crate::search::Search;
 use devices::{Shelf, Watch};
 use groups::{Intervals, Piece};

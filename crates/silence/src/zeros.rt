@@ -1,11 +1,11 @@
 // The first frame of a part of a sound file that isn't zero, block by block.
-ghost use Rattle.std.specs.Prelude.{◌≡◌, ◌+◌, ◌-◌, ◌*◌, ◌/◌, ◌≤◌, length, IfOk, IsTrue};
+ghost use Rattle.std.specs.Prelude.{◌≡◌, ◌+◌, ◌-◌, ◌*◌, ◌/◌, ◌<◌, ◌≤◌, length, option_map, IfOk, IfSome, IsTrue};
 ghost use Rattle.devices.specs.Fault.{IsThere};
 ghost use Rattle.devices.specs.Frame.{OnlyReads};
 ghost use Rattle.silence.specs.Zero.{IsFirstSounding, IsFrameZero, IsZeroAt, LiesIn, sound_by};
 
-use crate::looking::Looking;
 use crate::part::Part;
+use crate::progress::Looking;
 use crate::room::{Room, SAMPLES};
 use devices::{Shelf, ShelfFault, Watch};
 use pcm::all_zero;
@@ -28,19 +28,22 @@ fn first_in_frames(frames: &[i32], channels: usize, first: usize, width: usize) 
     None
 }
 
-/// The first frame of a part of a file that isn't zero, where the part is short enough to be read at once.
+/// The first frame of a part of a file that isn't zero, counted from the part's first, where the part is short enough
+/// to be read at once.
 fn first_in_block<S: Shelf>(
     part: &Part,
     sound: &Sound,
     shelf: &mut S,
     bytes: &mut [u8],
     samples: &mut [i32],
-) -> Result<Option<u64>, ShelfFault>
+) -> Result<Option<usize>, ShelfFault>
     requires inside { LiesIn sound.now part.now }
     requires few { (part.now.to - part.now.from) * sound.now.channels ≤ length samples.old }
     requires room { length samples.old * 4 ≤ length bytes.old }
-    ensures found { IsTrue (S.honest shelf.old) → IfOk result (IsFirstSounding
-        (IsZeroAt (sound_by (S.stored shelf.old) sound.now) part.now.first part.now.width) part.now.from part.now.to) }
+    ensures found { IsTrue (S.honest shelf.old) → IfOk result (λ found. IsFirstSounding
+        (IsZeroAt (sound_by (S.stored shelf.old) sound.now) part.now.first part.now.width) part.now.from part.now.to
+        (option_map (λ i. part.now.from + i) found)) }
+    ensures within { IfOk result (λ found. IfSome found (λ i. i < part.now.to - part.now.from)) }
     ensures not_missing { IsThere result }
     ensures only_reads { OnlyReads S.Shelf shelf.old shelf.new result (λ fault. fault ≡ ShelfFault.Device)
         (λ _ failed. failed sound.now.name) }
@@ -50,10 +53,7 @@ fn first_in_block<S: Shelf>(
     let frames = &mut samples[..count * channels];
     sound.read_frames(shelf, part.from, count, bytes, frames)?;
     let (first, width) = (usize::from(part.first), usize::from(part.width));
-    match first_in_frames(frames, channels, first, width) {
-        Some(i) => Ok(Some(part.from + i as u64)),
-        None => Ok(None),
-    }
+    Ok(first_in_frames(frames, channels, first, width))
 }
 
 /// The first frame of a part of a file that isn't zero. Each frame is read once, for all its channels, and no block is
@@ -83,9 +83,8 @@ pub fn first_sounding<S: Shelf, W: Watch>(
         };
         let bytes = room.bytes.as_mut_slice();
         let samples = room.samples.as_mut_slice();
-        let found = first_in_block(&block, sound, shelf, bytes, samples)?;
-        if found.is_some() {
-            return Ok(found);
+        if let Some(i) = first_in_block(&block, sound, shelf, bytes, samples)? {
+            return Ok(Some(at + i as u64));
         }
         at += count;
         looking.at(at - part.from);

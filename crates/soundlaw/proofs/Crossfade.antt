@@ -5,15 +5,14 @@ use Rattle.std.specs.Int.{int_div_euclid, saturate_to_bits}
 use Rattle.std.proofs.lemmas.Bool.Decides.{nat_tests}
 use Rattle.std.proofs.lemmas.Bool.{eqb-true, eq-eqb}
 use Rattle.std.proofs.lemmas.Int.{ints}
-use Rattle.std.proofs.lemmas.Nat.{div-mul-add}
 use Rattle.std.proofs.Math.Nat.{div-add-mod, le_of_mul-le-mul_left, lt_of_mul-lt-mul_left}
-use Rattle.std.proofs.Math.IntN.{negsuc-*ℤ-pos}
 use Rattle.sound_terms.specs.Mix.{fade_fraction, full_scale, quantized, share_of}
 use Rattle.pcm.specs.Samples.{FitsDepth}
 use Rattle.sound_terms.specs.declared.Depth.{Depth}
 use Rattle.sound_terms.specs.declared.Depth.TheVariants.{Sixteen, TwentyFour, ThirtyTwo}
 use Rattle.sound_terms.specs.Depth.{bits_of}
 use Rattle.soundlaw.specs.Crossfade.{IsCrossfadeExact}
+use Rattle.soundlaw.specs.Laws.{floor_whole}
 use Rattle.soundlaw.proofs.Shares.{share_down, share_up}
 
 -- a sample, or one less: what both shares are together
@@ -105,14 +104,6 @@ nearly : (v : ℤ) (n i : ℕ) → i < n → IsNearly (share_of v (n - i, n) +�
 nearly (pos m) n i inside = both_up m n i inside
 nearly (negsuc k) n i inside = both_down k n i inside
 
--- the floor of a multiple and a rest
-pub floor_whole : (y : ℤ) (r step : ℕ) → r < step → int_div_euclid (y *ℤ pos step +ℤ pos r) (pos step) ≡ y
-floor_whole (pos m) r step small = ap pos (div-mul-add m step r small)
-floor_whole (negsuc k) r step small =
-    let product = negsuc-*ℤ-pos k step in
-    let turned : negsuc k *ℤ pos step +ℤ pos r ≡ negsuc (k * step + (step - r - 1)) = omega (arith, ints, product) in
-    ap (λ z. int_div_euclid z (pos step)) turned ∙ ap negsuc (div-mul-add k step (step - r - 1) (omega arith))
-
 -- the fractions of both fades at their i-th sample
 out_fraction : (rise n before i : ℕ) → i < n → rise + n ≤ before
     → fade_fraction rise n before (before - n + i) ≡ (n - i, n)
@@ -131,59 +122,41 @@ held h (pos n) low high = let below : n < 2 ^ h = omega (arith, ints, high) in a
 held h (negsuc n) low high = let below : n + 1 ≤ 2 ^ h = omega (arith, ints, low) in ap negsuc (omega arith)
 
 -- a sum near a multiple of the step is rounded to it
-rounds : (h half step r : ℕ) (sum y : ℤ) → r < step → sum +ℤ pos half ≡ y *ℤ pos step +ℤ pos r
+rounds : (h half step : ℕ) (sum v y : ℤ) → 1 ≤ half → half < step → IsNearly sum v → v ≡ y *ℤ pos step
     → neg_ℤ (pos (2 ^ h)) ≤ℤ y → y <ℤ pos (2 ^ h)
     → saturate_to_bits h (int_div_euclid (sum +ℤ pos half) (pos step)) ≡ y
-rounds h half step r sum y small parts low high =
+rounds h half step sum v y some small near whole low high =
+    let parts : sum +ℤ pos half ≡ y *ℤ pos step +ℤ pos (half - near.less) =
+    omega (arith, ints, near.is, near.most, some, whole) in
     ap (λ z. saturate_to_bits h (int_div_euclid z (pos step))) parts
-    ∙ ap (saturate_to_bits h) (floor_whole y r step small) ∙ held h y low high
+    ∙ ap (saturate_to_bits h) (floor_whole y (half - near.less) step (omega (arith, small))) ∙ held h y low high
 
-from_16_to_16 : (x sum : ℤ) → FitsDepth 16 x → IsNearly sum (full_scale 16 x) → quantized 16 sum ≡ x *ℤ pos 1
-from_16_to_16 x sum fits near =
-    rounds 15 2147483648 4294967296 (2147483648 - near.less) sum (x *ℤ pos 1) (omega arith)
-    (omega (arith, ints, near.is, near.most))
-    (omega (arith, ints, fits.0)) (omega (arith, ints, fits.1))
-
-from_16_to_24 : (x sum : ℤ) → FitsDepth 16 x → IsNearly sum (full_scale 16 x) → quantized 24 sum ≡ x *ℤ pos 256
-from_16_to_24 x sum fits near =
-    rounds 23 8388608 16777216 (8388608 - near.less) sum (x *ℤ pos 256) (omega arith)
-    (omega (arith, ints, near.is, near.most))
-    (omega (arith, ints, fits.0)) (omega (arith, ints, fits.1))
-
-from_16_to_32 : (x sum : ℤ) → FitsDepth 16 x → IsNearly sum (full_scale 16 x) → quantized 32 sum ≡ x *ℤ pos 65536
-from_16_to_32 x sum fits near =
-    rounds 31 32768 65536 (32768 - near.less) sum (x *ℤ pos 65536) (omega arith)
-    (omega (arith, ints, near.is, near.most))
-    (omega (arith, ints, fits.0)) (omega (arith, ints, fits.1))
-
-from_24_to_24 : (x sum : ℤ) → FitsDepth 24 x → IsNearly sum (full_scale 24 x) → quantized 24 sum ≡ x *ℤ pos 1
-from_24_to_24 x sum fits near =
-    rounds 23 8388608 16777216 (8388608 - near.less) sum (x *ℤ pos 1) (omega arith)
-    (omega (arith, ints, near.is, near.most))
-    (omega (arith, ints, fits.0)) (omega (arith, ints, fits.1))
-
-from_24_to_32 : (x sum : ℤ) → FitsDepth 24 x → IsNearly sum (full_scale 24 x) → quantized 32 sum ≡ x *ℤ pos 256
-from_24_to_32 x sum fits near =
-    rounds 31 32768 65536 (32768 - near.less) sum (x *ℤ pos 256) (omega arith) (omega (arith, ints, near.is, near.most))
-    (omega (arith, ints, fits.0)) (omega (arith, ints, fits.1))
-
-from_32_to_32 : (x sum : ℤ) → FitsDepth 32 x → IsNearly sum (full_scale 32 x) → quantized 32 sum ≡ x *ℤ pos 1
-from_32_to_32 x sum fits near =
-    rounds 31 32768 65536 (32768 - near.less) sum (x *ℤ pos 1) (omega arith) (omega (arith, ints, near.is, near.most))
-    (omega (arith, ints, fits.0)) (omega (arith, ints, fits.1))
+-- the same at a depth
+rounds_at : (depth : Depth) (sum v y : ℤ) → IsNearly sum v → v ≡ y *ℤ pos (2 ^ (48 - bits_of depth))
+    → neg_ℤ (pos (2 ^ (bits_of depth - 1))) ≤ℤ y → y <ℤ pos (2 ^ (bits_of depth - 1))
+    → quantized (bits_of depth) sum ≡ y
+rounds_at Sixteen sum v y = rounds 15 2147483648 4294967296 sum v y (omega arith) (omega arith)
+rounds_at TwentyFour sum v y = rounds 23 8388608 16777216 sum v y (omega arith) (omega arith)
+rounds_at ThirtyTwo sum v y = rounds 31 32768 65536 sum v y (omega arith) (omega arith)
 
 by_depths : (source depth : Depth) (x sum : ℤ) → bits_of source ≤ bits_of depth → FitsDepth (bits_of source) x
     → IsNearly sum (full_scale (bits_of source) x)
     → quantized (bits_of depth) sum ≡ x *ℤ pos (2 ^ (bits_of depth - bits_of source))
-by_depths Sixteen Sixteen x sum le fits near = from_16_to_16 x sum fits near
-by_depths Sixteen TwentyFour x sum le fits near = from_16_to_24 x sum fits near
-by_depths Sixteen ThirtyTwo x sum le fits near = from_16_to_32 x sum fits near
+by_depths Sixteen Sixteen x sum le fits near =
+    rounds_at Sixteen sum _ (x *ℤ pos 1) near (omega (arith, ints)) (omega (arith, ints, fits.0)) (omega (arith, ints, fits.1))
+by_depths Sixteen TwentyFour x sum le fits near =
+    rounds_at TwentyFour sum _ (x *ℤ pos 256) near (omega (arith, ints)) (omega (arith, ints, fits.0)) (omega (arith, ints, fits.1))
+by_depths Sixteen ThirtyTwo x sum le fits near =
+    rounds_at ThirtyTwo sum _ (x *ℤ pos 65536) near (omega (arith, ints)) (omega (arith, ints, fits.0)) (omega (arith, ints, fits.1))
 by_depths TwentyFour Sixteen x sum le fits near = absurd (omega arith)
-by_depths TwentyFour TwentyFour x sum le fits near = from_24_to_24 x sum fits near
-by_depths TwentyFour ThirtyTwo x sum le fits near = from_24_to_32 x sum fits near
+by_depths TwentyFour TwentyFour x sum le fits near =
+    rounds_at TwentyFour sum _ (x *ℤ pos 1) near (omega (arith, ints)) (omega (arith, ints, fits.0)) (omega (arith, ints, fits.1))
+by_depths TwentyFour ThirtyTwo x sum le fits near =
+    rounds_at ThirtyTwo sum _ (x *ℤ pos 256) near (omega (arith, ints)) (omega (arith, ints, fits.0)) (omega (arith, ints, fits.1))
 by_depths ThirtyTwo Sixteen x sum le fits near = absurd (omega arith)
 by_depths ThirtyTwo TwentyFour x sum le fits near = absurd (omega arith)
-by_depths ThirtyTwo ThirtyTwo x sum le fits near = from_32_to_32 x sum fits near
+by_depths ThirtyTwo ThirtyTwo x sum le fits near =
+    rounds_at ThirtyTwo sum _ (x *ℤ pos 1) near (omega (arith, ints)) (omega (arith, ints, fits.0)) (omega (arith, ints, fits.1))
 
 pub crossfade_is_exact : (depth : Depth) → IsCrossfadeExact depth
 crossfade_is_exact depth source n i rise before fall behind x le fits inside ends begins =

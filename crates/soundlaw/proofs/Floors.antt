@@ -6,7 +6,7 @@ use Rattle.std.proofs.lemmas.Bool.{eq-eqb}
 use Rattle.std.proofs.lemmas.Int.{ints}
 use Rattle.std.proofs.Math.Nat.{div-le_of_le-mul, mul-le-mul_left}
 use Rattle.sound_terms.specs.Mix.{share_of}
-use Rattle.soundlaw.proofs.Crossfade.{floor_whole}
+use Rattle.soundlaw.specs.Laws.{floor_whole}
 use Rattle.soundlaw.proofs.Shares.{rounded_is_smaller, share_down, share_up}
 
 -- what is left of a product by a floor, and no less, is from 0 up to the divisor

@@ -15,12 +15,19 @@ fewer parts den num rest are less =
     let below : den * parts < den * 2 ^ 62 = omega (arith, are, less) in lt_of_mul-lt-mul_left den below
 
 -- what is left to one lies between what is left of the parts
-pub left_between : (left parts den num rest : ℕ) → left + parts + 1 ≡ 2 ^ 62 → parts * den + rest ≡ num * 2 ^ 62
+left_between : (left parts den num rest : ℕ) → left + parts + 1 ≡ 2 ^ 62 → parts * den + rest ≡ num * 2 ^ 62
     → rest < den → num < den
     → (left * den ≤ (den - num) * 2 ^ 62) × ((den - num) * 2 ^ 62 ≤ (left + 1) * den)
 left_between left parts den num rest whole are below less =
     let all : (left + parts + 1) * den ≡ 2 ^ 62 * den = ap (λ x. x * den) whole in
     (omega (arith, all, are, below, less), omega (arith, all, are, below, less))
+
+-- so the parts that are left of all but one are those of what is left to one
+pub left_of_parts : (parts den num rest : ℕ) → parts * den + rest ≡ num * 2 ^ 62 → rest < den → num < den
+    → ((2 ^ 62 - 1 - parts) * den ≤ (den - num) * 2 ^ 62) × ((den - num) * 2 ^ 62 ≤ (2 ^ 62 - 1 - parts + 1) * den)
+left_of_parts parts den num rest are below less =
+    let few = fewer parts den num rest are less in
+    left_between (2 ^ 62 - 1 - parts) parts den num rest (omega (arith, few)) are below less
 
 module _ (num den parts : ℕ) (some : 0 < den) (low : parts * den ≤ num * 2 ^ 62)
     (high : num * 2 ^ 62 ≤ (parts + 1) * den)

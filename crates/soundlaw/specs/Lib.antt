@@ -1,1 +1,2 @@
 pub mod Crossfade
+pub mod Laws

@@ -82,11 +82,8 @@ pub fn rendered_in_part<S: Shelf, B: Bench>(
     bench: &mut B,
 ) -> Result<Progress, Fault> {
     let options = Options {
-        from: None,
-        to: None,
-        channels: None,
         depth: Depth::Sixteen,
-        order: Order::ByTime,
+        ..Options::default()
     };
     let events = [
         BoardEvent::Give(1),

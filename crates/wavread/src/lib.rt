@@ -3,11 +3,11 @@
 
 mod bext_chunk;
 mod format_chunk;
-mod opening;
 mod sound;
+mod sound_file;
 mod told;
 
-pub use opening::open;
 pub use riff::MediaFault;
 pub use sound::Sound;
+pub use sound_file::open;
 pub use sound_terms::{Bext, Depth};

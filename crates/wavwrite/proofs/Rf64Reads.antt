@@ -8,7 +8,7 @@ use Rattle.sound_terms.specs.declared.Ds64.{Ds64}
 use Rattle.sound_terms.specs.Walks.{size_in, chunks_in, first_chunk_fault, rf64_layout, walked}
 use Rattle.sound_terms.specs.Laws.{length-chunk_head, length-u32_bytes, length-u64_bytes}
 use Rattle.rf64.specs.Laws.{ds64_again}
-use Rattle.wavwrite.proofs.WaveChunks.{AreWhole, wave_chunks, wave_heads, wave_read, length-wave_chunks}
+use Rattle.wavwrite.proofs.WaveChunks.{AreWhole, wave_chunks, wave_heads, wave_read, length-wave_chunks, samples_inside}
 use Rattle.wavwrite.proofs.RiffReads.{wave_found}
 
 -- the head of the form, and `ds64` with no table
@@ -125,12 +125,9 @@ rf64_walked form data_size frames bext_size bext format sound sizes whole =
     let file = rf64_file form data_size frames bext_size bext format sound in
     let long = length-rf64_file form data_size frames bext_size bext format sound in
     let enough = le-leb 12 (length file) (omega (arith, long)) in
-    let bext_whole = whole.bext_whole in
-    let format_whole = whole.format_whole in
-    let data_whole = whole.data_whole in
     let format_place : 56 + (bext_size + bext_size % 2) + 8 ≡ 64 + (bext_size + bext_size % 2) = omega arith in
     let sound_place : 80 + (bext_size + bext_size % 2) + 8 ≡ 88 + (bext_size + bext_size % 2) = omega arith in
-    let none = faultless (length file) bext_size data_size (omega (arith, long)) in
+    let none = faultless (length file) bext_size data_size (samples_inside _ _ _ _ _ _ _ whole _ long) in
     let told = front_told form data_size frames rest in
     rw (
       enough,

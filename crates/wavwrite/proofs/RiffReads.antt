@@ -5,7 +5,7 @@ use Rattle.sound_terms.specs.Chunks.{Chunk, chunks_from, stands_at}
 use Rattle.sound_terms.specs.declared.Chunks.{Chunks}
 use Rattle.sound_terms.specs.Walks.{is_riff, as_it_stands, chunks_in, first_chunk_fault, riff_layout, walked}
 use Rattle.sound_terms.specs.Laws.{length-zeros, length-chunk_head}
-use Rattle.wavwrite.proofs.WaveChunks.{AreWhole, chunk_read, wave_chunks, wave_heads, wave_read, whole_chunk, length-wave_chunks}
+use Rattle.wavwrite.proofs.WaveChunks.{AreWhole, chunk_read, wave_chunks, wave_heads, wave_read, whole_chunk, length-wave_chunks, samples_inside}
 
 -- the head of the form, and JUNK of 28 zero bytes
 unfoldable pub riff_front : ℕ → List ℕ
@@ -99,12 +99,9 @@ pub riff_walked : (size bext_size data_size : ℕ) (bext format sound : List ℕ
 riff_walked size bext_size data_size bext format sound whole =
     let file = riff_file size bext_size data_size bext format sound in
     let long = length-riff_file size bext_size data_size bext format sound in
-    let bext_whole = whole.bext_whole in
-    let format_whole = whole.format_whole in
-    let data_whole = whole.data_whole in
     let format_place : 56 + (bext_size + bext_size % 2) + 8 ≡ 64 + (bext_size + bext_size % 2) = omega arith in
     let sound_place : 80 + (bext_size + bext_size % 2) + 8 ≡ 88 + (bext_size + bext_size % 2) = omega arith in
-    let none = faultless (length file) bext_size data_size (omega (arith, long)) in
+    let none = faultless (length file) bext_size data_size (samples_inside _ _ _ _ _ _ _ whole _ long) in
     rw (
       riff_is_riff size bext_size data_size bext format sound,
       chunks_in-riff size bext_size data_size bext format sound whole,

@@ -1,5 +1,5 @@
 -- A file of a first chunk, `bext`, `fmt ` and `data`, over plain contents: the heads are read where they stand.
-use Rattle.std.proofs.Common.{◌≡◌, ℕ, Some, zero, suc, ◌+◌, ◌%◌, ◌<◌, List, [], ◌∷◌, ◌++◌, Option, length, drop, refl, sym, ap, ◌∙◌, arith, codes, length-append}
+use Rattle.std.proofs.Common.{◌≡◌, ℕ, Some, zero, suc, ◌+◌, ◌%◌, ◌<◌, ◌≤◌, List, [], ◌∷◌, ◌++◌, Option, length, drop, refl, sym, ap, ◌∙◌, arith, codes, length-append}
 use Rattle.std.proofs.lemmas.List.{append-nil, append_assoc, drop_at}
 use Rattle.sound_terms.specs.Waves.{u32_bytes, chunk_head}
 use Rattle.sound_terms.specs.Chunks.{Chunk, chunks_from}
@@ -90,6 +90,14 @@ pub length-wave_chunks : (bext_size told : ℕ) (bext format sound : List ℕ)
     → length (wave_chunks bext_size told bext format sound) ≡ 24 + (length bext + (length format + length sound))
 unfolding wave_chunks
 length-wave_chunks bext_size told bext format sound = simp (length-append, length-chunk_head) (omega arith)
+
+-- the samples end where the file does, or before
+pub samples_inside : (size_of : List ℕ → ℕ → Option ℕ) (bext_size told data_size : ℕ) (bext format sound : List ℕ)
+    → AreWhole size_of bext_size told data_size bext format sound
+    → (end : ℕ) → end ≡ 72 + (length bext + (length format + length sound))
+    → 88 + (bext_size + bext_size % 2) + data_size ≤ end
+samples_inside size_of bext_size told data_size bext format sound whole end long =
+    omega (arith, long, whole.bext_whole, whole.format_whole, whole.data_whole)
 
 -- the contents of `bext`, and what stands behind them
 pub behind_bext : (first : List ℕ) (bext_size told : ℕ) (bext format sound : List ℕ) → length first ≡ 48

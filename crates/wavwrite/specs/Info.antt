@@ -1,9 +1,10 @@
 -- What a written file tells of itself, within the limits of its fields, and what is read of it.
-use Rattle.std.specs.Prelude.{◌≡◌, ℕ, ◌-◌, ◌^◌, ◌<◌, ◌≤◌, List, length, Some, false}
+use Rattle.std.specs.Prelude.{◌≡◌, ℕ, ◌-◌, ◌^◌, ◌<◌, ◌≤◌, List, length, take, drop, Some, Ok, false}
 use Rattle.sound_terms.specs.declared.Depth.{Depth}
 use Rattle.sound_terms.specs.declared.Bext.{Bext}
-use Rattle.sound_terms.specs.Waves.{SoundInfo, data_place, file_length}
+use Rattle.sound_terms.specs.Waves.{SoundInfo, data_place, data_size, file_length, file_of}
 use Rattle.sound_terms.specs.Sounds.{SoundFacts}
+use Rattle.sound_terms.specs.SoundFiles.{sound_of}
 
 -- so many channels, a depth, so many frames, a `bext` and its CodingHistory
 abbrev pub info_of : ℕ → Depth → ℕ → Bext → List ℕ → SoundInfo
@@ -47,3 +48,13 @@ facts_of name info = record {
   history_cut = false;
   others = false;
 }
+
+-- a written file is read back
+abbrev pub IsReadBack : SoundInfo → Type 0
+IsReadBack info = (name samples : List ℕ) → Fits info → length samples ≡ data_size info
+    → sound_of name (file_of info samples) ≡ Ok (facts_of name info)
+
+-- its samples stand in it
+abbrev pub HoldsSamples : SoundInfo → Type 0
+HoldsSamples info = (samples : List ℕ) → length samples ≡ data_size info
+    → take (data_size info) (drop (data_place info) (file_of info samples)) ≡ samples

@@ -1,10 +1,9 @@
 // All that stands before the samples.
 ghost use Rattle.std.specs.Prelude.{◌≡◌, ◌<◌, ◌≤◌, ◌+◌, ◌-◌, ◌%◌, ◌^◌, ◌↔◌, ℕ, ℤ, IsTrue, SomeIff, IfOk, IsErrOf, List, length, take, drop};
 ghost use Rattle.sound_terms.specs.Waves as waves;
-ghost use Rattle.sound_terms.specs.Waves.{data_size, data_place, file_length, file_of, header_of, is_large};
-ghost use Rattle.sound_terms.specs.SoundFiles.{sound_of};
+ghost use Rattle.sound_terms.specs.Waves.{data_size, data_place, file_length, header_of, is_large};
 ghost use Rattle.sound_terms.specs.Render.{Range, ReadsBack, render_info, rendering_of};
-ghost use Rattle.wavwrite.specs.Info.{Fits, FitsRiff, facts_of};
+ghost use Rattle.wavwrite.specs.Info.{Fits, FitsRiff, IsReadBack, HoldsSamples};
 
 use crate::chunks::{data_head, form_head, format_chunk, put_bext};
 use crate::fields::put;
@@ -103,10 +102,8 @@ impl<'a> SoundInfoRef<'a> {
 
     /// What a file of this is read as. It does nothing.
     pub fn reads_back(&self)
-        ensures reads_back { (name «data» : List ℕ) → Fits self.now → length «data» ≡ data_size self.now
-            → sound_of name (file_of self.now «data») ≡ Ok (facts_of name self.now) }
-        ensures data_stands { («data» : List ℕ) → length «data» ≡ data_size self.now
-            → take (data_size self.now) (drop (data_place self.now) (file_of self.now «data»)) ≡ «data» }
+        ensures reads_back { IsReadBack self.now }
+        ensures data_stands { HoldsSamples self.now }
         ensures rendered { (range : Range) (mix : ℕ → ℕ → ℤ) → Fits self.now → self.now ≡ render_info range
             → ReadsBack range mix (rendering_of range mix) }
         ensures head { length (header_of self.now) ≡ data_place self.now }
@@ -121,10 +118,8 @@ impl<'a> SoundInfoRef<'a> {
 pub fn place_of(info: &SoundInfo) -> u64
     ensures offset { result ≡ data_place info.now }
     ensures near { result ≤ 66226 }
-    ensures reads_back { (name «data» : List ℕ) → Fits info.now → length «data» ≡ data_size info.now
-        → sound_of name (file_of info.now «data») ≡ Ok (facts_of name info.now) }
-    ensures data_stands { («data» : List ℕ) → length «data» ≡ data_size info.now
-        → take (data_size info.now) (drop (data_place info.now) (file_of info.now «data»)) ≡ «data» }
+    ensures reads_back { IsReadBack info.now }
+    ensures data_stands { HoldsSamples info.now }
     ensures head { length (header_of info.now) ≡ data_place info.now }
 {
     let info = info.lent();
@@ -178,10 +173,8 @@ pub fn fits_riff_with(channels: u8, depth: Depth, frames: u64, history: usize) -
 pub fn header(alloc: Global, info: &SoundInfo) -> Result<Vec<u8>, HeaderFault>
     ensures bytes { IfOk result (λ bytes. bytes.items ≡ header_of info.now) }
     ensures too_long { IsErrOf result HeaderFault.TooLong ↔ (Fits info.now → ⊥) }
-    ensures reads_back { (name «data» : List ℕ) → Fits info.now → length «data» ≡ data_size info.now
-        → sound_of name (file_of info.now «data») ≡ Ok (facts_of name info.now) }
-    ensures data_stands { («data» : List ℕ) → length «data» ≡ data_size info.now
-        → take (data_size info.now) (drop (data_place info.now) (file_of info.now «data»)) ≡ «data» }
+    ensures reads_back { IsReadBack info.now }
+    ensures data_stands { HoldsSamples info.now }
     ensures rendered { (range : Range) (mix : ℕ → ℕ → ℤ) → Fits info.now → info.now ≡ render_info range
         → ReadsBack range mix (rendering_of range mix) }
 {

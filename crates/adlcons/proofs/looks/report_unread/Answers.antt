@@ -4,8 +4,8 @@ use Rattle.console.specs.declared.console.Console as console
 use Rattle.console.specs.Places.{where_of}
 use Rattle.checkreport.specs.Reported.{PrintsUnread}
 use Rattle.adlcons.specs.Openings.{IsReportUnread, refusal_of_read}
-use Rattle.adlcons.specs.declared.reading.ReadFault.{ReadFault}
-use Rattle.adlcons.specs.declared.reading.ReadFault.TheVariants.{Memory}
+use Rattle.adlcons.specs.declared.list_file.ReadFault.{ReadFault}
+use Rattle.adlcons.specs.declared.list_file.ReadFault.TheVariants.{Memory}
 use Rattle.adlcons.proofs.looks.report_unread.Goals as goal
 
 -- by the number and the place that were printed

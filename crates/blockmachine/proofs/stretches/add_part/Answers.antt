@@ -1,11 +1,7 @@
 use Rattle.std.proofs.Common.{◌≡◌, ◌+◌, ◌*◌, ◌/◌, ◌≤◌, ℕ, Bool, IsTrue, List, Option, Some, length, take, arith, rules, sym, ap, ◌∙◌, subst}
-use Rattle.std.specs.Prelude.{slice_get}
-use Rattle.std.proofs.Math.Nat.{mul-le-mul_left}
 use Rattle.std.proofs.lemmas.List.{length-take-le}
-use Rattle.std.proofs.lemmas.Option.{same_Some}
 use Rattle.sound_terms.specs.declared.Depth.{Depth}
-use Rattle.sound_terms.specs.Sounds.{SoundFacts, reading_by}
-use Rattle.sound_terms.specs.Laws.{bits_bounded}
+use Rattle.sound_terms.specs.Sounds.{reading_by}
 use Rattle.sound_terms.specs.Depth.{bits_of}
 use Rattle.sound_terms.specs.Media.{frame_length}
 use Rattle.sound_terms.specs.Mix.{Reading}
@@ -14,18 +10,14 @@ use Rattle.pcm.specs.Samples.{samples_in}
 use Rattle.blockmachine.specs.declared.buffer.Held.{Held}
 use Rattle.blockmachine.specs.Holding.{Holds}
 use Rattle.blockmachine.specs.Playing.{Plays}
-use Rattle.blockmachine.proofs.Held.{AreRead, held_full, held_plays, opened, small_front}
+use Rattle.blockmachine.proofs.Held.{AreRead, bytes_of, held_full, held_plays, lies_in, opened, room_for, small_front}
 use Rattle.blockmachine.proofs.stretches.add_part.Given.{Over}
 use Rattle.blockmachine.proofs.stretches.add_part.Goals as goal
 
 pub hold-requires : goal.hold-requires
 hold-requires g c = record {
   lies = c.requires.ready.plays.lies;
-  room = λ facts there.
-      let few : c.args.part.now.length * facts.channels ≤ length c.args.samples.now = c.requires.few facts there in
-      let narrow : bits_of facts.depth / 8 ≤ 4 = omega (arith, bits_bounded facts.depth) in
-      let wide = mul-le-mul_left (c.args.part.now.length * facts.channels) narrow in
-      omega (arith, few, wide, c.requires.room);
+  room = λ facts there. room_for facts c.args.part.now.length _ _ (c.requires.few facts there) c.requires.room;
   held = c.requires.ready.held;
 }
 
@@ -48,18 +40,12 @@ read g c honest =
     let part = c.args.part.now in
     let sounds = c.args.sounds.now in
     let lies = c.requires.ready.plays.lies in
-    let found : slice_get sounds part.file ≡ Some sound =
-    opened sounds part.file lies.facts sound lies.there c.index-sounds-part.is in
-    let same : lies.facts ≡ sound = same_Some lies.facts sound (sym lies.there ∙ found) in
+    let found = opened sounds part lies sound c.index-sounds-part.is in
+    let inside = lies_in sounds part lies sound found in
     let width : c.from.result ≡ bits_of sound.depth / 8 =
     c.from.ensures ∙ ap (λ b. b / 8) c.bits.ensures ∙ ap (λ depth. bits_of depth / 8) c.depth-depth.ensures in
-    let channels = c.channels-channels.ensures.channels in
-    let count : part.length * c.channels-channels.result * c.from.result ≡ part.length * frame_length sound =
-    ap (λ n. part.length * n * c.from.result) channels ∙ ap (λ w. part.length * sound.channels * w) width ∙ omega arith in
-    let few : part.length * sound.channels ≤ length c.args.samples.now = c.requires.few sound found in
-    let narrow : bits_of sound.depth / 8 ≤ 4 = omega (arith, bits_bounded sound.depth) in
-    let wide : part.length * sound.channels * (bits_of sound.depth / 8) ≤ length c.args.bytes.now =
-    omega (arith, mul-le-mul_left (part.length * sound.channels) narrow, few, c.requires.room) in
+    let count = bytes_of sound part.length _ _ c.channels-channels.ensures.channels width in
+    let room = room_for sound part.length _ _ (c.requires.few sound found) c.requires.room in
     let files : Files = g.S.Shelf.stored c.args.shelf.now in
     let held : Held = record { file = part.file; frame = part.frame; length = part.length } in
     let all = c.hold.new.bytes in
@@ -72,10 +58,10 @@ read g c honest =
       range = subst (λ (n : ℕ). IsRange (files sound.name) (sound.offset + part.frame * frame_length sound) (take n all))
           (sym count) (holds honest sound found);
       whole = length-take-le (part.length * c.channels-channels.result * c.from.result) all
-          (omega (arith, count, wide, long)) ∙ count ∙ omega arith;
+          (omega (arith, count, room, long)) ∙ count ∙ omega arith;
       first = c.requires.ready.plays.inside.source_from_one;
-      last = subst (λ (f : SoundFacts). part.first + part.width ≤ f.channels + 1) same lies.channels;
-      inside = subst (λ (f : SoundFacts). part.frame + part.length ≤ f.frames) same lies.frames;
+      last = inside.0;
+      inside = inside.1;
     }
 
 pub returns-clause-added : goal.returns-clause-added
@@ -105,24 +91,14 @@ returns-clause-full g c = λ honest.
 pub slice_bounds-stored-end : goal.slice_bounds-stored-end
 slice_bounds-stored-end g c =
     let sound = c.index-sounds-part.result in
-    let part = c.args.part.now in
-    let sounds = c.args.sounds.now in
-    let lies = c.requires.ready.plays.lies in
-    let found : slice_get sounds part.file ≡ Some sound =
-    opened sounds part.file lies.facts sound lies.there c.index-sounds-part.is in
-    let same : lies.facts ≡ sound = same_Some lies.facts sound (sym lies.there ∙ found) in
-    let width : c.from.result ≡ bits_of sound.depth / 8 =
-    c.from.ensures ∙ ap (λ b. b / 8) c.bits.ensures ∙ ap (λ depth. bits_of depth / 8) c.depth-depth.ensures in
-    let channels = c.channels-channels.ensures.channels in
-    let count : part.length * c.channels-channels.result * c.from.result ≡ part.length * frame_length sound =
-    ap (λ n. part.length * n * c.from.result) channels ∙ ap (λ w. part.length * sound.channels * w) width ∙ omega arith in
-    let few : part.length * sound.channels ≤ length c.args.samples.now = c.requires.few sound found in
-    let narrow : bits_of sound.depth / 8 ≤ 4 = omega (arith, bits_bounded sound.depth) in
-    let wide : part.length * sound.channels * (bits_of sound.depth / 8) ≤ length c.args.bytes.now =
-    omega (arith, mul-le-mul_left (part.length * sound.channels) narrow, few, c.requires.room) in
+    let n = c.args.part.now.length in
+    let found = opened c.args.sounds.now c.args.part.now c.requires.ready.plays.lies sound c.index-sounds-part.is in
+    let count =
+    bytes_of sound n _ _ c.channels-channels.ensures.channels
+    (c.from.ensures ∙ ap (λ b. b / 8) c.bits.ensures ∙ ap (λ depth. bits_of depth / 8) c.depth-depth.ensures) in
+    let room = room_for sound n _ _ (c.requires.few sound found) c.requires.room in
     let long : length c.hold.new.bytes ≡ length c.args.bytes.now = c.hold.auto.bytes in
-    let fit : part.length * c.channels-channels.result * c.from.result ≤ length c.hold.new.bytes =
-    omega (arith, count, wide, long) in
+    let fit : n * c.channels-channels.result * c.from.result ≤ length c.hold.new.bytes = omega (arith, count, room, long) in
     search (rules, fit)
 
 pub invariant_of-stored-clause-small : goal.invariant_of-stored-clause-small
@@ -131,14 +107,10 @@ invariant_of-stored-clause-small g c =
 
 pub add-requires : goal.add-requires
 add-requires g c =
-    let sound = c.index-sounds-part.result in
     let part = c.args.part.now in
-    let sounds = c.args.sounds.now in
-    let lies = c.requires.ready.plays.lies in
-    let found : slice_get sounds part.file ≡ Some sound =
-    opened sounds part.file lies.facts sound lies.there c.index-sounds-part.is in
+    let found = opened c.args.sounds.now part c.requires.ready.plays.lies _ c.index-sounds-part.is in
     record {
       inside = c.requires.ready.plays.inside;
       room = subst (λ (n : ℕ). part.length * n ≤ length c.args.samples.now) (sym c.channels-channels.ensures.channels)
-          (c.requires.few sound found);
+          (c.requires.few _ found);
     }

@@ -1,9 +1,9 @@
-use Rattle.std.proofs.Common.{◌≡◌, ℕ, ◌+◌, ◌*◌, ◌/◌, ◌≤◌, List, ◌++◌, IsTrue, Some, arith, drop, length, rules, sym, take, ap, ◌∙◌, subst}
+use Rattle.std.proofs.Common.{◌≡◌, ℕ, ◌+◌, ◌*◌, ◌/◌, ◌≤◌, List, ◌++◌, IsTrue, arith, drop, length, rules, sym, take, ap, ◌∙◌, subst}
 use Rattle.std.proofs.Math.Nat.{div-add-mod, mul-le-mul_right}
 use Rattle.std.proofs.lemmas.List.{take_at}
 use Rattle.std.proofs.lemmas.Grind.{common_steps}
 use Rattle.std.proofs.lemmas.Option.{same_Some}
-use Rattle.std.specs.Prelude.{ℤ, slice_get}
+use Rattle.std.specs.Prelude.{ℤ}
 use Rattle.sound_terms.specs.declared.block.Stretch.{Stretch}
 use Rattle.sound_terms.specs.Mix.{Reading}
 use Rattle.sound_terms.specs.Passes.{shape_behind}
@@ -63,12 +63,10 @@ pub add_part-requires : goal.add_part-requires
 add_part-requires g c =
     let sounds = c.args.sounds.now in
     let stretch = c.args.stretch.now in
-    let lies = c.requires.plays.lies in
     let sound = c.index-sounds-stretch.result in
     let n = c.channels.result in
     let count = c.min-count.result in
-    let found : slice_get sounds stretch.file ≡ Some sound =
-    opened sounds stretch.file lies.facts sound lies.there c.index-sounds-stretch.is in
+    let found = opened sounds stretch c.requires.plays.lies sound c.index-sounds-stretch.is in
     let few : count ≤ 16384 / n = omega (arith, c.min-count.ensures) in
     let row : count * n ≤ 16384 / n * n = mul-le-mul_right n few in
     let most = div-add-mod 16384 n in

@@ -4,15 +4,10 @@ use Rattle.list_terms.specs.Accepted.{greatest_of}
 use Rattle.comparison.proofs.Events.{all_events, greatest_of-append}
 use Rattle.comparison.proofs.range.compared_in.Goals as goal
 
-pub returns-clause-from : goal.returns-clause-from
-returns-clause-from c =
-    rw (← c.events-events.ensures.events, ← c.events-others.ensures.events) (search rules)
-
 pub returns-clause-to : goal.returns-clause-to
 returns-clause-to c =
-    let both =
-    greatest_of-append (λ event. event.dest_out) c.events-events.result.now c.events-others.result.now in
-    rw (← c.events-events.ensures.events, ← c.events-others.ensures.events) (search (rules, both))
+    let both = greatest_of-append (λ event. event.dest_out) c.args.first.now.events c.args.second.now.events in
+    search (rules, both)
 
 pub returns-clause-channels : goal.returns-clause-channels
 returns-clause-channels c =
@@ -27,6 +22,6 @@ returns-clause-channels c =
 
 pub returns-clause-whole : goal.returns-clause-whole
 returns-clause-whole c =
-    rw (← c.events-events.ensures.events, ← c.events-others.ensures.events)
-    (all_events c.events-events.result.now c.events-others.result.now c.events-events.ensures.whole
-    c.events-others.ensures.whole)
+    rw (← c.events.ensures.events, ← c.events-2.ensures.events)
+    (all_events c.events.result.now c.events-2.result.now c.events.ensures.whole
+    c.events-2.ensures.whole)

@@ -1,30 +1,16 @@
-use Rattle.std.proofs.Common.{◌≡◌, ℕ, IsTrue}
-use Rattle.std.specs.Prelude.{false}
-use Rattle.std.specs.List.{list_any}
+use Rattle.std.proofs.Common.{◌≡◌, IsTrue}
 use Rattle.std.specs.Vec.Iter.{into_iter_items}
-use Rattle.sound_terms.specs.Groups.{are_whole, mix_of, reads}
-use Rattle.sound_terms.specs.Passes.{in_turn, silences}
+use Rattle.passes.specs.Left.{IsLeft}
 use Rattle.passes.specs.Silent.{IsStill}
 use Rattle.passes.proofs.in_turn.run.Given as goal
 
--- what is left of the passes makes of what is left what all of them make of the given groups, and nothing has failed
+-- the passes so far have left what is left, and nothing has failed
 abbrev pub invariant-loop-pass : goal.invariant-loop-pass
 invariant-loop-pass g l = record {
   still : IsStill g.P.Samples l.fn.samples l.samples;
-  unasked : list_any (λ pass. (goal.Pass-dyn g (pass.vtable, pass.value)).looking pass.value) l.fn.passes.items ≡ false
-      → (list_any (λ pass. (goal.Pass-dyn g (pass.vtable, pass.value)).looking pass.value)
-      (into_iter_items l.pass-iterator) ≡ false) × (l.samples ≡ l.fn.samples);
-  given : IsTrue (g.P.Samples.honest l.fn.samples)
-      → in_turn (λ pass. (goal.Pass-dyn g (pass.vtable, pass.value)).looking pass.value)
+  left : IsLeft (g.P.Samples.reading l.fn.samples) (IsTrue (g.P.Samples.honest l.fn.samples))
+      (l.samples ≡ l.fn.samples)
+      (λ pass. (goal.Pass-dyn g (pass.vtable, pass.value)).looking pass.value)
       (λ pass. (goal.Pass-dyn g (pass.vtable, pass.value)).gives pass.value)
-      (silences (g.P.Samples.reading l.fn.samples)) (into_iter_items l.pass-iterator) l.left
-      ≡ in_turn (λ pass. (goal.Pass-dyn g (pass.vtable, pass.value)).looking pass.value)
-      (λ pass. (goal.Pass-dyn g (pass.vtable, pass.value)).gives pass.value)
-      (silences (g.P.Samples.reading l.fn.samples)) l.fn.passes.items l.fn.intervals;
-  same_mix : IsTrue (g.P.Samples.honest l.fn.samples) → (channel time : ℕ)
-      → mix_of (g.P.Samples.reading l.fn.samples) l.left channel time
-      ≡ mix_of (g.P.Samples.reading l.fn.samples) l.fn.intervals channel time;
-  whole : IsTrue (are_whole l.fn.intervals) → IsTrue (are_whole l.left);
-  no_more : (file channel frame : ℕ) → IsTrue (reads l.left file channel frame)
-      → IsTrue (reads l.fn.intervals file channel frame);
+      l.fn.passes.items (into_iter_items l.pass-iterator) l.fn.intervals l.left;
 }

@@ -9,7 +9,6 @@ use Rattle.wavwrite.specs.Info.{Fits}
 use Rattle.rendering.specs.Planned.{MixAs}
 use Rattle.rendering.specs.Rendering.{values_of}
 use Rattle.rendering.specs.Work.{BlockWork}
-use Rattle.rendering.proofs.Chosen.{same_range}
 use Rattle.rendering.proofs.work.prepared.Goals as goal
 
 pub returns-clause-prepared : goal.returns-clause-prepared
@@ -17,12 +16,10 @@ returns-clause-prepared c =
     let project = c.args.checked.now.project in
     let options = c.args.options.now in
     let span = c.span_of-span.result in
-    let told = c.span_of-span.ensures in
     let plan = c.in_ok-plan.plan in
     let info = c.info_of-info.result in
-    let events = c.events.ensures.events ∙ ap (λ (p : ListProject). p.events) c.project.ensures.lent in
-    let chosen : marks.range_of span ≡ accepted.range_of project (values_of options) =
-    same_range project options c.events.result.now span events told.from told.to told.channels told.depth in
+    let chosen : marks.range_of span ≡ accepted.range_of project (values_of options) = c.span_of-span.ensures.range
+    ∙ ap (λ (p : ListProject). accepted.range_of p (values_of options)) c.project.ensures.lent in
     let planned : c.in_ok-blocks.blocks.planned ≡ plan =
     ap (λ (b : BlockWork). b.planned) c.in_ok-blocks.ensures.made in
     let fits : Fits info = c.reads_back.ensures.short c.info_of-info.ensures.short in

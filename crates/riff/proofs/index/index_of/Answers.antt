@@ -1,21 +1,16 @@
-use Rattle.std.proofs.Common.{◌≡◌, ◌+◌, ◌*◌, IsTrue, rules, arith, subst, sym, ap, ◌∙◌}
-use Rattle.work_terms.specs.Disk.{Files}
-use Rattle.riff.specs.Found.{IsAhead}
+use Rattle.std.proofs.Common.{◌≡◌, rules, arith, subst}
 use Rattle.riff.specs.Sizes.{IsIndexed, entries_of}
-use Rattle.riff.proofs.Reading.{ranged}
+use Rattle.riff.proofs.Reading.{still_holds}
 use Rattle.riff.proofs.index.index_of.Goals as goal
 
 pub loop-done-preserved : goal.loop-done-preserved
 loop-done-preserved g c = record {
   sources = search rules;
-  within = omega arith;
+  within = omega (arith, c.in_ok-read.ensures.within);
   indexed = λ honest file there.
-      let kept = c.loop-done.invariant.sources in
-      let ahead =
-      ranged _ file _ _ (c.in_ok-read_at.ensures.read (subst IsTrue (sym kept.honest_same) honest))
-      (ap (λ (files : Files). files c.args.name.now) kept.same ∙ there) in
       c.in_ok-add_block.ensures.added file c.loop-done.done
-      (subst (λ i. IsAhead file (48 + 12 * i) c.read_at.new.buffer) c.from.ensures ahead)
+      (still_holds c.loop-done.invariant.sources.same c.loop-done.invariant.sources.honest_same c.in_ok-read.ensures.ahead
+      honest file there)
       (c.loop-done.invariant.indexed honest file there);
 }
 

@@ -1,8 +1,6 @@
-use Rattle.std.proofs.Common.{◌≡◌, ℕ, ◌+◌, ◌-◌, ◌*◌, take, ap, sym, ◌∙◌, arith}
-use Rattle.std.proofs.lemmas.List.{take_rest}
-use Rattle.sound_terms.specs.Chunks.{number_at}
+use Rattle.std.proofs.Common.{◌≡◌, ℕ, ◌+◌, ◌-◌, ◌*◌, ap, sym, ◌∙◌, arith}
 use Rattle.riff.specs.Sizes.{entry_from}
-use Rattle.riff.proofs.Reading.{entry_ahead}
+use Rattle.riff.proofs.Reading.{entry_after}
 use Rattle.riff.proofs.Table.{entry_met, entry_missed}
 use Rattle.riff.proofs.sizes.size_among.Goals as goal
 
@@ -16,24 +14,20 @@ loop-i-init c = λ file at rest ahead.
 pub returns-then-eq : goal.returns-then-eq
 returns-then-eq c = λ file at rest ahead.
     let i : ℕ = c.loop-i.i in
-    let front = take_rest c.args.entries.now.bytes.now (12 * i) in
-    let has =
-    entry_ahead file at (12 * i) c.args.entries.now.bytes.now c.of-entry.result ahead (omega arith)
-    (c.of-entry.ensures.id ∙ ap (take 4) front) (c.of-entry.ensures.size ∙ ap (number_at 8 4) front) in
     c.loop-i.invariant file at rest ahead
-    ∙ entry_met file (at + 12 * i) (c.args.entries.now.count - i + rest) (c.args.entries.now.count - (i + 1) + rest) c.args.id c.of-entry.result
-    has (sym c.if-eq.ensures) (omega arith)
+    ∙ entry_met file (at + 12 * i) (c.args.entries.now.count - i + rest) (c.args.entries.now.count - (i + 1) + rest) c.args.id
+    c.of-entry.result
+    (entry_after file at (12 * i) _ _ ahead (omega arith) c.of-entry.ensures.id c.of-entry.ensures.size)
+    (sym c.if-eq.ensures) (omega arith)
 
 pub loop-i-preserved : goal.loop-i-preserved
 loop-i-preserved c = λ file at rest ahead.
     let i : ℕ = c.loop-i.i in
-    let front = take_rest c.args.entries.now.bytes.now (12 * i) in
-    let has =
-    entry_ahead file at (12 * i) c.args.entries.now.bytes.now c.of-entry.result ahead (omega arith)
-    (c.of-entry.ensures.id ∙ ap (take 4) front) (c.of-entry.ensures.size ∙ ap (number_at 8 4) front) in
     c.loop-i.invariant file at rest ahead
-    ∙ entry_missed file (at + 12 * i) (at + 12 * (i + 1)) (c.args.entries.now.count - i + rest) (c.args.entries.now.count - (i + 1) + rest)
-    c.args.id c.of-entry.result has (sym c.if-eq.ensures) (omega arith) (omega arith)
+    ∙ entry_missed file (at + 12 * i) (at + 12 * (i + 1)) (c.args.entries.now.count - i + rest)
+    (c.args.entries.now.count - (i + 1) + rest) c.args.id c.of-entry.result
+    (entry_after file at (12 * i) _ _ ahead (omega arith) c.of-entry.ensures.id c.of-entry.ensures.size)
+    (sym c.if-eq.ensures) (omega arith) (omega arith)
 
 pub returns : goal.returns
 returns c = λ file at rest ahead.

@@ -17,9 +17,8 @@ returns-then-not-is_of_its_own-clause-next c before further complete on at numbe
 pub returns-in-Err-clause-next : goal.returns-in-Err-clause-next
 returns-in-Err-clause-next c before further complete on at number reads are =
     let (others, same, _) =
-    passed-alone c.args.fault (frames_per_second c.args.self.now.rate) (context_of c.args.self.now.draft) before
-    c.args.number c.args.self.now.first c.args.self.now.is_in_faulty_entry c.args.line.now c.args.self.now.lines.lines
-    further complete at (sym c.is_of_its_own.ensures ∙ c.if-not-is_of_its_own.false) reads are in (
+    passed-alone c.args.self.now c.args.fault before c.args.number c.args.line.now further complete at
+    (sym c.is_of_its_own.ensures ∙ c.if-not-is_of_its_own.false) reads are in (
       others,
       same,
       cut-left c.cut_short-in-Err.new.self others complete c.cut_short-in-Err.ensures.over
@@ -29,9 +28,8 @@ returns-in-Err-clause-next c before further complete on at number reads are =
 pub returns-in_default-clause-next : goal.returns-in_default-clause-next
 returns-in_default-clause-next c before further complete on at number reads are =
     let (others, same, next) =
-    passed-alone c.args.fault (frames_per_second c.args.self.now.rate) (context_of c.args.self.now.draft) before
-    c.args.number c.args.self.now.first c.args.self.now.is_in_faulty_entry c.args.line.now c.args.self.now.lines.lines
-    further complete at (sym c.is_of_its_own.ensures ∙ c.if-not-is_of_its_own.false) reads are in (
+    passed-alone c.args.self.now c.args.fault before c.args.number c.args.line.now further complete at
+    (sym c.is_of_its_own.ensures ∙ c.if-not-is_of_its_own.false) reads are in (
       others,
       same,
       emptied-left (record c.args.self.now {

@@ -1,4 +1,4 @@
-use Rattle.std.proofs.Common.{◌≡◌, ℕ, ◌+◌, ◌-◌, ◌*◌, [], ◌∷◌, length, refl, sym, ap, ◌∙◌, subst}
+use Rattle.std.proofs.Common.{◌≡◌, ℕ, ◌+◌, ◌-◌, ◌*◌, [], ◌∷◌, IsTrue, length, refl, sym, ap, ◌∙◌, subst}
 use Rattle.std.proofs.lemmas.List.Elements.{All-weaker}
 use Rattle.std.specs.Prelude.{ℤ, pos, slice_index_or}
 use Rattle.sound_terms.specs.declared.block.Instruction.TheVariants.{Emit}
@@ -10,7 +10,7 @@ use Rattle.sound_terms.specs.BlockLaws.{executed_all-append, frames_kept}
 use Rattle.sound_terms.specs.Sounds.{reading_by}
 use Rattle.clipping.specs.Clips.{IsClippingOf, block_sums}
 use Rattle.blockmachine.specs.Lines.{CanAdd, silent}
-use Rattle.blockmachine.specs.Sums.{Extent}
+use Rattle.blockmachine.specs.Sums.{AreSums, Extent}
 use Rattle.blockmachine.proofs.Fits.{fits_block}
 use Rattle.blockmachine.proofs.Ran.{added_formed}
 use Rattle.blockmachine.proofs.machine.Machine.run_lines.Given.{Over}
@@ -25,19 +25,31 @@ same_channels depth n m all frames same = ap (λ k. block_samples (bits_of depth
 as_wide : (g : Over) (c : goal.After-clips g) → c.sum_all.new.sums.extent.channels ≡ c.args.self.now.channels
 as_wide g c = ap (λ (e : Extent). e.channels) (c.sum_all.ensures.same_extent ∙ c.self.view_is)
 
+-- what the lines play in a block of so many frames
+abbrev added_to : (g : Over) (c : goal.After-clips g) → BlockState → BlockState
+added_to g c begun =
+    executed_all (reading_by (g.S.Shelf.stored c.args.shelf.now) c.args.sounds.now) c.args.self.now.channels
+    c.args.lines.now begun
+
+-- and that it was summed
+summed : (g : Over) (c : goal.After-clips g) → IsTrue (g.S.Shelf.honest c.args.shelf.now)
+    → (frames : ℕ) (start : BlockState)
+    → AreSums c.sum_all.new.sums (added_to g c (silent (record start { frames = frames }))).sums
+summed g c honest frames start =
+    c.in_ok-sum_all.ensures.summed honest c.args.self.now.channels (record start { frames = frames })
+
 pub returns-clause-ran : goal.returns-clause-ran
 returns-clause-ran g c = λ honest frames start long.
     let reading : Reading = reading_by (g.S.Shelf.stored c.args.shelf.now) c.args.sounds.now in
     let channels = c.args.self.now.channels in
     let lines = c.args.lines.now in
     let begun : BlockState = silent (record start { frames = frames }) in
-    let added : BlockState = executed_all reading channels lines begun in
-    let sums = c.in_ok-sum_all.ensures.summed honest channels (record start { frames = frames }) in
+    let added = added_to g c begun in
     let same = as_wide g c in
     let kept = frames_kept reading c.args.self.now.frames channels lines begun
     (All-weaker (CanAdd c.args.sounds.now c.args.self.now) (IsFormed c.args.self.now.frames channels)
     (added_formed c.args.sounds.now c.args.self.now) lines c.requires.lines) in
-    c.emit.ensures added.sums sums frames (long ∙ ap (λ n. frames * n) (sym same))
+    c.emit.ensures added.sums (summed g c honest frames start) frames (long ∙ ap (λ n. frames * n) (sym same))
     ∙ same_channels c.args.depth c.sum_all.new.sums.extent.channels channels added.sums frames same
     ∙ ap (block_samples (bits_of c.args.depth) added.sums channels 0) (sym kept)
     ∙ sym (ap (λ (state : BlockState). state.out)
@@ -61,8 +73,8 @@ returns-clause-clips g c = λ honest frames start long.
     let channels = c.args.self.now.channels in
     let lines = c.args.lines.now in
     let begun : BlockState = silent (record start { frames = frames }) in
-    let added : BlockState = executed_all reading channels lines begun in
-    let sums = c.in_ok-sum_all.ensures.summed honest channels (record start { frames = frames }) in
+    let added = added_to g c begun in
+    let sums = summed g c honest frames start in
     let same = as_wide g c in
     let room = long ∙ ap (λ n. frames * n) (sym same) in
     let found : IsClippingOf bits c.sum_all.new.sums.extent.channels

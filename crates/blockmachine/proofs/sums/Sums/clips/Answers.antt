@@ -6,7 +6,7 @@ use Rattle.sound_terms.specs.Depth.{bits_of}
 use Rattle.sound_terms.specs.Mix.{full_scale}
 use Rattle.clipping.specs.Clips.{IsClippingOf, block_sums}
 use Rattle.blockmachine.specs.Sums.{BlockSums, kept_sums, widened}
-use Rattle.blockmachine.proofs.UnclippedSums.{block_taken, length-kept}
+use Rattle.blockmachine.proofs.Emitted.{block_taken, each_kept}
 use Rattle.blockmachine.proofs.sums.Sums.clips.Goals as goal
 
 -- a whole number of frames
@@ -41,10 +41,8 @@ returns-then-bits c = λ all are frames long handed.
     let inside = c.self.inside in
     let bits = bits_of c.args.depth in
     let whole : length kept.values ≡ kept.extent.frames * kept.extent.channels =
-    sym (ap (λ (s : BlockSums). length s.values) c.self.view_is)
-    ∙ length-kept inside.at_depth (bits_of inside.depth) (inside.lanes.frames * inside.lanes.channels)
-    inside.layers.items inside.values.items c.self.invariant.1 c.self.invariant.0
-    ∙ ap (λ (s : BlockSums). s.extent.frames * s.extent.channels) c.self.view_is in
+    each_kept inside.at_depth (bits_of inside.depth) inside.lanes.frames inside.lanes.channels inside.layers.items
+    inside.values.items _ c.self.view_is c.self.invariant.1 c.self.invariant.0 in
     let wide = ap (λ (s : BlockSums). s.extent.channels) c.self.view_is in
     let same : bits_of inside.depth ≡ bits =
     sym c.bits.ensures ∙ c.if-bits.true ∙ c.bits-then-self.ensures in

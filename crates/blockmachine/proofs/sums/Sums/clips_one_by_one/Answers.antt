@@ -10,8 +10,8 @@ use mir.Val.{SFits}
 use Rattle.sound_terms.specs.Depth.{bits_of}
 use Rattle.clipping.specs.Clips.{IsClippingOf, block_sums, is_clipped}
 use Rattle.blockmachine.specs.Sums.{BlockSums}
-use Rattle.blockmachine.proofs.Emitted.{room}
-use Rattle.blockmachine.proofs.UnclippedSums.{block_mapped, block_taken, length-kept, none_clipped}
+use Rattle.blockmachine.proofs.Emitted.{block_mapped, block_taken, each_kept, room}
+use Rattle.blockmachine.proofs.UnclippedSums.{none_clipped}
 use Rattle.blockmachine.proofs.sums.Sums.clips_one_by_one.Goals as goal
 
 pub loop-k-init : goal.loop-k-init
@@ -28,10 +28,8 @@ loop-k-preserved c =
     let frames = c.args.self.now.extent.frames in
     let wide : inside.lanes.channels ≡ channels = ap (λ (s : BlockSums). s.extent.channels) c.self.view_is in
     let whole : length values ≡ frames * channels =
-    sym (ap (λ (s : BlockSums). length s.values) c.self.view_is)
-    ∙ length-kept inside.at_depth (bits_of inside.depth) (inside.lanes.frames * inside.lanes.channels)
-    inside.layers.items inside.values.items c.self.invariant.1 c.self.invariant.0
-    ∙ ap (λ (s : BlockSums). s.extent.frames * s.extent.channels) c.self.view_is in
+    each_kept inside.at_depth (bits_of inside.depth) inside.lanes.frames inside.lanes.channels inside.layers.items
+    inside.values.items _ c.self.view_is c.self.invariant.1 c.self.invariant.0 in
     let most = room (length c.args.samples.now) c.requires.0 frames channels c.requires.1 c.requires.2 in
     let within : n < length values = omega (arith, whole, most, c.loop-k-test.true) in
     let row : n ≡ n / channels * channels + n % inside.lanes.channels =
@@ -54,10 +52,8 @@ returns c = λ all are frames long handed.
     let kept = c.args.self.now in
     let inside = c.self.inside in
     let whole : length kept.values ≡ kept.extent.frames * kept.extent.channels =
-    sym (ap (λ (s : BlockSums). length s.values) c.self.view_is)
-    ∙ length-kept inside.at_depth (bits_of inside.depth) (inside.lanes.frames * inside.lanes.channels)
-    inside.layers.items inside.values.items c.self.invariant.1 c.self.invariant.0
-    ∙ ap (λ (s : BlockSums). s.extent.frames * s.extent.channels) c.self.view_is in
+    each_kept inside.at_depth (bits_of inside.depth) inside.lanes.frames inside.lanes.channels inside.layers.items
+    inside.values.items _ c.self.view_is c.self.invariant.1 c.self.invariant.0 in
     let all_noted : c.loop-k.k ≡ length c.args.samples.now = omega (arith, c.loop-k-test.false, c.loop-k.auto.k-end) in
     let taken = block_taken kept all are whole frames c.requires.0 c.requires.1 (sym long ∙ c.requires.2) in
     subst (λ (l : List ℤ). IsClippingOf (bits_of c.args.depth) kept.extent.channels l c.loop-k.clips)

@@ -25,18 +25,14 @@ first_sums all kept few frames out small count are long taken = λ i channel bel
 
 pub slice_bounds-widen_all-end : goal.slice_bounds-widen_all-end
 slice_bounds-widen_all-end c =
-    let room =
-    enough c.args.self.now c.requires.0 _ _ _ _ c.requires.1 c.requires.2
-    (ap (λ (l : List ℤ). length l) c.as_slice-layers.ensures.value ∙ c.self.invariant.1)
-    (ap (λ (s : BlockSums). s.extent.frames * s.extent.channels) c.self.view_is) in
+    let long = ap (λ (l : List ℤ). length l) c.as_slice-layers.ensures.value ∙ c.self.invariant.1 in
+    let room = enough _ _ _ _ c.args.out.now c.args.self.now c.self.view_is c.requires long in
     search (rules, room)
 
 pub slice_bounds-copy_from_slice-end : goal.slice_bounds-copy_from_slice-end
 slice_bounds-copy_from_slice-end c =
-    let room =
-    enough c.args.self.now c.requires.0 _ _ _ _ c.requires.1 c.requires.2
-    (ap (λ (l : List ℤ). length l) c.as_slice-values.ensures.value ∙ c.self.invariant.0)
-    (ap (λ (s : BlockSums). s.extent.frames * s.extent.channels) c.self.view_is) in
+    let long = ap (λ (l : List ℤ). length l) c.as_slice-values.ensures.value ∙ c.self.invariant.0 in
+    let room = enough _ _ _ _ c.args.out.now c.args.self.now c.self.view_is c.requires long in
     search (rules, room)
 
 pub returns-then-self : goal.returns-then-self

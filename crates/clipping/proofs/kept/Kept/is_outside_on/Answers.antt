@@ -1,13 +1,10 @@
-use Rattle.std.proofs.Common.{◌≡◌, ◌∙◌, ◌+◌, ◌*◌, ◌/◌, false, rules, ap, sym, refl, get_or, length, arith}
+use Rattle.std.proofs.Common.{◌≡◌, ◌+◌, ◌*◌, ◌/◌, false, rules, sym, refl, get_or, length, arith}
 use Rattle.std.specs.Prelude.{pos}
-use Rattle.std.specs.Int.{w32}
 use Rattle.std.proofs.lemmas.Bool.{false≢true}
-use Rattle.std.proofs.lemmas.Int.{to_z-of_z}
-use mir.Val.{SFits}
 use Rattle.sound_terms.specs.Depth.{bits_of}
 use Rattle.sound_terms.specs.Mix.{full_scale}
 use Rattle.clipping.specs.Clips.{is_clipped}
-use Rattle.clipping.proofs.Outsides.{found_on, none_found_on, one_further}
+use Rattle.clipping.proofs.Outsides.{found_on, none_found_on, one_further, test_of}
 use Rattle.clipping.proofs.kept.Kept.is_outside_on.Goals as goal
 
 pub loop-frame-init : goal.loop-frame-init
@@ -17,12 +14,10 @@ pub returns-then-is_outside : goal.returns-then-is_outside
 returns-then-is_outside c =
     let kept = c.args.self.now in
     let bits = bits_of kept.depth in
-    let k = c.loop-frame.frame * kept.channels + c.args.channel in
-    let fits : SFits w32 (get_or kept.sums.now k (pos 0)) = search rules in
-    let here = to_z-of_z w32 (get_or kept.sums.now k (pos 0)) fits in (
+    let sum = get_or kept.sums.now (c.loop-frame.frame * kept.channels + c.args.channel) (pos 0) in (
       λ _. found_on bits kept.sums.now (length kept.sums.now / kept.channels) kept.channels c.loop-frame.frame
           c.args.channel (sym kept.whole) c.loop-frame-test.true c.requires
-          (ap (λ z. is_clipped bits (full_scale bits z)) (sym here) ∙ sym c.is_outside.ensures ∙ c.if-is_outside.true),
+          (test_of bits sum _ _ (search rules) c.is_outside.ensures c.if-is_outside.true),
       λ _. refl,
     )
 
@@ -30,13 +25,11 @@ pub loop-frame-preserved : goal.loop-frame-preserved
 loop-frame-preserved c =
     let kept = c.args.self.now in
     let bits = bits_of kept.depth in
-    let k = c.loop-frame.frame * kept.channels + c.args.channel in
-    let fits : SFits w32 (get_or kept.sums.now k (pos 0)) = search rules in
-    let here = to_z-of_z w32 (get_or kept.sums.now k (pos 0)) fits in
+    let sum = get_or kept.sums.now (c.loop-frame.frame * kept.channels + c.args.channel) (pos 0) in
     one_further (λ n. is_clipped bits
     (full_scale bits (get_or kept.sums.now (n * kept.channels + c.args.channel) (pos 0))) ≡ false)
     c.loop-frame.frame c.loop-frame.invariant
-    (ap (λ z. is_clipped bits (full_scale bits z)) (sym here) ∙ sym c.is_outside.ensures ∙ c.if-is_outside.false)
+    (test_of bits sum _ _ (search rules) c.is_outside.ensures c.if-is_outside.false)
 
 pub returns : goal.returns
 returns c =

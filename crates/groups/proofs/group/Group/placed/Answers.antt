@@ -10,14 +10,8 @@ length_of-requires c =
     rw c.pieces-pieces.ensures.lent (length_in_day c.args.self.now c.pieces-pieces.ensures.group
     c.pieces-pieces.ensures.sound)
 
-pub rise_of-requires : goal.rise_of-requires
-rise_of-requires c =
-    let whole : length_of_group c.args.self.now ≤ day =
-    length_in_day c.args.self.now c.pieces-pieces.ensures.group c.pieces-pieces.ensures.sound in
-    rw c.pieces-pieces.ensures.lent (omega (arith, whole, fades_within c.args.self.now))
-
-pub fall_of-requires : goal.fall_of-requires
-fall_of-requires c =
+pub ramps_of-rise-requires : goal.ramps_of-rise-requires
+ramps_of-rise-requires c =
     let whole : length_of_group c.args.self.now ≤ day =
     length_in_day c.args.self.now c.pieces-pieces.ensures.group c.pieces-pieces.ensures.sound in
     rw c.pieces-pieces.ensures.lent (omega (arith, whole, fades_within c.args.self.now))

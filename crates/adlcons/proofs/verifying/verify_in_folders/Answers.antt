@@ -1,5 +1,0 @@
-use Rattle.std.proofs.Common.{inr}
-use Rattle.adlcons.proofs.verifying.verify_in_folders.Goals as goal
-
-pub returns-in-Ok-clause-answered : goal.returns-in-Ok-clause-answered
-returns-in-Ok-clause-answered g c = inr c.in-Ok.ensures.answered

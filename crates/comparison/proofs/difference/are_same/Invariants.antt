@@ -1,0 +1,7 @@
+use Rattle.std.proofs.Common.{◌≡◌, ◌<◌, ℕ, true, get_or}
+use Rattle.std.specs.Prelude.{pos}
+use Rattle.comparison.proofs.difference.are_same.Given as goal
+
+-- the sums so far are the same
+abbrev pub invariant-loop-k : goal.invariant-loop-k
+invariant-loop-k l = l.same ≡ true → (k : ℕ) → k < l.k → get_or l.sums k (pos 0) ≡ get_or l.others k (pos 0)

@@ -1,0 +1,134 @@
+// Groups that are cut at a time.
+ghost use Rattle.std.specs.Prelude.{◌≡◌, ◌≢◌, ◌≤◌, ◌+◌, ◌++◌, ℕ, [], List, MatchOption, IfOk, OnOk, option_to_list};
+ghost use Rattle.std.specs.List.{All, flat_map};
+ghost use Rattle.sound_terms.specs.Mix.{Reading};
+ghost use Rattle.sound_terms.specs.Groups.{IsGroup, IsPiece, mix_of, reads};
+ghost use Rattle.groups.specs.Apart.{IsApart};
+ghost use Rattle.sound_terms.specs.Passes.{as_group, cut_group, cut_groups, piece_before, piece_behind};
+
+use crate::group::Pieces;
+use crate::{Group, IntervalFault, Intervals, Piece};
+use sampletime::SampleTime;
+use std::alloc::AllocError;
+
+/// What of a piece lies before this time.
+fn before(piece: &Piece, time: u64) -> Option<Piece>
+    requires { IsPiece piece.now }
+    ensures { option_to_list result ≡ piece_before time piece.now }
+{
+    if time <= piece.start {
+        None
+    } else if piece.start + piece.length <= time {
+        Some(*piece)
+    } else {
+        Some(Piece {
+            length: time - piece.start,
+            ..*piece
+        })
+    }
+}
+
+/// What of a piece lies from this time on.
+fn after(piece: &Piece, time: u64) -> Option<Piece>
+    requires { IsPiece piece.now }
+    ensures { option_to_list result ≡ piece_behind time piece.now }
+{
+    if time <= piece.start {
+        return Some(*piece);
+    }
+    if piece.start + piece.length <= time {
+        return None;
+    }
+    let cut = time - piece.start;
+    Some(Piece {
+        start: time,
+        length: piece.length - cut,
+        frame: piece.frame + cut,
+        shape: piece.shape.after(cut),
+        ..*piece
+    })
+}
+
+/// Adds these pieces as a group, where there are any.
+fn push_some(groups: &mut Vec<Group>, pieces: Pieces) -> Result<(), AllocError>
+    requires group { pieces.items ≢ [] → IsGroup pieces.items }
+    requires sound { All IsPiece pieces.items }
+    ensures { OnOk result (groups.new.items ≡ groups.old.items ++ as_group pieces.items) }
+{
+    if let Some(group) = Group::of(pieces) {
+        groups.push(group)?;
+    }
+    Ok(())
+}
+
+/// Adds this piece, where it is one.
+fn push_piece(pieces: &mut Pieces, piece: Option<Piece>) -> Result<(), AllocError>
+    ensures { OnOk result (pieces.new.items ≡ pieces.old.items ++ option_to_list piece) }
+{
+    if let Some(piece) = piece {
+        pieces.push(piece)?;
+    }
+    Ok(())
+}
+
+/// What of the pieces of a group lies before a time, and what from it on.
+#[derive(Drop)]
+struct Cut {
+    before: Pieces,
+    after: Pieces,
+}
+
+impl Group {
+    /// What of the pieces lies before this time, and what from it on.
+    fn cut(&self, time: u64) -> Result<Cut, AllocError>
+        ensures before { IfOk result (λ cut. cut.before.items ≡ flat_map (piece_before time) self.now) }
+        ensures after { IfOk result (λ cut. cut.after.items ≡ flat_map (piece_behind time) self.now) }
+    {
+        let alloc = self.allocator();
+        let mut cut = Cut {
+            before: Pieces::new(alloc),
+            after: Pieces::new(alloc),
+        };
+        for piece in self.pieces() {
+            push_piece(&mut cut.before, before(piece, time))?;
+            push_piece(&mut cut.after, after(piece, time))?;
+        }
+        Ok(cut)
+    }
+
+    /// Adds both sides of the group, those that aren't empty, to these groups.
+    fn push_cut(&self, time: u64, groups: &mut Vec<Group>) -> Result<(), AllocError>
+        ensures { OnOk result (groups.new.items ≡ groups.old.items ++ cut_group time self.now) }
+    {
+        let _ = self.pieces();
+        let Cut { before, after } = self.cut(time)?;
+        push_some(groups, before)?;
+        push_some(groups, after)
+    }
+}
+
+impl Intervals {
+    /// Both sides of each group.
+    fn sides(&self, time: u64) -> Result<Vec<Group>, AllocError>
+        ensures { IfOk result (λ sides. sides.items ≡ flat_map (cut_group time) self.now) }
+    {
+        let mut sides = Vec::new(self.allocator());
+        for group in self.groups() {
+            group.push_cut(time, &mut sides)?;
+        }
+        Ok(sides)
+    }
+
+    /// Cuts every group that lies on both sides of a time in two. A ramp that is cut goes on where it was.
+    pub fn cut_at(self, time: SampleTime) -> Result<Intervals, IntervalFault>
+        ensures cut { IfOk result (λ intervals. intervals ≡ cut_groups time self) }
+        ensures same_mix { (reading : Reading) (channel time : ℕ)
+            → IfOk result (λ intervals. mix_of reading intervals channel time ≡ mix_of reading self channel time) }
+        ensures apart { IfOk result (λ intervals. All (IsApart time) intervals) }
+        ensures same_reads { (file channel frame : ℕ)
+            → IfOk result (λ intervals. reads intervals file channel frame ≡ reads self file channel frame) }
+    {
+        let _ = self.groups();
+        Ok(Intervals::ordered(self.sides(time.get())?)?)
+    }
+}

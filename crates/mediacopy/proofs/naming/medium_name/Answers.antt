@@ -1,7 +1,0 @@
-use Rattle.std.proofs.Common.{append_assoc, rules}
-use Rattle.list_terms.specs.Renewed.{media_name}
-use Rattle.mediacopy.proofs.naming.medium_name.Goals as goal
-
-pub returns : goal.returns
-unfolding media_name
-returns c = search (rules, append_assoc)

@@ -1,0 +1,178 @@
+// Copies pieces of runs from their sources into laid out media.
+ghost use Rattle.std.specs.Prelude.{◌≡◌, ◌≢◌, ◌+◌, ◌%◌, ◌≤◌, ◌<◌, ◌↔◌, length, IfErr, IsTrue, OnErr, OnOk, ⊤};
+ghost use Rattle.work_terms.specs.Disk.{Changes, IsTorn, IsWritten};
+ghost use Rattle.sound_terms.specs.Media.{frame_length};
+ghost use Rattle.list_terms.specs.Heard.{sounds_of};
+ghost use Rattle.list_terms.specs.Renewed.{media_name};
+ghost use Rattle.devices.specs.Frame.{OnlyReads, OnlyWrites};
+ghost use Rattle.mediacopy.specs.Fault.{IsOutput};
+ghost use Rattle.mediacopy.specs.Pieces.{IsPieceIn, piece_bytes, piece_length, piece_place, run_at};
+ghost use Rattle.mediacopy.specs.Pieces as spec;
+ghost use Rattle.mediacopy.specs.Moment.{IsLater};
+
+use crate::names::medium_name;
+use crate::{CopyFault, CopyJob, info_of};
+use devices::{Bench, Shelf};
+use mediaset::Run;
+use sourceindex::Bound;
+use wavread::Sound;
+
+/// The bytes of a header without a CodingHistory.
+const HEADER: u64 = 690;
+
+/// Where the samples begin in the media of a source.
+fn place_in_media(sound: &Sound) -> u64
+    ensures offset { result ≡ 88 + (602 + length sound.now.history + (602 + length sound.now.history) % 2) }
+    ensures near { result ≤ 66226 }
+{
+    let history = sound.history().len() as u64;
+    HEADER + history + history % 2
+}
+
+/// The bytes of a frame: 2 to 256.
+fn frame_of(sound: &Sound) -> u64
+    ensures value { result ≡ frame_length sound.now }
+    ensures few { result ≤ 256 }
+{
+    u64::from(sound.channels()) * u64::from(sound.depth().bits() / 8)
+}
+
+/// The run that a piece is of.
+fn run_of(runs: &[Run], job: CopyJob) -> &Run
+    requires { job.run < length runs.now }
+    ensures { result.now ≡ run_at runs.now job.run }
+{
+    &runs[job.run as usize]
+}
+
+/// The file that a piece is of.
+fn source_of<'a>(bound: &'a Bound, runs: &[Run], job: CopyJob) -> &'a Sound
+    requires { IsPieceIn bound.now runs.now job }
+    ensures { result.now ≡ spec.source_of (sounds_of bound.now) runs.now job }
+{
+    let run = run_of(runs, job);
+    &bound.sounds()[run.file as usize]
+}
+
+/// Whether frames from one on lie among so many.
+fn lie_within(from: u64, count: u64, frames: u64) -> bool
+    ensures { IsTrue result ↔ (from + count ≤ frames) }
+{
+    count <= frames && from <= frames - count
+}
+
+/// Whether a job is a piece of a run of a bound file: some of the run's frames, all of which the file has, where 64 bits
+/// can tell the length of the run's medium.
+pub fn is_piece(bound: &Bound, runs: &[Run], job: CopyJob) -> bool
+    ensures { IsTrue result ↔ IsPieceIn bound.now runs.now job }
+{
+    let Some(run) = runs.get(job.run as usize) else {
+        return false;
+    };
+    let Some(sound) = bound.sounds().get(run.file as usize) else {
+        return false;
+    };
+    run.length > 0
+        && lie_within(run.first, run.length, sound.frames())
+        && lie_within(job.from, u64::from(job.frames), run.length)
+        && info_of(sound, 0, run).fits()
+}
+
+/// How many bytes a piece has.
+pub fn length_of(bound: &Bound, runs: &[Run], job: CopyJob) -> usize
+    requires piece { IsPieceIn bound.now runs.now job }
+    ensures { result ≡ piece_length (sounds_of bound.now) runs.now job }
+{
+    let frame = frame_of(source_of(bound, runs, job));
+    job.frames as usize * frame as usize
+}
+
+/// Fills `bytes`, which have the piece's length, with its frames in its source.
+pub fn fetch_piece<S: Shelf>(
+    shelf: &mut S,
+    bound: &Bound,
+    runs: &[Run],
+    job: CopyJob,
+    bytes: &mut [u8],
+) -> Result<(), CopyFault>
+    requires piece { IsPieceIn bound.now runs.now job }
+    requires room { length bytes.old ≡ piece_length (sounds_of bound.now) runs.now job }
+    ensures fetched { IsTrue (S.honest shelf.old)
+        → OnOk result (bytes.new ≡ piece_bytes (S.stored shelf.old) (sounds_of bound.now) runs.now job) }
+    ensures source { IfErr result (λ fault. fault ≡ CopyFault.Source) }
+    ensures only_reads { OnlyReads S.Shelf shelf.old shelf.new result (λ _. ⊤)
+        (λ _ failed. failed (spec.source_of (sounds_of bound.now) runs.now job).name) }
+{
+    let run = run_of(runs, job);
+    let sound = source_of(bound, runs, job);
+    // Its frames are known to have a number of 64 bits from here on.
+    let _ = sound.channels();
+    match sound.read_bytes(shelf, run.first + job.from, bytes) {
+        Ok(()) => Ok(()),
+        Err(_) => Err(CopyFault::Source),
+    }
+}
+
+/// Writes the bytes of a piece at their place in the laid out medium of its run, and no other byte.
+pub fn place_piece<B: Bench>(
+    bench: &mut B,
+    bound: &Bound,
+    runs: &[Run],
+    job: CopyJob,
+    bytes: &[u8],
+) -> Result<(), CopyFault>
+    requires piece { IsPieceIn bound.now runs.now job }
+    ensures placed { IsTrue (B.honest bench.old)
+        → OnOk result (Changes (IsWritten (piece_place (sounds_of bound.now) runs.now job) bytes.now)
+        (media_name (job.run + 1)) (B.stored bench.old) (B.stored bench.new)) }
+    ensures torn { IsTrue (B.honest bench.old)
+        → OnErr result (Changes (IsTorn (piece_place (sounds_of bound.now) runs.now job) (length bytes.now))
+        (media_name (job.run + 1)) (B.stored bench.old) (B.stored bench.new)) }
+    ensures output { IfErr result IsOutput }
+    ensures only_writes { OnlyWrites B.Bench (λ n. n ≢ media_name (job.run + 1)) bench.old bench.new result (λ _. ⊤)
+        (λ _ failed. failed (media_name (job.run + 1))) }
+    ensures later { IsLater B.moment bench.old bench.new }
+{
+    let sound = source_of(bound, runs, job);
+    let offset = place_in_media(sound) + job.from * frame_of(sound);
+    let name = medium_name(u64::from(job.run) + 1);
+    match bench.write_at(name.as_str(), offset, bytes) {
+        Ok(()) => Ok(()),
+        Err(_) => Err(CopyFault::Output),
+    }
+}
+
+/// Copies a piece from its source to its place in the laid out medium of its run, through `bytes`, which have its
+/// length. Where its source fails, nothing is written.
+pub fn copy_piece<S: Shelf, B: Bench>(
+    shelf: &mut S,
+    bench: &mut B,
+    bound: &Bound,
+    runs: &[Run],
+    job: CopyJob,
+    bytes: &mut [u8],
+) -> Result<(), CopyFault>
+    requires piece { IsPieceIn bound.now runs.now job }
+    requires room { length bytes.old ≡ piece_length (sounds_of bound.now) runs.now job }
+    ensures copied { IsTrue (S.honest shelf.old) → IsTrue (B.honest bench.old)
+        → OnOk result (Changes (IsWritten (piece_place (sounds_of bound.now) runs.now job)
+        (piece_bytes (S.stored shelf.old) (sounds_of bound.now) runs.now job)) (media_name (job.run + 1))
+        (B.stored bench.old) (B.stored bench.new)) }
+    ensures fetched { IsTrue (S.honest shelf.old)
+        → OnOk result (bytes.new ≡ piece_bytes (S.stored shelf.old) (sounds_of bound.now) runs.now job) }
+    ensures unwritten { IfErr result (λ fault. fault ≡ CopyFault.Source → bench.new ≡ bench.old) }
+    ensures fetched_first { IsTrue (S.honest shelf.old) → IfErr result (λ fault. fault ≡ CopyFault.Output
+        → bytes.new ≡ piece_bytes (S.stored shelf.old) (sounds_of bound.now) runs.now job) }
+    ensures torn { IsTrue (B.honest bench.old) → IfErr result (λ fault. fault ≡ CopyFault.Output
+        → Changes (IsTorn (piece_place (sounds_of bound.now) runs.now job)
+        (piece_length (sounds_of bound.now) runs.now job)) (media_name (job.run + 1))
+        (B.stored bench.old) (B.stored bench.new)) }
+    ensures only_reads { OnlyReads S.Shelf shelf.old shelf.new result (λ fault. fault ≡ CopyFault.Source)
+        (λ _ failed. failed (spec.source_of (sounds_of bound.now) runs.now job).name) }
+    ensures only_writes { OnlyWrites B.Bench (λ n. n ≢ media_name (job.run + 1)) bench.old bench.new result
+        (λ fault. fault ≡ CopyFault.Output) (λ _ failed. failed (media_name (job.run + 1))) }
+    ensures later { IsLater B.moment bench.old bench.new }
+{
+    fetch_piece(shelf, bound, runs, job, bytes)?;
+    place_piece(bench, bound, runs, job, bytes)
+}
