@@ -3,8 +3,4 @@
 #![tactic(auto)]
 
 #[cfg(test)]
-mod boards;
-#[cfg(test)]
-mod parts;
-#[cfg(test)]
-mod rows;
+mod tests;

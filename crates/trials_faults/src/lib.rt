@@ -2,14 +2,4 @@
 #![tactic(auto)]
 
 #[cfg(test)]
-mod failing_devices;
-#[cfg(test)]
-mod memory;
-#[cfg(test)]
-mod resumed;
-#[cfg(test)]
-mod schedules;
-#[cfg(test)]
-mod stops;
-#[cfg(test)]
-mod works;
+mod tests;

@@ -2,12 +2,4 @@
 #![tactic(auto)]
 
 #[cfg(test)]
-mod calls;
-#[cfg(test)]
-mod crashes;
-#[cfg(test)]
-mod folders;
-#[cfg(test)]
-mod marks;
-#[cfg(test)]
-mod memory;
+mod tests;

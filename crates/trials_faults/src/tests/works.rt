@@ -1,0 +1,500 @@
+// Works over files in memory, each call of the product that does one, and the files that it has to leave.
+ghost use Rattle.rendering.specs.Rendering.{HaveChannels};
+
+use consolidate::{
+    BoardEvent, ConsolidateChoice, Depth, Fault, JobLength, Keeping, Options, Order, Progress,
+    RenderChoice, ReportChoice, Resumed, Work, consolidate_watched, render_watched, resume_watched,
+    run_schedule,
+};
+use passes::{DropSilent, JoinCuts, Pass, Regroup, SplitFades};
+use shelf::{Bench, MemoryBench, MemoryShelf, Shelf, Unwatched};
+use std::alloc::{AllocError, Global};
+use std::test::Fail;
+use trials_projects::lists::{FADED, list};
+use trials_projects::media::{LOUD, head_at, sample, silent_middle, sound};
+use trials_projects::recorded::Recorded;
+
+/// The frames of a rendering of three blocks.
+pub(crate) const FRAMES: u64 = 12_000;
+
+/// The bytes of a block of 4,096 frames of one channel of 16 bits.
+pub(crate) const BLOCK: u64 = 8_192;
+
+pub(crate) const SOUND: &str = "render.wav";
+
+pub(crate) const MARKS: &str = "render.marks";
+
+/// An entry that plays all frames of three blocks where they stand in `A.wav`, from midnight on.
+const THREE_BLOCKS: &str =
+    "(Entry) 1 (Cut) I 1 1 1 00.00.00.00/0000 00.00.00.00/0000 00.00.00.06/0480
+";
+
+/// The frames of 200 blocks.
+const MANY_FRAMES: u64 = 819_200;
+
+/// An entry that plays as many frames so.
+const MANY_BLOCKS: &str =
+    "(Entry) 1 (Cut) I 1 1 1 00.00.00.00/0000 00.00.00.00/0000 00.00.17.01/1280
+";
+
+/// What is left over two media of an entry with a silent middle.
+pub(crate) const CONSOLIDATED: &[u8] = b"<ADL>\r
+<SEQUENCE>\r
+(SEQ_SAMPLE_RATE) S48000\r
+(SEQ_FRAME_RATE) 25\r
+</SEQUENCE>\r
+<SOURCE_INDEX>\r
+(Index) 0001 (F) \"URL:file://localhost/M00001.wav\" _ 00.00.00.00/0000 00.00.00.00/0004\r
+(Index) 0002 (F) \"URL:file://localhost/M00002.wav\" _ 00.00.00.00/0008 00.00.00.00/0004\r
+</SOURCE_INDEX>\r
+<EVENT_LIST>\r
+(Entry) 0001 (Cut) I 0001 1~2 1~2 00.00.00.00/0000 00.00.00.00/0000 00.00.00.00/0004\r
+(Infade) 00.00.00.00/0004 LIN _ _ _\r
+(Entry) 0002 (Cut) I 0002 1~2 1~2 00.00.00.00/0008 00.00.00.00/0008 00.00.00.00/0012\r
+(Outfade) 00.00.00.00/0004 LIN _ _ _\r
+</EVENT_LIST>\r
+</ADL>\r
+";
+
+/// The program that asks for a report of this.
+const ASKED: ReportChoice<'static> = ReportChoice {
+    program: "trials",
+    version: "1.2",
+    digests: true,
+};
+
+/// The report, in which the SHA-256 of the media, of their source and of both lists are those of another program.
+const REPORT: &[u8] =
+    b"{\"entries\":[{\"entry\":1,\"group\":0},{\"entry\":2,\"group\":0}],\"form\":6,\
+\"given_list_sha256\":\"b58928c762d83f96f5d166d1012337a63e022741b949beca6d2555c0955e3f1a\",\
+\"groups\":[{\"given\":[1],\"more\":0}],\"handle\":0,\
+\"media\":[{\"base\":0,\"channels\":2,\"depth\":16,\"file\":\"M00001.wav\",\"frames\":4,\
+\"sha256\":\"c375e3651a9458f0dc99102df3b6a7d54a9b733b3ace72081d2010a3b508a958\",\
+\"source\":{\"file\":\"A.wav\",\"first\":0,\"identifier\":\"_\",\"index\":1,\
+\"sha256\":\"65ff694fd8eb4f15e72c67a4da08f8a5f451343afc2fad0ac92a9f20cdf7a0a8\",\"url\":\"URL:file://localhost/A.wav\"}},\
+{\"base\":8,\"channels\":2,\"depth\":16,\"file\":\"M00002.wav\",\"frames\":4,\
+\"sha256\":\"8e81d770610a480fd7fd16e43074903a8adff6822f43a41b24f881b00da2d3ec\",\
+\"source\":{\"file\":\"A.wav\",\"first\":8,\"identifier\":\"_\",\"index\":1,\
+\"sha256\":\"65ff694fd8eb4f15e72c67a4da08f8a5f451343afc2fad0ac92a9f20cdf7a0a8\",\"url\":\"URL:file://localhost/A.wav\"}}],\
+\"new_list_sha256\":\"4691bb81a5d74d115e04cb7c0977f93e64725e1ee50e4cec69e7d525ddca8832\",\
+\"notices\":[],\"program\":\"trials\",\"version\":\"1.2\"}
+";
+
+/// The checksums of all that, as `sha256sum` prints them.
+const SUMS: &[u8] = b"\
+c375e3651a9458f0dc99102df3b6a7d54a9b733b3ace72081d2010a3b508a958  M00001.wav
+8e81d770610a480fd7fd16e43074903a8adff6822f43a41b24f881b00da2d3ec  M00002.wav
+4691bb81a5d74d115e04cb7c0977f93e64725e1ee50e4cec69e7d525ddca8832  consolidated.adl
+ad7cd4dc63045e1eb48187baa070b7a40c575e1ff72f03bdd5f6c13f4277c95c  consolidated.json
+";
+
+/// All files that these works write.
+const OUTPUTS: [&str; 8] = [
+    SOUND,
+    MARKS,
+    "M00001.wav",
+    "M00002.wav",
+    "M00003.wav",
+    "SHA256SUMS",
+    "consolidated.json",
+    "consolidated.adl",
+];
+
+/// What is rendered of 200 blocks: the first channel sounds.
+fn many_rendered(alloc: Global) -> Result<Vec<u8>, Fail> {
+    let mut file = head_at(alloc, 2, Depth::TwentyFour, MANY_FRAMES, 0)?;
+    for place in 0..MANY_FRAMES {
+        let [low, high] = sample(place);
+        file.extend_from_slice(&[0, low, high, 0, 0, 0])?;
+    }
+    Ok(file)
+}
+
+/// The medium of four sounding frames from this one on.
+fn medium(alloc: Global, first: u64) -> Result<Vec<u8>, Fail> {
+    let mut file = head_at(alloc, 2, Depth::Sixteen, 4, first)?;
+    file.extend_from_slice(&LOUD)?;
+    Ok(file)
+}
+
+/// The four standard passes.
+fn standard(alloc: Global) -> Result<Vec<Box<dyn Pass>>, AllocError> {
+    let mut passes: Vec<Box<dyn Pass>> = Vec::new(alloc);
+    passes.push(Box::new(alloc, SplitFades)?)?;
+    passes.push(Box::new(alloc, DropSilent)?)?;
+    passes.push(Box::new(alloc, JoinCuts)?)?;
+    passes.push(Box::new(alloc, Regroup)?)?;
+    Ok(passes)
+}
+
+/// So many rounds of one worker, who is given a job, makes its bytes and delivers them.
+pub(crate) fn rounds(alloc: Global, count: usize) -> Result<Vec<BoardEvent>, AllocError> {
+    let mut events = Vec::new(alloc);
+    for _ in 0..count {
+        events.push(BoardEvent::Give(1))?;
+        events.push(BoardEvent::Work(1))?;
+        events.push(BoardEvent::Deliver(1))?;
+    }
+    Ok(events)
+}
+
+/// A call of the product that writes.
+#[derive(Clone, Copy, Debug, PartialEq, Eq)]
+pub(crate) enum Call {
+    Consolidate,
+    /// A consolidation with a report.
+    Report,
+    Render,
+    /// Of a rendering that was stopped once its first block was marked.
+    Resume,
+    /// By so many rounds of one worker.
+    Schedule { is_rendering: bool, rounds: usize },
+}
+
+/// A rendering, and a consolidation, by two rounds more than they have jobs.
+pub(crate) const RENDERED_BY_EVENTS: Call = Call::Schedule {
+    is_rendering: true,
+    rounds: 5,
+};
+
+pub(crate) const CONSOLIDATED_BY_EVENTS: Call = Call::Schedule {
+    is_rendering: false,
+    rounds: 4,
+};
+
+impl Call {
+    fn is_rendering(self) -> bool {
+        match self {
+            Call::Consolidate | Call::Report => false,
+            Call::Render | Call::Resume => true,
+            Call::Schedule { is_rendering, .. } => is_rendering,
+        }
+    }
+}
+
+/// Files by their names.
+type Files = Vec<(&'static str, Vec<u8>)>;
+
+/// A list over `A.wav`, a call that makes something of it, the files that are there before, and those that it leaves.
+#[derive(Drop)]
+pub(crate) struct Job {
+    pub(crate) alloc: Global,
+    call: Call,
+    list: String,
+    /// How many channels are rendered, two or one, and how deep.
+    is_wide: bool,
+    jobs: JobLength,
+    depth: Depth,
+    source: Vec<u8>,
+    /// How many frames the source has.
+    frames: u64,
+    before: Files,
+    wanted: Files,
+}
+
+impl Job {
+    /// The rendering of three blocks, or the consolidation without handles of an entry with a silent middle.
+    pub(crate) fn new(alloc: Global, call: Call) -> Result<Self, Fail> {
+        if !call.is_rendering() {
+            return Job::consolidation(alloc, call);
+        }
+        // what is rendered of it is the file itself
+        let source = sound(alloc, FRAMES)?;
+        let wanted = source.to_vec(alloc)?;
+        let mut job = Job::over(alloc, call, THREE_BLOCKS, source, FRAMES)?;
+        job.wanted.push((SOUND, wanted))?;
+        Ok(job)
+    }
+
+    fn consolidation(alloc: Global, call: Call) -> Result<Self, Fail> {
+        let mut job = Job::over(alloc, call, FADED, silent_middle(alloc)?, 12)?;
+        job.wanted.push(("M00001.wav", medium(alloc, 0)?))?;
+        job.wanted.push(("M00002.wav", medium(alloc, 8)?))?;
+        job.wanted
+            .push(("consolidated.adl", CONSOLIDATED.to_vec(alloc)?))?;
+        if call == Call::Report {
+            job.wanted
+                .push(("consolidated.json", REPORT.to_vec(alloc)?))?;
+            job.wanted.push(("SHA256SUMS", SUMS.to_vec(alloc)?))?;
+        }
+        Ok(job)
+    }
+
+    /// A call over these entries and a source of so many frames, block by block at 16 bits, which leaves nothing so far.
+    fn over(
+        alloc: Global,
+        call: Call,
+        entries: &str,
+        source: Vec<u8>,
+        frames: u64,
+    ) -> Result<Self, AllocError> {
+        Ok(Job {
+            alloc,
+            call,
+            list: list(alloc, entries)?,
+            is_wide: false,
+            jobs: JobLength::OneBlock,
+            depth: Depth::Sixteen,
+            source,
+            frames,
+            before: Vec::new(alloc),
+            wanted: Vec::new(alloc),
+        })
+    }
+
+    /// The rendering of three blocks is gone on with, of which the first is marked: 12 calls make the files, and 4 write
+    /// and mark a block.
+    pub(crate) fn half_done(alloc: Global) -> Result<Self, Fail> {
+        let mut job = Job::new(alloc, Call::Resume)?;
+        let mut bench = MemoryBench::new(alloc).stop_at(16, 0);
+        let _ = job.run_by(Call::Render, &mut job.shelf(0, 0)?, &mut bench)?;
+        // it is so where memory is there
+        if marks_on(&bench) != [1, 0, 0].as_slice() {
+            Err(AllocError)?;
+        }
+        for name in [SOUND, MARKS] {
+            let bytes = bench.bytes(name).ok_or("no file")?;
+            job.before.push((name, bytes.to_vec(alloc)?))?;
+        }
+        Ok(job)
+    }
+
+    /// The rendering of 200 blocks of two channels of 24 bits, in longer jobs, the first of which has 170 blocks.
+    pub(crate) fn of_many_blocks(alloc: Global) -> Result<Self, Fail> {
+        let source = sound(alloc, MANY_FRAMES)?;
+        let mut job = Job::over(alloc, Call::Render, MANY_BLOCKS, source, MANY_FRAMES)?;
+        job.is_wide = true;
+        job.jobs = JobLength::Longer;
+        job.depth = Depth::TwentyFour;
+        job.wanted.push((SOUND, many_rendered(alloc)?))?;
+        Ok(job)
+    }
+
+    /// The sources, of whose calls so many fail behind so many.
+    pub(crate) fn shelf(&self, from: u64, count: u64) -> Result<MemoryShelf, AllocError> {
+        let shelf = MemoryShelf::new(self.alloc).with_file("A.wav", self.source.as_slice())?;
+        Ok(shelf.failing(from, count))
+    }
+
+    /// The output with the files that are there before.
+    pub(crate) fn bench(&self) -> Result<MemoryBench, Fail> {
+        let mut bench = MemoryBench::new(self.alloc);
+        for (name, bytes) in &self.before {
+            put(&mut bench, name, bytes.as_slice())?;
+        }
+        Ok(bench.after_crash(0, 0)?)
+    }
+
+    /// The sources, which keep what is read of them.
+    pub(crate) fn recorded(&self) -> Result<Recorded, Fail> {
+        let samples = self.frames.saturating_mul(2);
+        let head = (self.source.len() as u64).saturating_sub(samples);
+        Ok(Recorded::new(self.shelf(0, 0)?, head))
+    }
+
+    /// Between which bytes of samples a rendering reads that has so many of its blocks; `None` where it has all.
+    pub(crate) fn range_behind(&self, marked: u64) -> Option<(u64, u64)> {
+        let first = marked.saturating_mul(BLOCK);
+        let behind = self.frames.saturating_mul(2);
+        if first < behind {
+            Some((first, behind))
+        } else {
+            None
+        }
+    }
+
+    /// All that sounds.
+    fn options(&self) -> Options
+        ensures { HaveChannels result }
+    {
+        Options {
+            from: None,
+            to: None,
+            channels: Some(if self.is_wide { 2 } else { 1 }),
+            depth: self.depth,
+            order: Order::ByTime,
+        }
+    }
+
+    /// The same, in its jobs.
+    fn choice(&self) -> RenderChoice {
+        RenderChoice {
+            options: self.options(),
+            jobs: self.jobs,
+        }
+    }
+
+    fn render<S: Shelf>(&self, shelf: &mut S, bench: &mut MemoryBench) -> Result<(), Fault> {
+        let (list, choice) = (self.list.as_bytes(), self.choice());
+        render_watched(self.alloc, list, &choice, shelf, bench, &mut Unwatched)?;
+        Ok(())
+    }
+
+    /// Goes on with it.
+    pub(crate) fn resume<S: Shelf>(
+        &self,
+        shelf: &mut S,
+        bench: &mut MemoryBench,
+    ) -> Result<Resumed, Fault> {
+        let (list, choice) = (self.list.as_bytes(), self.choice());
+        let made = resume_watched(self.alloc, list, &choice, shelf, bench, &mut Unwatched)?;
+        Ok(made.resumed)
+    }
+
+    fn consolidate<S: Shelf>(
+        &self,
+        passes: Vec<Box<dyn Pass>>,
+        report: Option<ReportChoice<'_>>,
+        shelf: &mut S,
+        bench: &mut MemoryBench,
+    ) -> Result<(), Fault> {
+        let choice = ConsolidateChoice {
+            keeping: Keeping { handle: 0, passes },
+            report,
+        };
+        let list = self.list.as_bytes();
+        consolidate_watched(self.alloc, list, choice, shelf, bench, &mut Unwatched)?;
+        Ok(())
+    }
+
+    /// Renders by these events.
+    pub(crate) fn render_by<S: Shelf>(
+        &self,
+        events: &[BoardEvent],
+        shelf: &mut S,
+        bench: &mut MemoryBench,
+    ) -> Result<Progress, Fault> {
+        let options = self.options();
+        let list = self.list.as_bytes();
+        let work = Work::Render { list, options };
+        run_schedule(self.alloc, work, events, shelf, bench)
+    }
+
+    fn consolidate_by<S: Shelf>(
+        &self,
+        events: &[BoardEvent],
+        passes: Vec<Box<dyn Pass>>,
+        shelf: &mut S,
+        bench: &mut MemoryBench,
+    ) -> Result<Progress, Fault> {
+        let work = Work::Consolidate {
+            list: self.list.as_bytes(),
+            handle: 0,
+            passes,
+            order: Order::ByTime,
+        };
+        run_schedule(self.alloc, work, events, shelf, bench)
+    }
+
+    /// Does it.
+    pub(crate) fn run<S: Shelf>(
+        &self,
+        shelf: &mut S,
+        bench: &mut MemoryBench,
+    ) -> Result<Result<(), Fault>, AllocError> {
+        self.run_by(self.call, shelf, bench)
+    }
+
+    /// Does it by a call.
+    pub(crate) fn run_by<S: Shelf>(
+        &self,
+        call: Call,
+        shelf: &mut S,
+        bench: &mut MemoryBench,
+    ) -> Result<Result<(), Fault>, AllocError> {
+        match call {
+            Call::Render => Ok(self.render(shelf, bench)),
+            Call::Resume => Ok(self.resume(shelf, bench).map(|_| ())),
+            Call::Consolidate => {
+                let passes = standard(self.alloc)?;
+                Ok(self.consolidate(passes, None, shelf, bench))
+            }
+            Call::Report => {
+                let passes = standard(self.alloc)?;
+                Ok(self.consolidate(passes, Some(ASKED), shelf, bench))
+            }
+            Call::Schedule {
+                is_rendering: true,
+                rounds: count,
+            } => {
+                let events = rounds(self.alloc, count)?;
+                Ok(self.render_by(events.as_slice(), shelf, bench).map(|_| ()))
+            }
+            Call::Schedule { rounds: count, .. } => {
+                let events = rounds(self.alloc, count)?;
+                let passes = standard(self.alloc)?;
+                let done = self.consolidate_by(events.as_slice(), passes, shelf, bench);
+                Ok(done.map(|_| ()))
+            }
+        }
+    }
+
+    /// Whether the files are there that it has to leave.
+    pub(crate) fn is_whole(&self, bench: &MemoryBench) -> bool {
+        self.wanted.iter().all(|(name, bytes)| bench.bytes(name) == Some(bytes.as_slice()))
+    }
+
+    /// Whether each of its blocks is marked.
+    pub(crate) fn is_marked(&self, bench: &MemoryBench) -> bool {
+        let blocks = marks_on(bench);
+        blocks.len() as u64 == self.frames.div_ceil(4_096) && blocks.iter().all(|block| *block == 1)
+    }
+
+    /// Whether the files are as they were before.
+    fn are_as_before(&self, bench: &MemoryBench) -> bool {
+        OUTPUTS
+            .iter()
+            .all(|name| bench.bytes(name) == bytes_in(&self.before, name))
+    }
+
+    /// Whether nothing was done to the disk.
+    pub(crate) fn is_untouched(&self, bench: &MemoryBench) -> bool {
+        bench.calls() == 0 && self.are_as_before(bench)
+    }
+
+    /// Whether the files are as they were before, also once a crash has spoilt all that isn't on the disk yet.
+    pub(crate) fn is_unchanged(&self, bench: MemoryBench) -> Result<bool, AllocError> {
+        Ok(self.are_as_before(&bench) && self.are_as_before(&bench.after_crash(0, 7)?))
+    }
+}
+
+/// The bytes of the file of a name.
+fn bytes_in<'a>(files: &'a Files, name: &str) -> Option<&'a [u8]> {
+    let (_, bytes) = files.iter().find(|(other, _)| *other == name)?;
+    Some(bytes.as_slice())
+}
+
+/// Puts a file on the disk. Want of memory is the only error.
+fn put(bench: &mut MemoryBench, name: &str, bytes: &[u8]) -> Result<(), AllocError> {
+    if bench.create(name).is_err()
+        || bench.append(name, bytes).is_err()
+        || bench.sync(name).is_err()
+    {
+        return Err(AllocError);
+    }
+    Ok(())
+}
+
+/// The output with the files of a rendering, where they are there.
+pub(crate) fn bench_of(
+    alloc: Global,
+    sound: Option<&[u8]>,
+    marks: Option<&[u8]>,
+) -> Result<MemoryBench, Fail> {
+    let mut bench = MemoryBench::new(alloc);
+    if let Some(bytes) = sound {
+        put(&mut bench, SOUND, bytes)?;
+    }
+    if let Some(bytes) = marks {
+        put(&mut bench, MARKS, bytes)?;
+    }
+    Ok(bench)
+}
+
+/// The marks of the blocks, one a byte.
+pub(crate) fn marks_on(bench: &MemoryBench) -> &[u8] {
+    match bench.bytes(MARKS) {
+        Some(marks) => marks.get(44..).unwrap_or(&[]),
+        None => &[],
+    }
+}

@@ -1,0 +1,9 @@
+// Lists, and what is made of them.
+mod comparisons;
+mod consolidations;
+mod copies;
+mod flat_cut;
+mod media_schedules;
+mod orders;
+mod schedules;
+mod tokens;

@@ -1,7 +1,0 @@
-use Rattle.std.proofs.Common.{All}
-use Rattle.sound_terms.specs.Groups.{IsGroup, IsPiece}
-use Rattle.trials_sounds.proofs.silences.ten.Given as goal
-
--- what is there are groups of pieces
-abbrev pub invariant-loop-number : goal.invariant-loop-number
-invariant-loop-number l = All IsGroup l.groups.items × All (All IsPiece) l.groups.items

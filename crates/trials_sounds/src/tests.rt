@@ -1,0 +1,11 @@
+// Sound, from kernels to files.
+mod additions;
+mod chunks;
+mod intervals;
+mod kernels;
+mod long_files;
+mod media;
+mod pass_lists;
+mod programs;
+mod silences;
+mod table;

@@ -1,0 +1,86 @@
+// Programs of blocks, each made for its block and filled over that of another.
+ghost use Rattle.std.specs.Prelude.{◌≡◌, ◌+◌, ◌≤◌, length};
+
+use crate::tests::intervals::RAMP;
+use groups::{Group, Intervals, Piece};
+use renderplan::{Depth, Instruction, Plan, Program, Stretch};
+use sampletime::SampleTime;
+use std::alloc::Global;
+use std::test::Fail;
+
+/// A piece over the end of the first block, under an in-fade as long as itself.
+const OVER_THE_END: Piece = Piece {
+    start: 4094,
+    length: 4,
+    frame: 7,
+    ..RAMP
+};
+
+/// Its samples of the first block.
+const BEFORE_THE_END: Stretch = Stretch {
+    at: 4094,
+    length: 2,
+    frame: 7,
+    file: 0,
+    first: 1,
+    dest: 1,
+    width: 1,
+};
+
+/// The plan of this piece up to the time 4100, on one channel at 16 bits.
+fn plan(alloc: Global) -> Result<Plan, Fail> {
+    let Some(end) = SampleTime::new(4100) else {
+        return Err("no time".into());
+    };
+    let mut groups = Vec::new(alloc);
+    groups.push(Group::alone(alloc, OVER_THE_END))?;
+    let intervals = Intervals::ordered(groups)?;
+    Ok(Plan::new(alloc, intervals, SampleTime::ZERO, end, 1, Depth::Sixteen)?)
+}
+
+/// Whether these are the instructions of a block.
+fn is_program(
+    alloc: Global,
+    plan: &Plan,
+    k: u64,
+    filled: &mut Program,
+    expected: &[Instruction],
+) -> Result<bool, Fail>
+    requires { length plan.now.pieces + 2 ≤ filled.old.room }
+    ensures { filled.new.room ≡ filled.old.room }
+{
+    if k >= plan.blocks() {
+        return Err("too few blocks".into());
+    }
+    let made = plan.block(alloc, k)?;
+    plan.fill(k, filled);
+    Ok((made.as_slice() == expected) & (filled.as_slice() == expected))
+}
+
+#[test]
+fn a_piece_over_the_end_of_a_block_goes_on_in_the_next(rt: HostRuntime) -> Result<(), Fail> {
+    let plan = plan(rt.alloc())?;
+    let mut filled = Program::with_room(rt.alloc(), plan.most_instructions())?;
+    let emit = Instruction::Emit {
+        depth: Depth::Sixteen,
+    };
+    let rise = Instruction::Rise {
+        stretch: BEFORE_THE_END,
+        offset: 0,
+        den: 4,
+    };
+    let first = [Instruction::Start { frames: 4096 }, rise, emit];
+    assert!(rt; is_program(rt.alloc(), &plan, 0, &mut filled, &first)?);
+    let rest = Instruction::Rise {
+        stretch: Stretch {
+            at: 0,
+            frame: 9,
+            ..BEFORE_THE_END
+        },
+        offset: 2,
+        den: 4,
+    };
+    let second = [Instruction::Start { frames: 4 }, rest, emit];
+    assert!(rt; is_program(rt.alloc(), &plan, 1, &mut filled, &second)?);
+    Ok(())
+}

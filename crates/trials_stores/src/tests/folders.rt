@@ -1,0 +1,197 @@
+// Sources and outputs in a folder of the file system. Each test has a folder of its own, beside where it runs.
+use crate::tests::calls::{Call, Row, made, reads};
+use shelf::{Bench, FolderBench, FolderShelf, Overwrite, Reasons, Shelf, ShelfFault};
+use std::fs;
+use std::io::ErrorKind;
+use std::os::unix::fs::symlink;
+use std::test::Fail;
+
+/// An empty folder.
+fn fresh_folder(rt: &HostRuntime, folder: &str) -> Result<(), Fail> {
+    let _ = fs::remove_dir_all(rt, folder);
+    fs::create_dir(rt, folder)?;
+    Ok(())
+}
+
+/// A folder with the file `A.wav` of the bytes `abcdef`, a link to it and the folder `in`.
+fn filled_folder(rt: &HostRuntime, folder: &str) -> Result<(), Fail> {
+    fresh_folder(rt, folder)?;
+    fs::write(rt, format!(in rt.alloc(); "{folder}/A.wav")?, "abcdef")?;
+    fs::create_dir(rt, format!(in rt.alloc(); "{folder}/in")?)?;
+    symlink(rt, "A.wav", format!(in rt.alloc(); "{folder}/link.wav")?)?;
+    Ok(())
+}
+
+/// What is read of it.
+const READ: [Row; 8] = [
+    ("A.wav", 2, Ok(*b"cdef")),
+    ("A.wav", 0, Ok(*b"abcd")),
+    ("A.wav", 1, Ok(*b"bcde")),
+    ("A.wav", 3, Err(ShelfFault::Device)),
+    ("A.wav", u64::MAX, Err(ShelfFault::Device)),
+    ("B.wav", 0, Err(ShelfFault::Device)),
+    ("in", 0, Err(ShelfFault::Device)),
+    ("../folder_shelf/A.wav", 0, Err(ShelfFault::Device)),
+];
+
+/// Names of no file right inside a folder.
+const NO_NAMES: [&str; 8] = [
+    "", ".", "..", "/", "../A.wav", "in/B.wav", "A.wav/", "A.wav\0",
+];
+
+/// Whether none of these names is found.
+fn finds_none(shelf: &mut impl Shelf) -> bool {
+    let mut finds_none = true;
+    for name in &NO_NAMES {
+        finds_none = finds_none & (shelf.length(name) == Err(ShelfFault::NotFound));
+    }
+    finds_none
+}
+
+#[test]
+fn a_folder_shelf_reads_plain_files_inside_it(rt: HostRuntime) -> Result<(), Fail> {
+    filled_folder(&rt, "folder_shelf")?;
+    let mut shelf = FolderShelf::new(rt.alloc(), &rt, "folder_shelf")?;
+    reads(&rt, &mut shelf, &READ);
+    assert!(rt; finds_none(&mut shelf));
+    let lengths = [
+        shelf.length("A.wav"),
+        shelf.length("B.wav"),
+        shelf.length("in"),
+    ];
+    assert_eq!(rt;
+        lengths,
+        [Ok(6), Err(ShelfFault::NotFound), Err(ShelfFault::Device)]
+    );
+    assert_eq!(rt; shelf.failures(), 6);
+    fs::remove_dir_all(&rt, "folder_shelf")?;
+    Ok(())
+}
+
+/// Whether no call goes well with a name.
+fn all_fail(bench: &mut impl Bench, name: &str) -> bool {
+    bench.create(name).is_err()
+        & bench.append(name, &[1]).is_err()
+        & bench.append_zeros(name, 1).is_err()
+        & bench.write_at(name, 0, &[]).is_err()
+        & bench.sync(name).is_err()
+        & (bench.length(name) == Err(ShelfFault::Device))
+        & (bench.read_at(name, 0, &mut []) == Err(ShelfFault::Device))
+}
+
+/// Whether none does with any of these names, nor with a folder.
+fn writes_none(bench: &mut impl Bench) -> bool {
+    let mut writes_none = all_fail(bench, "in");
+    for name in &NO_NAMES {
+        writes_none = writes_none & all_fail(bench, name);
+    }
+    writes_none
+}
+
+/// Calls that go well in an empty folder.
+const WRITTEN: [Call; 7] = [
+    Call::Create("B.wav"),
+    Call::Append("B.wav", &[1, 2, 3]),
+    Call::Append("B.wav", &[0]),
+    Call::Zeros("B.wav", 1),
+    Call::Append("B.wav", &[4]),
+    Call::Write("B.wav", 1, &[20, 30]),
+    Call::Sync("B.wav"),
+];
+
+/// Calls on a file that isn't there, and outside one that is.
+const OUTSIDE: [Call; 5] = [
+    Call::Append("C.wav", &[]),
+    Call::Zeros("C.wav", 1),
+    Call::Sync("C.wav"),
+    Call::Write("B.wav", 5, &[7, 8]),
+    Call::Write("B.wav", u64::MAX, &[7, 8]),
+];
+
+#[test]
+fn a_folder_bench_writes_inside_its_files(rt: HostRuntime) -> Result<(), Fail> {
+    fresh_folder(&rt, "folder_bench")?;
+    let mut bench = FolderBench::new(rt.alloc(), &rt, "folder_bench", Overwrite::Never)?;
+    assert_eq!(rt; made(&mut bench, &WRITTEN), 7);
+    assert_eq!(rt; made(&mut bench, &OUTSIDE), 0);
+    assert_eq!(rt; bench.length("C.wav"), Err(ShelfFault::NotFound));
+    assert_eq!(rt; bench.failures(), 5);
+    assert!(rt; fs::read(&rt, "folder_bench/B.wav")?.as_slice() == [1, 20, 30, 0, 0, 4].as_slice());
+    fs::remove_dir_all(&rt, "folder_bench")?;
+    Ok(())
+}
+
+#[test]
+fn a_folder_bench_writes_nowhere_else(rt: HostRuntime) -> Result<(), Fail> {
+    filled_folder(&rt, "folder_names")?;
+    let mut bench = FolderBench::new(rt.alloc(), &rt, "folder_names", Overwrite::Never)?;
+    assert!(rt; writes_none(&mut bench));
+    assert_eq!(rt; bench.failures(), 9 * 7);
+    fs::remove_dir_all(&rt, "folder_names")?;
+    Ok(())
+}
+
+/// What may not be done to a file that is there, to a folder and through a link.
+const REPLACED: [Call; 4] = [
+    Call::Create("in"),
+    Call::Append("link.wav", &[1]),
+    Call::Create("link.wav"),
+    Call::Create("A.wav"),
+];
+
+/// An output that may be replaced, and yet no folder or link.
+const FOLLOWED: [Call; 3] = [
+    Call::Create("in"),
+    Call::Append("link.wav", &[1]),
+    Call::Create("link.wav"),
+];
+
+/// Whether the last failure has this reason.
+fn has_reason(bench: &impl Reasons, kind: ErrorKind) -> bool {
+    match bench.reason() {
+        Some(reason) => reason.error.kind() == kind,
+        None => false,
+    }
+}
+
+/// Whether none of these calls goes well over a file, a link to it and a folder, the last one for this reason, and the file
+/// stays as it is.
+fn stays(
+    rt: &HostRuntime,
+    overwrite: Overwrite,
+    calls: &[Call],
+    kind: ErrorKind,
+) -> Result<bool, Fail> {
+    filled_folder(rt, "folder_links")?;
+    let mut bench = FolderBench::new(rt.alloc(), rt, "folder_links", overwrite)?;
+    let is_refused = (made(&mut bench, calls) == 0) & has_reason(&bench, kind);
+    Ok(is_refused & (fs::read(rt, "folder_links/A.wav")?.as_slice() == b"abcdef".as_slice()))
+}
+
+#[test]
+fn no_file_is_replaced_and_no_link_followed(rt: HostRuntime) -> Result<(), Fail> {
+    assert!(rt; stays(&rt, Overwrite::Never, &REPLACED, ErrorKind::AlreadyExists)?);
+    assert!(rt; stays(&rt, Overwrite::Files, &FOLLOWED, ErrorKind::InvalidInput)?);
+    fs::remove_dir_all(&rt, "folder_links")?;
+    Ok(())
+}
+
+/// Three appends, of which the second may break off for want of room.
+const APPENDED: [Call; 4] = [
+    Call::Create("A.wav"),
+    Call::Append("A.wav", &[1, 2, 3, 4]),
+    Call::Append("A.wav", &[5, 6, 7, 8]),
+    Call::Append("A.wav", &[9]),
+];
+
+// The tests of the built program run this again on a disk with little room.
+#[test]
+fn appends_go_on_behind_what_is_there(rt: HostRuntime) -> Result<(), Fail> {
+    fresh_folder(&rt, "folder_appends")?;
+    let mut bench = FolderBench::new(rt.alloc(), &rt, "folder_appends", Overwrite::Never)?;
+    let count = made(&mut bench, &APPENDED);
+    let written = fs::read(&rt, "folder_appends/A.wav")?;
+    println!(rt; "{count} of 4 calls: {written:?}")?;
+    fs::remove_dir_all(&rt, "folder_appends")?;
+    Ok(())
+}
