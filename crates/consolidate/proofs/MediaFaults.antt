@@ -1,7 +1,6 @@
 -- Which fault stands for one of the execution of a consolidation.
-use Rattle.std.proofs.Common.{◌≡◌, ◌≢◌, ◌∙◌, ℕ, zero, suc, ◌+◌, ◌-◌, ◌<◌, ◌≤◌, Bool, true, false, Err, arith, refl, ap}
+use Rattle.std.proofs.Common.{◌≡◌, ◌≢◌, ◌∙◌, ℕ, zero, suc, ◌+◌, ◌-◌, ◌<◌, ◌≤◌, Bool, true, false, Err, arith, refl, ap, cond, nat_lt}
 use Rattle.std.proofs.Common as bytes
-use Rattle.std.specs.Prelude.{cond, nat_lt}
 use Rattle.std.proofs.lemmas.Bool.Decides.{nat_tests}
 use Rattle.work_terms.specs.Refusals.{IsDue}
 use Rattle.list_terms.specs.Renewed.{media_name}
@@ -13,7 +12,6 @@ use Rattle.consolidate.specs.Fault.{name_of_output, refusal_of}
 use Rattle.consolidate.specs.MediaOutcome.{consolidation_fault, last_output, output_file}
 use Rattle.consolidate.specs.Own.{IsConsolidatedFile, IsOfConsolidation, IsOfConsolidationSchedule}
 use Rattle.consolidate.specs.declared.fault.Fault.TheVariants as fault
-use Rattle.consolidate.specs.declared.fault.OutputFile.{OutputFile}
 use Rattle.consolidate.specs.declared.fault.OutputFile.TheVariants as file
 
 last_same : (reported : Bool) (position : ℕ)
@@ -65,7 +63,7 @@ pub may_come : (media : ℕ) (reported : Bool) (of : ExecutionFault)
 may_come media reported cause.Memory = tt
 may_come media reported _ = tt
 
-last_some : (reported : Bool) → 1 ≤ last_count reported
+pub last_some : (reported : Bool) → 1 ≤ last_count reported
 last_some false = omega arith
 last_some true = omega arith
 
@@ -76,11 +74,6 @@ last_before true zero other = omega arith
 last_before true (suc zero) other = omega arith
 last_before true (suc (suc position)) other = absurd (other refl)
 
-file_at : (media : ℕ) (reported : Bool) (number : ℕ) (b : Bool) → nat_lt number media ≡ b
-    → output_file media reported number ≡ cond b (file.Medium (suc number)) (last_output reported (number - media))
-file_at media reported number b is =
-    ap (λ (t : Bool). cond t (file.Medium (suc number)) (last_output reported (number - media))) is
-
 -- where it isn't the list that can't be written, the list wasn't begun
 pub before_list : (media : ℕ) (reported : Bool) (of : ExecutionFault) (i : ℕ) → i + 1 ≡ media + last_count reported
     → consolidation_fault media reported of ≢ fault.Output file.List → IsBefore (Err of) i
@@ -90,8 +83,8 @@ before_list media reported (cause.Output number) i last other = by_test (nat_lt 
       let some = last_some reported in omega (arith, below, some, last)
   by_test false is =
       let from : media ≤ number = grind (arith, nat_tests, is) in
-      let before = last_before reported (number - media)
-      (λ e. other (ap (λ (f : OutputFile). fault.Output f) (file_at media reported number false is ∙ e))) in
+      let told = rw is at other in
+      let before = last_before reported (number - media) (λ e. told (rw e)) in
       omega (arith, from, before, last)
 before_list media reported _ i last other = tt
 
@@ -109,8 +102,8 @@ before_report media (cause.Output number) no_list no_report = by_test (nat_lt nu
   by_test true is = let below : number < media = grind (arith, nat_tests, is) in omega (arith, below)
   by_test false is =
       let from : media ≤ number = grind (arith, nat_tests, is) in
-      let at = file_at media true number false is in
-      let sums = first (number - media) (λ e. no_list (ap (λ (f : OutputFile). fault.Output f) (at ∙ e)))
-      (λ e. no_report (ap (λ (f : OutputFile). fault.Output f) (at ∙ e))) in
+      let list = rw is at no_list in
+      let report = rw is at no_report in
+      let sums = first (number - media) (λ e. list (rw e)) (λ e. report (rw e)) in
       omega (arith, from, sums)
 before_report media _ no_list no_report = tt

@@ -1,307 +1,328 @@
--- What a call leaves of its stores.
-use Rattle.std.proofs.Common.{◌≡◌, ◌≢◌, ◌∙◌, ◌≤◌, ◌+◌, ◌^◌, ℕ, List, true, false, inl, inr, arith, refl, subst, sym}
-use Rattle.std.proofs.lemmas.Bool.{cases_lt}
-use Rattle.std.specs.Prelude.{⊤, Result, Ok, Err, IfErr}
+-- What a call leaves of its stores, and how an execution came out of those at its begin.
+use Rattle.std.proofs.Common.{◌≡◌, ◌∙◌, ℕ, Bool, List, Option, Result, Ok, Err, true, false, true≢false, inl, inr, arith, refl, sym}
+use Rattle.std.specs.Prelude.{⊤}
 use Rattle.devices.specs.declared.source.Shelf as source
 use Rattle.devices.specs.declared.bench.Bench as output
-use Rattle.work_terms.specs.Disk.{Files, HasRead, IsUntouched, Rises}
+use Rattle.devices.specs.Views.{OutputView, Reads, SourceView, Writes, output_view, source_view}
+use Rattle.devices.specs.ViewLaws.{writes_none, writes_then}
+use Rattle.work_terms.specs.Disk.{Files, HasCause, HasRead, IsUntouched, LeavesOnly, Rises}
 use Rattle.markfile.specs.Fault.{ReadsMarks, name_of, number_of}
 use Rattle.markfile.specs.declared.fault.MarkFault.{MarkFault}
 use Rattle.markfile.specs.declared.fault.MarkFault.TheVariants as marks
-use Rattle.consolidate.proofs.Crashes.{joined}
+use mathlib.Core.Path.{fun_ext}
+use Rattle.job_terms.specs.declared.BoardEvent.{BoardEvent}
+use Rattle.job_terms.specs.declared.Progress.{Progress}
+use Rattle.job_terms.specs.Board.{Board}
+use Rattle.job_terms.specs.Workers.{End, Hand, Nothing}
+use Rattle.execution.specs.EventRun.{Snapshot, snapshot_of}
+use Rattle.execution.specs.Marking.{NoneStartedBy}
+use Rattle.execution.specs.Outcome.{EventsDone, Finished, NotFinished, NotLaidOut, Outcome, Stopped}
+use Rattle.execution.specs.Plan.{JobPlan, Stays}
+use Rattle.execution.specs.declared.fault.ExecutionFault.{ExecutionFault}
 use Rattle.consolidate.specs.Commands.{HoldsOfOutput, IsOutput, IsSource, KeepsStores, ReadsSources}
 use Rattle.consolidate.specs.Fault.{name_of_output, refusal_of}
-use Rattle.consolidate.specs.declared.fault.OutputFile.{OutputFile}
 use Rattle.consolidate.specs.declared.fault.Fault.{Fault}
 use Rattle.consolidate.specs.declared.fault.Fault.TheVariants as fault
 
-pub late_not_early : true ≡ false → ⊥
-late_not_early e = cc
+-- ---- what a crash leaves, call after call
 
--- a failure behind calls that may have failed
-pub raised_behind : (old mid new : ℕ) → old ≤ mid → Rises mid new → Rises old new
-raised_behind old mid new before r = record {
-  later = omega (arith, before, r.later);
-  rose = λ room. elim (cases_lt (mid + 1) (2 ^ 64)) [
-    | inl lt ↦ let rose = r.rose lt in omega (arith, before, rose)
-    | inr past ↦ omega (arith, past, room, r.later)
-  ];
-}
+module _ {D : Type 0} {moment : D → ℕ} {left_since : D → ℕ → Files → Type 0} {P : Files → Type 0} where
+  -- what has P has Q
+  pub weaker : {Q : Files → Type 0} {old new : D} → ((c : Files) → P c → Q c)
+      → LeavesOnly moment left_since old new P → LeavesOnly moment left_since old new Q
+  weaker f h = record {
+    later = h.later;
+    each = λ c l. f c (h.each c l);
+    before = λ t c early l. elim (h.before t c early l) [ inl past ↦ inl past | inr p ↦ inr (f c p) ];
+  }
+
+  -- one call after another
+  pub joined : {old mid new : D} → LeavesOnly moment left_since old mid P → LeavesOnly moment left_since mid new P
+      → LeavesOnly moment left_since old new P
+  joined {old = old} one other = record {
+    later = omega arith;
+    each = λ c l. elim (other.before (moment old) c one.later l) [ inl past ↦ one.each c past | inr p ↦ p ];
+    before = λ t c early l. elim (other.before t c (omega (arith, early, one.later)) l) [
+      | inl past ↦ one.before t c early past
+      | inr p ↦ inr p
+    ];
+  }
+
+  -- no call
+  pub idle : {b : D} → ((c : Files) → left_since b (moment b) c → P c) → LeavesOnly moment left_since b b P
+  idle each = record { later = omega arith; each = each; before = λ t c early l. inl l }
+
+module _ {D : Type 0} {stored : D → Files} {may_leave : D → Files → Type 0} {moment : D → ℕ}
+    {left_since : D → ℕ → Files → Type 0} where
+  -- nothing was touched
+  pub untouched : {b : D} → ((c : Files) → left_since b (moment b) c → may_leave b c)
+      → IsUntouched stored may_leave moment left_since b b
+  untouched only_now = record { reads = refl; crash = λ c left. left; moments = idle only_now }
+
+  -- two calls that wrote nothing
+  pub untouched_twice : {old mid new : D} → IsUntouched stored may_leave moment left_since old mid
+      → IsUntouched stored may_leave moment left_since mid new → IsUntouched stored may_leave moment left_since old new
+  untouched_twice one other = record {
+    reads = other.reads ∙ one.reads;
+    crash = λ c left. one.crash c (other.crash c left);
+    moments = joined one.moments (weaker one.crash other.moments);
+  }
+
+-- ---- faults, and what is only read
 
 -- no fault of marks tells of a source
-no_source : (of : MarkFault) → IsSource (fault.Marks of) → ⊥
-no_source (marks.Device file) e = late_not_early (sym e)
-no_source _ e = late_not_early (sym e)
+no_source : (of : MarkFault) → ¬ IsSource (fault.Marks of)
+no_source (marks.Device file) e = true≢false (sym e)
+no_source _ e = true≢false (sym e)
 
 -- a device's fault of marks names its file
-at_file : (of : MarkFault) (P : List ℕ → Type 0) → number_of of ≡ 62 → P (name_of of) → HoldsOfOutput (fault.Marks
-    of) P
+at_file : (of : MarkFault) (P : List ℕ → Type 0) → number_of of ≡ 62 → P (name_of of)
+    → HoldsOfOutput (fault.Marks of) P
 at_file (marks.Device file) P e p = p
-at_file marks.OtherRun P e p = absurd (let n : 67 ≡ 62 = e in omega (arith, n))
-at_file marks.BadMarks P e p = absurd (let n : 68 ≡ 62 = e in omega (arith, n))
-at_file marks.Memory P e p = absurd (let n : 69 ≡ 62 = e in omega (arith, n))
+at_file _ P e p = absurd (omega (arith, e))
 
--- two calls that wrote nothing
-untouched_twice : {D : Type 0} (stored : D → Files) (may_leave : D → Files → Type 0) (moment : D → ℕ)
-    (left_since : D → ℕ → Files → Type 0) (old mid new : D) → IsUntouched stored may_leave moment left_since old mid
-    → IsUntouched stored may_leave moment left_since mid new → IsUntouched stored may_leave moment left_since old new
-untouched_twice stored may_leave moment left_since old mid new one other = record {
-  reads = other.reads ∙ one.reads;
-  crash = λ c left. one.crash c (other.crash c left);
-  moments = joined moment left_since old mid new (may_leave old) (may_leave mid) one.crash one.moments other.moments;
-}
+module _ {D : Type 0} {stored : D → Files} {honest : D → Bool} {failures : D → ℕ} {failed_at : D → List ℕ → Type 0}
+  where
+    -- nothing was read
+    unread : {d : D} {quiet device failed : Type 0} → ¬ device
+        → HasRead stored honest failures failed_at d d quiet device (device → failed)
+    unread none = record {
+      same = refl;
+      honest_same = refl;
+      cause = record { later = omega arith; left = λ quiet. refl; rose = λ device. absurd (none device) };
+      keeps = λ n was. was;
+      failed_there = λ device. absurd (none device);
+    }
 
--- a reading behind one that didn't fail
-pub read_behind : {S : Type 0} (shelf : source.Ghosts S) (old mid new : S)
-    {quiet device failed quiet_so device_so failed_so : Type 0}
-    → HasRead shelf.stored shelf.honest shelf.failures shelf.failed_at old mid ⊤ ⊥ ⊤
-    → HasRead shelf.stored shelf.honest shelf.failures shelf.failed_at mid new quiet device failed
-    → (quiet_so → quiet) → (device_so → device) → (failed → failed_so)
-    → HasRead shelf.stored shelf.honest shelf.failures shelf.failed_at old new quiet_so device_so failed_so
-read_behind shelf old mid new opened read quiets devices fails = let still = opened.cause.left tt in record {
-  same = read.same ∙ opened.same;
-  honest_same = read.honest_same ∙ opened.honest_same;
-  cause = record {
-    later = omega (arith, read.cause.later, still);
-    left = λ none. read.cause.left (quiets none) ∙ still;
-    rose = λ device few. omega (arith, still, read.cause.rose (devices device) (omega (arith, few, still)));
-  };
-  keeps = λ n was. read.keeps n (opened.keeps n was);
-  failed_there = fails read.failed_there;
-}
+    -- a reading behind one that didn't fail
+    pub read_behind : {old mid new : D} {quiet device failed : Type 0}
+        → HasRead stored honest failures failed_at old mid ⊤ ⊥ ⊤
+        → HasRead stored honest failures failed_at mid new quiet device failed
+        → HasRead stored honest failures failed_at old new quiet device failed
+    read_behind opened read = record {
+      same = read.same ∙ opened.same;
+      honest_same = read.honest_same ∙ opened.honest_same;
+      cause = rw (opened.cause.left tt) at read.cause;
+      keeps = λ n was. read.keeps n (opened.keeps n was);
+      failed_there = read.failed_there;
+    }
 
--- no memory was left after the first write
-abbrev pub IsLateMemory : Fault → Type 0
-IsLateMemory fault.WorkerMemory = ⊤
-IsLateMemory fault.BlockMemory = ⊤
-IsLateMemory _ = ⊥
+    -- a reading, by another fault that stands for its own
+    pub read_as : {old new : D} {quiet device failed quiet_so device_so failed_so : Type 0} → (quiet_so → quiet)
+        → (device_so → device) → (failed → failed_so)
+        → HasRead stored honest failures failed_at old new quiet device failed
+        → HasRead stored honest failures failed_at old new quiet_so device_so failed_so
+    read_as quiets devices fails read = record {
+      same = read.same;
+      honest_same = read.honest_same;
+      cause = record {
+        later = read.cause.later;
+        left = λ quiet. read.cause.left (quiets quiet);
+        rose = λ device. read.cause.rose (devices device);
+      };
+      keeps = read.keeps;
+      failed_there = fails read.failed_there;
+    }
 
-memory_late : (cause : Fault) → IsLateMemory cause → (refusal_of cause).late ≡ true
-memory_late fault.WorkerMemory is = refl
-memory_late fault.BlockMemory is = refl
-memory_late _ is = absurd is
+-- a failure of the device is counted
+rises : {before now : ℕ} {quiet device : Type 0} → HasCause before now quiet device → device → Rises before now
+rises cause device = record { later = cause.later; rose = cause.rose device }
 
-memory_no_source : (cause : Fault) → IsLateMemory cause → IsSource cause → ⊥
-memory_no_source fault.WorkerMemory is device = late_not_early (sym device)
-memory_no_source fault.BlockMemory is device = late_not_early (sym device)
-memory_no_source _ is device = absurd is
+-- an opening that didn't fail
+abbrev pub IsOpened : {S : Type 0} → source.Ghosts S → S → S → Type 0
+IsOpened shelf old new = HasRead shelf.stored shelf.honest shelf.failures shelf.failed_at old new ⊤ ⊥ ⊤
 
-memory_no_output : (cause : Fault) → IsLateMemory cause → IsOutput cause → ⊥
-memory_no_output fault.WorkerMemory is device = let e : 60 ≡ 62 = device in omega (arith, e)
-memory_no_output fault.BlockMemory is device = let e : 57 ≡ 62 = device in omega (arith, e)
-memory_no_output _ is device = absurd is
+abbrev pub AreOpened : {B : Type 0} → output.Ghosts B → B → B → Type 0
+AreOpened bench old new = HasRead bench.stored bench.honest bench.failures bench.failed_at old new ⊤ ⊥ ⊤
 
-module _ {S B : Type 0} (shelf : source.Ghosts S) (bench : output.Ghosts B) where
-  -- a bench that no call has touched
-  pub untouched : (b : B) → ((c : Files) → bench.left_since b (bench.moment b) c → bench.may_leave b c)
-      → IsUntouched bench.stored bench.may_leave bench.moment bench.left_since b b
-  untouched b only_now = record {
-    reads = refl;
-    crash = λ c left. left;
-    moments = record { later = omega arith; each = only_now; before = λ t c to left. inl left };
-  }
+-- outputs are only read, and 62 tells that their device failed
+abbrev pub ReadsOutputs : {B : Type 0} → output.Ghosts B → B → B → Fault → Type 0
+ReadsOutputs bench old new of = HasRead bench.stored bench.honest bench.failures bench.failed_at old new
+    (¬ IsOutput of) (IsOutput of) (IsOutput of → HoldsOfOutput of (bench.failed_at new))
 
-  -- a call that stops before its first write
-  pub stopped_early : {X : Type 0} (old new : S) (b : B) (fault : Fault)
-      → ((c : Files) → bench.left_since b (bench.moment b) c → bench.may_leave b c)
-      → ReadsSources {X = X} shelf old new (Err fault) → (refusal_of fault).number ≢ 62
-      → KeepsStores shelf bench {X = X} old new b b (Err fault)
-  stopped_early old new b fault only_now only_reads no_output = record {
-    early = λ early. untouched b only_now;
-    sources = only_reads.same;
-    honest_shelf = only_reads.honest_same;
-    honest_bench = refl;
-    later_at_source = only_reads.cause.later;
-    later_at_output = omega arith;
-    cause_at_source = λ device. record { later = only_reads.cause.later; rose = only_reads.cause.rose device };
-    cause_of_62 = λ device. absurd (no_output device);
-    quiet_source = λ early quiet. only_reads.cause.left quiet;
-    quiet_output = λ early quiet. refl;
-    failed_source = only_reads.failed_there;
-    failed_output = λ device. absurd (no_output device);
-  }
+abbrev pub IsUntouchedIn : {B : Type 0} → output.Ghosts B → B → B → Type 0
+IsUntouchedIn bench old new = IsUntouched bench.stored bench.may_leave bench.moment bench.left_since old new
 
-  -- a call that touched nothing, with a fault that tells of no device
-  pub not_begun : {X : Type 0} (s : S) (b : B) (fault : Fault)
-      → ((c : Files) → bench.left_since b (bench.moment b) c → bench.may_leave b c)
-      → (IsSource fault → ⊥) → (IsOutput fault → ⊥) → KeepsStores shelf bench {X = X} s s b b (Err fault)
-  not_begun s b fault only_now no_source no_output = record {
-    early = λ early. untouched b only_now;
-    sources = refl;
-    honest_shelf = refl;
-    honest_bench = refl;
-    later_at_source = omega arith;
-    later_at_output = omega arith;
-    cause_at_source = λ device. absurd (no_source device);
-    cause_of_62 = λ device. absurd (no_output device);
-    quiet_source = λ early quiet. refl;
-    quiet_output = λ early quiet. refl;
-    failed_source = λ device. absurd (no_source device);
-    failed_output = λ device. absurd (no_output device);
-  }
+-- a crash that comes now leaves what one may leave now
+abbrev pub LeavesNow : {B : Type 0} → output.Ghosts B → B → Type 0
+LeavesNow bench b = (c : Files) → bench.left_since b (bench.moment b) c → bench.may_leave b c
 
-  -- a call behind an opening that didn't fail
-  pub opened_before : {X : Type 0} (old mid new : S) (before after : B) (result : Result X Fault)
-      → HasRead shelf.stored shelf.honest shelf.failures shelf.failed_at old mid ⊤ ⊥ ⊤
-      → KeepsStores shelf bench mid new before after result → KeepsStores shelf bench old new before after result
-  opened_before old mid new before after result opened told =
-      let quiet = opened.cause.left tt in record {
-        early = told.early;
-        sources = told.sources ∙ opened.same;
-        honest_shelf = told.honest_shelf ∙ opened.honest_same;
-        honest_bench = told.honest_bench;
-        later_at_source = subst (λ (n : ℕ). n ≤ shelf.failures new) quiet told.later_at_source;
-        later_at_output = told.later_at_output;
-        cause_at_source = subst (λ (n : ℕ). IfErr result (λ fault. IsSource fault → Rises n (shelf.failures new)))
-            quiet
-            told.cause_at_source;
-        cause_of_62 = told.cause_of_62;
-        quiet_source = subst (λ (n : ℕ). IfErr result (λ fault. (refusal_of fault).late ≡ false → ¬ IsSource fault
-            → shelf.failures new ≡ n)) quiet told.quiet_source;
-        quiet_output = told.quiet_output;
-        failed_source = told.failed_source;
-        failed_output = told.failed_output;
-      }
+-- what is known of a fault that ended an execution
+abbrev pub IsEnd : {B : Type 0} → output.Ghosts B → B → B → Fault → Type 0
+IsEnd bench old new fault.WorkerMemory = ⊤
+IsEnd bench old new fault.BlockMemory = ⊤
+IsEnd bench old new (fault.GivenUp job) = ⊤
+IsEnd bench old new (fault.Output file) =
+    Rises (bench.failures old) (bench.failures new) × bench.failed_at new (name_of_output file)
+IsEnd bench old new _ = ⊥
 
-  -- a call that was never stopped
-  pub went_on : {X : Type 0} (old new : S) (before after : B) (x : X) → shelf.stored new ≡ shelf.stored old
-      → shelf.honest new ≡ shelf.honest old → bench.honest after ≡ bench.honest before
-      → shelf.failures old ≤ shelf.failures new → bench.failures before ≤ bench.failures after
-      → KeepsStores shelf bench {X = X} old new before after (Ok x)
-  went_on old new before after x same honest_shelf honest_bench later_shelf later_bench = record {
-    early = tt;
-    sources = same;
-    honest_shelf = honest_shelf;
-    honest_bench = honest_bench;
-    later_at_source = later_shelf;
-    later_at_output = later_bench;
-    cause_at_source = tt;
-    cause_of_62 = tt;
-    quiet_source = tt;
-    quiet_output = tt;
-    failed_source = tt;
-    failed_output = tt;
-  }
+-- ---- what a call leaves of both
 
-  -- a call that a fault behind the first write ended, which tells of no source
-  late_end : {X : Type 0} (old new : S) (before after : B) (of : Fault) → (refusal_of of).late ≡ true
-      → (IsSource of → ⊥) → (IsOutput of → Rises (bench.failures before) (bench.failures after))
-      → (IsOutput of → HoldsOfOutput of (bench.failed_at after)) → shelf.stored new ≡ shelf.stored old
-      → shelf.honest new ≡ shelf.honest old → bench.honest after ≡ bench.honest before
-      → shelf.failures old ≤ shelf.failures new → bench.failures before ≤ bench.failures after
+module _ {S B X : Type 0} {shelf : source.Ghosts S} {bench : output.Ghosts B} where
+  -- a call that is refused before its first write
+  pub refused_early : {old new : S} {before after : B} {of : Fault} → IsUntouchedIn bench before after
+      → ReadsSources {X = X} shelf old new (Err of) → ReadsOutputs bench before after of
       → KeepsStores shelf bench {X = X} old new before after (Err of)
-  late_end old new before after of late no_source rises failed same honest_shelf honest_bench later_shelf later_bench =
-      record {
-        early = λ early. absurd (late_not_early (sym late ∙ early));
-        sources = same;
-        honest_shelf = honest_shelf;
-        honest_bench = honest_bench;
-        later_at_source = later_shelf;
-        later_at_output = later_bench;
-        cause_at_source = λ device. absurd (no_source device);
-        cause_of_62 = rises;
-        quiet_source = λ early. absurd (late_not_early (sym late ∙ early));
-        quiet_output = λ early. absurd (late_not_early (sym late ∙ early));
-        failed_source = λ device. absurd (no_source device);
-        failed_output = failed;
-      }
+  refused_early same sources outputs = assumption (rises sources.cause, rises outputs.cause)
 
-  -- a call that gave a job up
-  pub gave_up : {X : Type 0} (old new : S) (before after : B) (job : ℕ) → shelf.stored new ≡ shelf.stored old
-      → shelf.honest new ≡ shelf.honest old → bench.honest after ≡ bench.honest before
-      → shelf.failures old ≤ shelf.failures new → bench.failures before ≤ bench.failures after
-      → KeepsStores shelf bench {X = X} old new before after (Err (fault.GivenUp job))
-  gave_up old new before after job = late_end old new before after (fault.GivenUp job) refl
-      (λ device. late_not_early (sym device)) (λ device. absurd (let e : 66 ≡ 62 = device in omega (arith, e)))
-      (λ device. absurd (let e : 66 ≡ 62 = device in omega (arith, e)))
+  -- it has only read sources
+  pub stopped_early : {old new : S} {b : B} {of : Fault} → LeavesNow bench b
+      → ReadsSources {X = X} shelf old new (Err of) → ¬ IsOutput of
+      → KeepsStores shelf bench {X = X} old new b b (Err of)
+  stopped_early only_now reads no_output = refused_early (untouched only_now) reads (unread no_output)
 
-  -- a call that found no memory for a worker, or for the bytes of a job
-  pub no_room : {X : Type 0} (old new : S) (before after : B) (cause : Fault) → IsLateMemory cause
-      → shelf.stored new ≡ shelf.stored old
-      → shelf.honest new ≡ shelf.honest old → bench.honest after ≡ bench.honest before
-      → shelf.failures old ≤ shelf.failures new → bench.failures before ≤ bench.failures after
-      → KeepsStores shelf bench {X = X} old new before after (Err cause)
-  no_room old new before after cause is = late_end old new before after cause (memory_late cause is)
-      (memory_no_source cause is) (λ device. absurd (memory_no_output cause is device))
-      (λ device. absurd (memory_no_output cause is device))
-
-  -- a call that an output's device stopped
-  pub stopped_at : {X : Type 0} (old new : S) (before after : B) (file : OutputFile)
-      → shelf.stored new ≡ shelf.stored old
-      → shelf.honest new ≡ shelf.honest old → bench.honest after ≡ bench.honest before
-      → shelf.failures old ≤ shelf.failures new → Rises (bench.failures before) (bench.failures after)
-      → bench.failed_at after (name_of_output file)
-      → KeepsStores shelf bench {X = X} old new before after (Err (fault.Output file))
-  stopped_at old new before after file same honest_shelf honest_bench later_shelf rises failed =
-      late_end old new before after (fault.Output file) refl (λ device. late_not_early (sym device)) (λ _. rises)
-      (λ _. failed) same honest_shelf honest_bench later_shelf rises.later
+  -- or touched nothing
+  pub not_begun : {s : S} {b : B} {of : Fault} → LeavesNow bench b → ¬ IsSource of → ¬ IsOutput of
+      → KeepsStores shelf bench {X = X} s s b b (Err of)
+  not_begun only_now no_source no_output = stopped_early only_now (unread no_source) no_output
 
   -- marks that aren't opened
-  pub not_opened : (X Y : Type 0) (s : S) (before after : B) (of : MarkFault)
-      → IsUntouched bench.stored bench.may_leave bench.moment bench.left_since before after
-      → ReadsMarks {X = X} bench before after (Err of)
-      → KeepsStores shelf bench {X = Y} s s before after (Err (fault.Marks of))
-  not_opened X Y s before after of same reads = record {
-    early = λ early. same;
-    sources = refl;
-    honest_shelf = refl;
-    honest_bench = reads.honest_same;
-    later_at_source = omega arith;
-    later_at_output = reads.cause.later;
-    cause_at_source = λ device. absurd (no_source of device);
-    cause_of_62 = λ device. record { later = reads.cause.later; rose = reads.cause.rose device };
-    quiet_source = λ early quiet. refl;
-    quiet_output = λ early quiet. reads.cause.left quiet;
-    failed_source = λ device. absurd (no_source of device);
-    failed_output = λ device. at_file of (bench.failed_at after) device (reads.failed_there device);
-  }
+  pub not_opened : {s : S} {before after : B} {of : MarkFault} → IsUntouchedIn bench before after
+      → ReadsMarks {X = Option ℕ} bench before after (Err of)
+      → KeepsStores shelf bench {X = X} s s before after (Err (fault.Marks of))
+  not_opened {after = after} {of = of} same reads = refused_early same (unread (no_source of))
+      (read_as (λ quiet. quiet) (λ device. device)
+      (λ failed device. at_file of (bench.failed_at after) device (failed device)) reads)
+
+  module _ {stays : List ℕ → Type 0} {old new : S} {before after : B}
+      (reads : Reads (source_view shelf old) (source_view shelf new))
+      (writes : Writes stays (output_view bench before) (output_view bench after)) where
+    -- a call that was never stopped
+    pub went_on : {x : X} → KeepsStores shelf bench {X = X} old new before after (Ok x)
+    went_on = assumption
+
+    -- a call that a fault behind the first write ended, which tells of no source
+    ended_late : {of : Fault} → (refusal_of of).late ≡ true → ¬ IsSource of
+        → (IsOutput of
+        → Rises (bench.failures before) (bench.failures after) × HoldsOfOutput of (bench.failed_at after))
+        → KeepsStores shelf bench {X = X} old new before after (Err of)
+    ended_late late no_source failed = record {
+      early = λ early. absurd (true≢false (sym late ∙ early));
+      sources = reads.same;
+      honest_shelf = reads.same_honest;
+      honest_bench = writes.same_honest;
+      later_at_source = reads.later;
+      later_at_output = writes.later;
+      cause_at_source = λ device. absurd (no_source device);
+      cause_of_62 = λ device. (failed device).0;
+      quiet_source = λ early. absurd (true≢false (sym late ∙ early));
+      quiet_output = λ early. absurd (true≢false (sym late ∙ early));
+      failed_source = λ device. absurd (no_source device);
+      failed_output = λ device. (failed device).1;
+    }
+
+    -- one that ended an execution
+    pub ended_by : (of : Fault) → IsEnd bench before after of
+        → KeepsStores shelf bench {X = X} old new before after (Err of)
+    ended_by fault.WorkerMemory is = ended_late refl (λ e. true≢false (sym e)) (λ e. absurd (omega (arith, e)))
+    ended_by fault.BlockMemory is = ended_late refl (λ e. true≢false (sym e)) (λ e. absurd (omega (arith, e)))
+    ended_by (fault.GivenUp job) is = ended_late refl (λ e. true≢false (sym e)) (λ e. absurd (omega (arith, e)))
+    ended_by (fault.Output file) is = ended_late refl (λ e. true≢false (sym e)) (λ e. is)
+    ended_by _ is = absurd is
+
+  -- a call behind an opening that didn't fail
+  pub opened_before : {old mid new : S} {before after : B} {result : Result X Fault} → IsOpened shelf old mid
+      → KeepsStores shelf bench mid new before after result → KeepsStores shelf bench old new before after result
+  opened_before opened told = let quiet = opened.cause.left tt in
+      assumption (
+        told.sources ∙ opened.same,
+        told.honest_shelf ∙ opened.honest_same,
+        rw quiet at told.later_at_source,
+        rw quiet at told.cause_at_source,
+        rw quiet at told.quiet_source,
+      )
 
   -- a call behind marks that were opened
-  pub behind_open : (X Y : Type 0) (old new : S) (before mid after : B) (result : Result X Fault) (found : Y)
-      → IsUntouched bench.stored bench.may_leave bench.moment bench.left_since before mid
-      → ReadsMarks {X = Y} bench before mid (Ok found) → KeepsStores shelf bench {X = X} old new mid after result
-      → KeepsStores shelf bench {X = X} old new before after result
-  behind_open X Y old new before mid after (Ok x) found same reads told = went_on old new before after x told.sources
-      told.honest_shelf (told.honest_bench ∙ reads.honest_same) told.later_at_source
-      (omega (arith, reads.cause.later, told.later_at_output))
-  behind_open X Y old new before mid after (Err fault) found same reads told = record {
-    early = λ early. untouched_twice bench.stored bench.may_leave bench.moment bench.left_since before mid after same
-        (told.early early);
-    sources = told.sources;
-    honest_shelf = told.honest_shelf;
-    honest_bench = told.honest_bench ∙ reads.honest_same;
-    later_at_source = told.later_at_source;
-    later_at_output = omega (arith, reads.cause.later, told.later_at_output);
-    cause_at_source = told.cause_at_source;
-    cause_of_62 = λ device. raised_behind (bench.failures before) (bench.failures mid) (bench.failures after)
-        reads.cause.later (told.cause_of_62 device);
-    quiet_source = told.quiet_source;
-    quiet_output = λ early quiet. told.quiet_output early quiet ∙ reads.cause.left tt;
-    failed_source = told.failed_source;
-    failed_output = told.failed_output;
-  }
+  pub behind_open : {old new : S} {before mid after : B} {result : Result X Fault} → IsUntouchedIn bench before mid
+      → AreOpened bench before mid → KeepsStores shelf bench old new mid after result
+      → KeepsStores shelf bench old new before after result
+  behind_open {result = Ok x} same opened told = let quiet = opened.cause.left tt in
+      assumption (told.honest_bench ∙ opened.honest_same, rw quiet at told.later_at_output)
+  behind_open {result = Err of} same opened told = let quiet = opened.cause.left tt in
+      assumption (
+        told.honest_bench ∙ opened.honest_same,
+        rw quiet at told.later_at_output,
+        rw quiet at told.cause_of_62,
+        rw quiet at told.quiet_output,
+        λ (early : (refusal_of of).late ≡ false). untouched_twice same (told.early early),
+      )
 
-  -- a refusal, or an answer, is passed on
-  pub refused_as : (X Y : Type 0) (old new : S) (before after : B) (fault : Fault)
-      → KeepsStores shelf bench {X = X} old new before after (Err fault)
-      → KeepsStores shelf bench {X = Y} old new before after (Err fault)
-  refused_as X Y old new before after fault told = record {
-    early = told.early;
-    sources = told.sources;
-    honest_shelf = told.honest_shelf;
-    honest_bench = told.honest_bench;
-    later_at_source = told.later_at_source;
-    later_at_output = told.later_at_output;
-    cause_at_source = told.cause_at_source;
-    cause_of_62 = told.cause_of_62;
-    quiet_source = told.quiet_source;
-    quiet_output = told.quiet_output;
-    failed_source = told.failed_source;
-    failed_output = told.failed_output;
-  }
+-- ---- an outcome, from the stores in the middle of a call to those at its begin
 
-  pub answered_as : (X Y : Type 0) (old new : S) (before after : B) (x : X) (y : Y)
-      → KeepsStores shelf bench {X = X} old new before after (Ok x)
-      → KeepsStores shelf bench {X = Y} old new before after (Ok y)
-  answered_as X Y old new before after x y told = went_on old new before after y told.sources told.honest_shelf
-      told.honest_bench told.later_at_source told.later_at_output
+-- what holds of a call holds of it by the names under which its work, its plan and its board are known, where no worker
+-- held anything
+pub by_names : {W : Type 0} (plan_of : W → JobPlan) (P : W → JobPlan → Board → (ℕ → Hand) → Type 0) {work known : W}
+    {plan : JobPlan} {board first : Board} {had : ℕ → Hand} → work ≡ known → plan ≡ plan_of work → board ≡ first
+    → ((w : ℕ) → had w ≡ Nothing) → P work plan board had → P known (plan_of known) first (λ _. Nothing)
+by_names plan_of P same planned is idle p = rw (← same, ← is, ← fun_ext idle, ← planned) p
+
+abbrev source_of : Files → Bool → ℕ → (List ℕ → Type 0) → SourceView
+source_of files honest failures failed_at =
+    record { files = files; honest = honest; failures = failures; failed_at = failed_at }
+
+-- nothing is said of the sources beside their files and failures, nor of the outputs beside their failures
+done_as : {Begins Starts : Files → Type 0} {events : List BoardEvent} {plan : JobPlan} {first board : Board} {f : Files}
+    {n : ℕ} {h h' : Bool} {p p' : List ℕ → Type 0} {o u : OutputView} {had : ℕ → Hand} {files : Files}
+    {shelf_failures bench_failures stale count : ℕ} {ended : Option End} → ((laid : Files) → Begins laid → Starts laid)
+    → o.failures ≡ u.failures
+    → EventsDone Begins events (snapshot_of plan first 0 (source_of f h n p) o) had board files shelf_failures
+    bench_failures stale count ended
+    → EventsDone Starts events (snapshot_of plan first 0 (source_of f h' n p') u) had board files shelf_failures
+    bench_failures stale count ended
+done_as so quiet did = record {
+  laid = did.laid;
+  begins = so did.laid did.begins;
+  few = did.few;
+  hands = did.hands;
+  run = rw quiet at did.run;
+  filled = did.filled;
+  complete = did.complete;
+  laws = rw quiet at did.laws;
+}
+
+module _ {events : List BoardEvent} {plan : JobPlan} {first : Board} {had : ℕ → Hand} {new : Snapshot}
+    {ended : Result Progress ExecutionFault} where
+  -- of sources that hold the same, and of outputs to which nothing was written since
+  outcome_as : {Begins Starts : Files → Type 0} {f : Files} {n : ℕ} {h h' : Bool} {p p' : List ℕ → Type 0}
+      {o u : OutputView} {untouched plain : Type 0} → (untouched → plain)
+      → ((laid : Files) → Begins laid → Starts laid) → o.failures ≡ u.failures
+      → ((stays : List ℕ → Type 0) → Writes stays u o)
+      → (NoneStartedBy (plan.marking f) u.may_leave → NoneStartedBy (plan.marking f) o.may_leave)
+      → Outcome Begins events (snapshot_of plan first 0 (source_of f h n p) o) had new untouched ended
+      → Outcome Starts events (snapshot_of plan first 0 (source_of f h' n p') u) had new plain ended
+  outcome_as un_so so quiet wrote none (NotLaidOut file un is same still writes laid) =
+      NotLaidOut file (un_so un) is same still (writes_then (wrote (Stays plan)) writes)
+      (λ unstarted. laid (none unstarted))
+  outcome_as un_so so quiet wrote none (Stopped stale count did stops writes runs) =
+      Stopped stale count (done_as so quiet did) stops (writes_then (wrote (Stays plan)) writes) runs
+  outcome_as un_so so quiet wrote none (NotFinished file stale count failures files did all is own rose runs) =
+      NotFinished file stale count failures files (done_as so quiet did) all is own rose runs
+  outcome_as un_so so quiet wrote none (Finished stale count files did all is own last durable runs) =
+      Finished stale count files (done_as so quiet did) all is own last durable runs
+
+  -- a wider word for what was left untouched
+  pub outcome_plain : {Begins : Files → Type 0} {f : Files} {n : ℕ} {h h' : Bool} {p p' : List ℕ → Type 0}
+      {o : OutputView} {untouched plain : Type 0} → (untouched → plain)
+      → Outcome Begins events (snapshot_of plan first 0 (source_of f h n p) o) had new untouched ended
+      → Outcome Begins events (snapshot_of plan first 0 (source_of f h' n p') o) had new plain ended
+  outcome_plain {o = o} so =
+      outcome_as so (λ laid begins. begins) refl (λ stays. writes_none stays o) (λ none. none)
+
+  -- the sources as they were opened: the same files, and as many failures
+  pub outcome_opened : {S : Type 0} (shelf : source.Ghosts S) (old mid : S) {o : OutputView} {untouched plain : Type 0}
+      (Begins : Files → Files → Type 0) → shelf.stored mid ≡ shelf.stored old
+      → shelf.failures mid ≡ shelf.failures old → (untouched → plain)
+      → Outcome (Begins (shelf.stored mid)) events (snapshot_of plan first 0 (source_view shelf mid) o) had new
+      untouched ended
+      → Outcome (Begins (shelf.stored old)) events (snapshot_of plan first 0 (source_view shelf old) o) had new plain
+      ended
+  outcome_opened shelf old mid Begins same quiet so out = outcome_plain so (rw (same, quiet) at out)
+
+  -- the outputs before marks were opened
+  pub outcome_before : {Begins Starts : Files → Type 0} {s : SourceView} {o u : OutputView} {untouched : Type 0}
+      → ((laid : Files) → Begins laid → Starts laid) → o.failures ≡ u.failures
+      → ((stays : List ℕ → Type 0) → Writes stays u o)
+      → (NoneStartedBy (plan.marking s.files) u.may_leave → NoneStartedBy (plan.marking s.files) o.may_leave)
+      → Outcome Begins events (snapshot_of plan first 0 s o) had new untouched ended
+      → Outcome Starts events (snapshot_of plan first 0 s u) had new untouched ended
+  outcome_before = outcome_as (λ un. un)

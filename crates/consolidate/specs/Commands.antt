@@ -2,7 +2,7 @@
 use Rattle.std.specs.Prelude.{◌≡◌, ◌≢◌, ◌≤◌, ◌==◌, ◌||◌, ◌*◌, ℕ, ⊤, false, true, IsTrue, Option, None, List, Result, Ok, Err, Some, IfOk, IfErr, IsOk, IsErrAnd, is_some, OnOk, ◌++◌, codes, string_bytes}
 use Rattle.devices.specs.declared.source.Shelf as source
 use Rattle.devices.specs.declared.bench.Bench as output
-use Rattle.devices.specs.Frame.{OnlyReads, OnlyWrites}
+use Rattle.devices.specs.Frame.{OnlyReads}
 use Rattle.devices.specs.Views.{output_view, source_view}
 use Rattle.job_terms.specs.Workers.{rounds}
 use Rattle.job_terms.specs.declared.BoardEvent.{BoardEvent}
@@ -72,10 +72,6 @@ IsOutput fault = (refusal_of fault).number ≡ 62
 -- this holds of the name of the output whose device failed
 abbrev pub HoldsOfOutput : Fault → (List ℕ → Type 0) → Type 0
 HoldsOfOutput fault P = opening.HoldsOfFile P (refusal_of fault).location
-
--- a call that changes no output that stays: 62 tells that their device failed, at the file that is named
-abbrev pub WritesOutputs : {B X : Type 0} → output.Ghosts B → (List ℕ → Type 0) → B → B → Result X Fault → Type 0
-WritesOutputs bench stays old new result = OnlyWrites bench stays old new result IsOutput HoldsOfOutput
 
 -- the notices of a list, and then those of its files
 abbrev pub all_notices : ListProject → Binding → List Notice

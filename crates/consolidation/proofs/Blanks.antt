@@ -1,149 +1,113 @@
--- A consolidation as a work: over sources that fit its media are laid out, and sources that are there fit.
-use Rattle.std.proofs.Common.{◌≡◌, ◌∙◌, ℕ, suc, ◌+◌, ◌-◌, ◌*◌, ◌<◌, ◌≤◌, List, length, drop, Some, sym, ap, subst, arith, get_or}
-use Rattle.std.specs.Prelude.{min, unwrap_or}
-use Rattle.std.specs.List.{slice_get}
-use Rattle.std.proofs.Math.Nat.{mul-le-mul_right}
-use Rattle.std.proofs.lemmas.List.{length-take}
+-- Media that are laid out: as long as the whole ones, the same outside of the jobs' places, and zero in these.
+use Rattle.std.proofs.Common.{◌≡◌, ◌≢◌, ℕ, suc, ◌+◌, ◌-◌, ◌*◌, ◌/◌, ◌<◌, ◌≤◌, min, List, length, Some, ap, add-one, arith, length-take, mul-le-mul_right, slice_get}
+use Rattle.std.proofs.lemmas.Grind.{elements}
 use Rattle.std.proofs.lemmas.Option.{slice_get_within}
-use Rattle.sound_terms.specs.declared.piece.Piece.{Piece}
 use Rattle.sound_terms.specs.declared.piece.Run.{Run}
-use Rattle.sound_terms.specs.Media.{frame_length, frames_in, sound_at}
-use Rattle.sound_terms.specs.Waves.{data_place}
+use Rattle.sound_terms.specs.Media.{frame_length, sound_at}
+use Rattle.sound_terms.specs.Waves.{data_place, data_size, file_of, header_of, zeros}
 use Rattle.work_terms.specs.Disk.{Files}
-use Rattle.list_terms.specs.Binding.{Binding}
-use Rattle.list_terms.specs.Project.{ListProject}
 use Rattle.list_terms.specs.MediaNames.{media_name-injective}
 use Rattle.list_terms.specs.Renewed.{media_name}
 use Rattle.job_terms.specs.Workers.{jobs_over}
 use Rattle.mediacopy.specs.declared.piece.CopyJob.{CopyJob}
 use Rattle.mediacopy.specs.Copied.{laid_out}
-use Rattle.mediacopy.specs.Pieces.{content, no_run, piece_bytes, piece_place, run_at}
+use Rattle.mediacopy.specs.Pieces.{piece_bytes, piece_place, run_at}
 use Rattle.execution.specs.Plan.{AreBlank, IsBlank, SourcesFit}
 use Rattle.consolidation.specs.Jobs.{work_of}
 use Rattle.consolidation.specs.Media.{IsLaidOut}
-use Rattle.consolidation.specs.Outputs.{FitsSources, job_plan, whole_output}
-use Rattle.consolidation.specs.Pieces.{job_count, job_of, piece_from, pieces_in}
-use Rattle.consolidation.specs.Planned.{IsMediaPlan, IsPlanned, MediaPlan}
-use Rattle.consolidation.specs.There.{AreThere}
+use Rattle.consolidation.specs.Outputs.{job_plan, whole_output}
+use Rattle.consolidation.specs.Pieces.{job_count, job_of, jobs_before, pieces_in}
+use Rattle.consolidation.specs.Planned.{IsMediaPlan, MediaPlan}
 use Rattle.consolidation.specs.Work.{run_info}
-use Rattle.consolidation.proofs.Jobwise.{found, job_is}
-use Rattle.consolidation.proofs.Numbers.{medium_whole}
-use Rattle.consolidation.proofs.Wholes.{are_apart, are_pieces_full, full_by_pieces, job_named, laid_as_whole, laid_zeros, part_at}
+use Rattle.consolidation.proofs.Jobwise.{by_piece, piece_job}
+use Rattle.consolidation.proofs.Spread.{frame_of}
+use Rattle.consolidation.proofs.Wholes.{AreFull, full_by_pieces, full_piece, job_named, medium_run, piece_inside, same_place, whole_there}
+
+-- one medium more is laid out
+pub one_more_laid : (plan : MediaPlan) → IsMediaPlan plan → (i : ℕ) (old new : Files) → i < length plan.runs
+    → ((n : List ℕ) → n ≢ media_name (i + 1) → new n ≡ old n) → ((k : ℕ) → k < i → IsLaidOut plan old k)
+    → IsLaidOut plan new i → (k : ℕ) → k < i + 1 → IsLaidOut plan new k
+one_more_laid plan is i old new inside others before now k below run there =
+    let apart = media_name-injective (k + 1) (i + 1) in
+    grind (arith, is.few, inside, apart, others (media_name (k + 1)), before k, now, below, there)
 
 module _ (plan : MediaPlan) (is : IsMediaPlan plan) (sources : Files) where
-  -- a job of the medium of a run copies a piece of it
-  record IsPiece (run : Run) (i k : ℕ) : Type 0 where
-    pub number : ℕ
-    pub below : number < pieces_in run
-    pub piece : job_of plan.runs k ≡ piece_from i run number
-
-  is_piece_of : (i : ℕ) (run : Run) (k : ℕ) → slice_get plan.runs i ≡ Some run → k < job_count plan.runs
-      → (job_of plan.runs k).run ≡ i → IsPiece run i k
-  is_piece_of i run k there below medium =
-      let job = found plan.runs k below in
-      let at : job.place ≡ i = sym (ap (λ (p : CopyJob). p.run) (job_is plan.runs k job)) ∙ medium in
-      let some : Some job.run ≡ Some run = sym job.there ∙ ap (slice_get plan.runs) at ∙ there in
-      let same : job.run ≡ run = cc in
-      record {
-        number = job.number;
-        below = subst (λ (r : Run). job.number < pieces_in r) same job.below;
-        piece = job_is plan.runs k job ∙ ap (λ (n : ℕ). piece_from n job.run job.number) at
-            ∙ ap (λ (r : Run). piece_from i r job.number) same;
-      }
-
-  -- its bytes stand in the samples
+  -- a byte among the samples of a run's medium
   abbrev IsAmong : Run → ℕ → Type 0
-  IsAmong run q = (data_place (run_info plan.sounds plan.homes run) ≤ q)
-      × (q < data_place (run_info plan.sounds plan.homes run) + run.length * frame_length (sound_at plan.sounds run.file))
+  IsAmong run q =
+      let place = data_place (run_info plan.sounds plan.homes run) in
+      (place ≤ q) × (q < place + run.length * frame_length (sound_at plan.sounds run.file))
 
+  -- the piece has it
   abbrev HasAt : CopyJob → ℕ → Type 0
   HasAt piece q = (piece_place plan.sounds plan.runs piece ≤ q)
       × (q < piece_place plan.sounds plan.runs piece + length (piece_bytes sources plan.sounds plan.runs piece))
 
-  among : (i : ℕ) (run : Run) (p q : ℕ) → slice_get plan.runs i ≡ Some run → p < pieces_in run
-      → HasAt (piece_from i run p) q → IsAmong run q
-  among i run p q there below has =
-      let facts = sound_at plan.sounds run.file in
-      let width = frame_length facts in
-      let n : ℕ = min 65536 (run.length - p * 65536) in
-      let found_run : run_at plan.runs i ≡ run = ap (λ o. unwrap_or o no_run) there in
-      let at = rw found_run at has in
-      let few : length (frames_in facts (content sources facts.name) (run.first + p * 65536) n) ≤ n * width =
-      omega (
-        arith,
-        length-take (n * width) (drop (facts.offset + (run.first + p * 65536) * width) (content sources facts.name)),
-      ) in
-      let most : (p * 65536 + n) * width ≤ run.length * width = mul-le-mul_right width (omega (arith, below)) in
-      let from = at.0 in
-      let to = at.1 in
-      (omega (arith, from), omega (arith, to, few, most))
+  -- a byte of a job's piece is one
+  among : (k : ℕ) → k < job_count plan.runs → (q : ℕ) → HasAt (job_of plan.runs k) q
+      → IsAmong (run_at plan.runs (job_of plan.runs k).run) q
+  among = by_piece plan.runs (λ k piece. (q : ℕ) → HasAt piece q → IsAmong (run_at plan.runs piece.run) q)
+      (λ i run p there below. rw there (λ q has.
+      let inside = piece_inside run p (frame_length (sound_at plan.sounds run.file)) below in
+      (omega (arith, has.0), omega (arith, has.1, length-take {A = ℕ}, inside))))
 
-  blank_output : SourcesFit (job_plan plan) sources → (written : Files) (i : ℕ) (run : Run)
-      → slice_get plan.runs i ≡ Some run
+  -- and each of them is in the piece of a job
+  has_job : AreFull plan is sources → (i : ℕ) (run : Run) (q : ℕ) → slice_get plan.runs i ≡ Some run → IsAmong run q
+      → (k : ℕ) × (k < job_count plan.runs) × (media_name (suc (job_of plan.runs k).run) ≡ media_name (suc i))
+      × HasAt (job_of plan.runs k) q
+  has_job full i run q there has =
+      let width = frame_length (sound_at plan.sounds run.file) in
+      let place = data_place (run_info plan.sounds plan.homes run) in
+      let at = frame_of width run.length (q - place) (omega (arith, has.0, has.1)) in
+      let p : ℕ = at.0 / 65536 in
+      let n : ℕ = min 65536 (run.length - p * 65536) in
+      let inside : p < pieces_in run = omega (arith, at.1) in
+      let start : p * 65536 * width ≤ at.0 * width = mul-le-mul_right width (omega arith) in
+      let end : (at.0 + 1) * width ≤ (p * 65536 + n) * width = mul-le-mul_right width (omega (arith, at.1)) in
+      let job = piece_job plan.runs i run p there inside in (
+        jobs_before plan.runs i + p,
+        job.0,
+        ap (λ (piece : CopyJob). media_name (suc piece.run)) job.1,
+        (
+          rw (job.1, there) (omega (arith, start, at.2, has.0)),
+          rw (job.1, full_piece plan is sources full i run p there inside, there) (omega (arith, end, at.3, has.0)),
+        ),
+      )
+
+  -- a medium that is laid out is blank
+  blank_output : AreFull plan is sources → (written : Files) (i : ℕ) (run : Run) → slice_get plan.runs i ≡ Some run
       → written (media_name (suc i)) ≡ Some (laid_out (run_info plan.sounds plan.homes run))
       → IsBlank (jobs_over (work_of plan) sources) (media_name (suc i)) (whole_output plan sources (media_name (suc i)))
       (written (media_name (suc i)))
-  blank_output fit written i run there laid =
-      let few = is.few in
+  unfolding file_of zeros
+  blank_output full written i run there laid =
+      let info = run_info plan.sounds plan.homes run in
+      let head_is = (medium_run plan is i run there).head in
+      let whole = full i run there in
       let within = slice_get_within plan.runs i run there in
-      let is_laid = laid_as_whole plan is sources (full_by_pieces plan is sources fit.sized) i run there in
-      let whole = medium_whole plan is sources (suc i) (omega (arith, few, within)) in
-      record {
-        bytes = laid_out (run_info plan.sounds plan.homes run);
+      rw (whole_there plan is sources i (suc i) run (omega arith) there) (record {
+        bytes = laid_out info;
         there = laid;
-        size = is_laid.size ∙ ap length (sym whole);
-        outside = λ q none. is_laid.same q (λ byte.
-            none byte.job byte.there (ap (λ (n : ℕ). media_name (suc n)) byte.medium) byte.from byte.to)
-            ∙ ap (λ (file : List ℕ). get_or file q 0) (sym whole);
+        size = grind (arith, elements, whole);
+        outside = λ q none.
+            let apart : length (header_of info) ≤ q → q < length (header_of info) + data_size info → ⊥ = λ from to.
+            let job = has_job full i run q there (omega (arith, from, head_is), omega (arith, to, head_is)) in
+            none job.0 job.1 job.2 job.3.0 job.3.1 in
+            grind (arith, elements, apart, whole);
         zero_within = λ q k below named from to.
-            let known = job_named plan is k below in
-            let numbers = media_name-injective (suc (job_of plan.runs k).run) (suc i) (omega (arith, few, known))
-            (omega (arith, few, within)) named in
-            let is_piece = is_piece_of i run k there below (omega (arith, numbers)) in
-            let at = among i run is_piece.number q there is_piece.below
-            (subst (λ (piece : CopyJob). HasAt piece q) is_piece.piece (from, to)) in
-            laid_zeros plan is sources i run there q at.0 at.1;
-      }
+            let own = same_place plan is (job_of plan.runs k).run i (job_named plan k below) within named in
+            let at : IsAmong run q = rw (own, there) at (among k below q (from, to)) in
+            grind (arith, elements, at, head_is);
+      })
 
+  -- so are all
   pub are_blank_outputs : SourcesFit (job_plan plan) sources → (written : Files)
       → ((i : ℕ) → i < length plan.runs → IsLaidOut plan written i)
       → AreBlank (jobs_over (work_of plan) sources) (whole_output plan sources) written
   are_blank_outputs fit written laid = record {
-    each = λ k below.
-        let job = found plan.runs k below in
-        let next : job.place + 1 ≡ suc job.place = omega arith in
-        subst (λ (piece : CopyJob). IsBlank (jobs_over (work_of plan) sources) (media_name (suc piece.run))
+    each = by_piece plan.runs (λ k piece. IsBlank (jobs_over (work_of plan) sources) (media_name (suc piece.run))
         (whole_output plan sources (media_name (suc piece.run))) (written (media_name (suc piece.run))))
-        (sym (job_is plan.runs k job))
-        (blank_output fit written job.place job.run job.there
-        (subst (λ (n : ℕ). written (media_name n) ≡ Some (laid_out (run_info plan.sounds plan.homes job.run))) next
-        (laid job.place (slice_get_within plan.runs job.place job.run job.there) job.run job.there)));
+        (λ i run p there below.
+        blank_output (full_by_pieces plan is sources fit.sized) written i run there
+        (rw (add-one i) at (laid i (slice_get_within plan.runs i run there) run there)));
   }
-
-  -- sources that are there hold what was planned of them
-  pub sources_fit : AreThere sources plan.sounds → SourcesFit (job_plan plan) sources
-  sources_fit there = record {
-    sized = are_pieces_full plan is sources there;
-    parts = λ k below.
-        let few = is.few in
-        let known = job_named plan is k below in
-        let whole = medium_whole plan is sources (suc (job_of plan.runs k).run) (omega (arith, few, known)) in
-        let part = part_at plan is sources there k below in
-        record {
-          inside = subst (λ (file : List ℕ). piece_place plan.sounds plan.runs (job_of plan.runs k)
-              + length (piece_bytes sources plan.sounds plan.runs (job_of plan.runs k)) ≤ length file) (sym whole)
-              part.inside;
-          part = λ i within. part.same i within ∙ ap (λ (file : List ℕ). get_or file
-              (piece_place plan.sounds plan.runs (job_of plan.runs k) + i) 0) (sym whole);
-        };
-  }
-
--- a plan that was made is for sources that are there
-pub fits_planned : (project : ListProject) (binding : Binding) (handle : ℕ) (groups : List (List Piece))
-    (plan : MediaPlan) → IsPlanned project binding handle groups plan → FitsSources plan
-fits_planned project binding handle groups plan planned sources there =
-    let is : IsMediaPlan plan = record {
-      few = planned.few;
-      media = rw (planned.sounds, planned.homes) planned.media;
-    } in
-    (sources_fit plan is sources there, are_apart plan is sources)

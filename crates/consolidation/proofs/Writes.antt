@@ -1,5 +1,5 @@
 -- What calls leave of a bench, where fewer files stay, or one call comes after another.
-use Rattle.std.proofs.Common.{◌∙◌, ℕ, ◌+◌, ◌<◌, ◌^◌, IsTrue, List, sym, ap, subst, arith}
+use Rattle.std.proofs.Common.{◌∙◌, ℕ, IsTrue, List, sym, ap, subst}
 use Rattle.work_terms.specs.Disk.{Files, HasRead, HasWritten}
 use Rattle.devices.specs.declared.bench.Bench as bench
 
@@ -8,14 +8,7 @@ module _ {B : Type 0} (g : bench.Ghosts B) where
   pub wider : (P Q : List ℕ → Type 0) → ((n : List ℕ) → Q n → P n) → {old new : B} {q d f f' : Type 0} → (f → f')
       → HasWritten g.stored g.honest g.failures g.failed_at g.may_leave P old new q d f
       → HasWritten g.stored g.honest g.failures g.failed_at g.may_leave Q old new q d f'
-  wider P Q inside failed call = record {
-    others = λ honest n stays. call.others honest n (inside n stays);
-    durable = λ honest n stays. call.durable honest n (inside n stays);
-    honest_same = call.honest_same;
-    cause = call.cause;
-    keeps = call.keeps;
-    failed_there = failed call.failed_there;
-  }
+  wider P Q inside failed call = search (inside, failed, call.others, call.durable)
 
   -- a call that only reads, and lets fewer outcomes be
   pub read_only : (Q : List ℕ → Type 0) → {old new : B} {q d f f' : Type 0} → (f → f')
@@ -40,12 +33,7 @@ module _ {B : Type 0} (g : bench.Ghosts B) where
     others = λ honest n s. two.others (subst IsTrue (sym one.honest_same) honest) n s ∙ one.others honest n s;
     durable = λ honest n s x. two.durable (subst IsTrue (sym one.honest_same) honest) n s (one.durable honest n s x);
     honest_same = two.honest_same ∙ one.honest_same;
-    cause = record {
-      later = omega (arith, one.cause.later, two.cause.later);
-      left = λ x. two.cause.left x ∙ same;
-      rose = λ x few. subst (λ (k : ℕ). k < g.failures new) same (two.cause.rose x (subst (λ (k : ℕ). k + 1 < 2 ^ 64)
-          (sym same) few));
-    };
+    cause = rw same at two.cause;
     keeps = λ n x. two.keeps n (one.keeps n x);
     failed_there = two.failed_there;
   }

@@ -1,5 +1,5 @@
 -- The jobs of a consolidation: each copies a piece of a run to its place in the run's medium.
-use Rattle.std.specs.Prelude.{◌≡◌, ℕ, suc, ◌<◌, cond, bytes_eq, List, [], ◌∷◌, Some}
+use Rattle.std.specs.Prelude.{ℕ, suc, cond, bytes_eq, List, [], ◌∷◌}
 use Rattle.sound_terms.specs.declared.piece.Home.{Home}
 use Rattle.sound_terms.specs.declared.piece.Run.{Run}
 use Rattle.sound_terms.specs.Homes.{base_by}
@@ -36,8 +36,3 @@ whole_from sounds homes sources number (run ∷ runs) name = cond (bytes_eq (med
 -- the whole medium of each name over these sources
 abbrev pub whole_of : MediaPlan → Files → List ℕ → List ℕ
 whole_of plan sources name = whole_from plan.sounds plan.homes sources 1 plan.runs name
-
--- each job's medium is the whole one
-abbrev pub HoldsMedia : MediaPlan → (sources written : Files) → Type 0
-HoldsMedia plan sources written = (k : ℕ) → k < (work_of plan).count
-    → written ((work_of plan).name k) ≡ Some (whole_of plan sources ((work_of plan).name k))

@@ -19,7 +19,7 @@ use Rattle.list_terms.specs.Binding.{Binding, OpenedFile, is_used}
 use Rattle.list_terms.specs.Accepted.{event_fault}
 use Rattle.list_terms.specs.Text.{text_value}
 use Rattle.list_terms.specs.WrittenText.{text_of_project}
-use Rattle.list_terms.specs.Heard.{IsAccepted, project_mix, reading_of, sounds_of}
+use Rattle.list_terms.specs.Heard.{IsAccepted, project_mix}
 use Rattle.list_terms.specs.Renewed.{consolidated_project, media_name, numbered, run_base, run_event, run_indexes}
 use Rattle.mediacopy.specs.Copied.{HasSamplesOf}
 use Rattle.wavwrite.specs.Info.{facts_of}
@@ -81,19 +81,3 @@ pub record SoundsTheSame (text : List ℕ) (sources written : Files) : Type 0 wh
   pub accepted_again : IsAccepted list written renewed renewed_binding
   pub same : (channel time : ℕ) → project_mix written renewed renewed_binding channel time
       ≡ project_mix sources given given_binding channel time
-
--- A list over the media of runs stands beside these media, and its groups sound as the given list.
-pub record IsRenewed (text : List ℕ) (sources written : Files) : Type 0 where
-  pub project : ListProject
-  pub binding : Binding
-  pub accepted : IsAccepted text sources project binding
-  pub homes : List Home
-  pub groups : List (List Piece)
-  pub runs : List Run
-  pub few : length runs ≤ 32767
-  pub list : written (codes "consolidated.adl")
-      ≡ Some (text_of_project (consolidated_project project homes groups runs))
-  pub linked : IsLinked project (sounds_of binding) homes groups runs
-  pub media : HasMedia sources written (sounds_of binding) homes runs
-  pub same_mix : (channel time : ℕ)
-      → mix_of (reading_of sources binding) groups channel time ≡ project_mix sources project binding channel time

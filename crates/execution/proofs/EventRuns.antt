@@ -1,331 +1,216 @@
 -- One run after another.
-use Rattle.std.proofs.Common.{◌≡◌, ◌∙◌, ℕ, ◌<◌, ◌≤◌, Bool, true, false, cond, IsTrue, Option, Some, None, Err, List, [], ◌∷◌, ◌++◌, length, length-set, take, get_or, ◌+◌, refl, sym, ap, subst, arith, eq-eqb}
+use Rattle.std.proofs.Common.{ℕ, List, [], ◌∷◌, ◌++◌, refl, ap, ◌≡◌, ◌∙◌, ◌<◌, ◌≤◌, Bool, IsTrue, Option, Some, None, Err, cond, length, take, get_or, ◌+◌, subst, arith, eq-eqb}
+use mathlib.Core.Path.{fun_ext, subst₂}
+use Rattle.job_terms.specs.declared.BoardEvent.{BoardEvent}
+use Rattle.job_terms.specs.Board.{Board, is_out, job_at, reopened}
+use Rattle.job_terms.specs.Workers.{Busy, GiveStep, Gives, Hand, Holds, Made, NoneLeft, Nothing, State, BoardStep, End, HandStep, Jobs, MarkFailed, World}
+use Rattle.execution.specs.EventRun.{event_of, ActionStep, EventRun, IsConfined, MarkFails, Performed, Snapshot, WorkerStep, jobs_of, marking_of, snapshot_of, state_at}
+use Rattle.execution.specs.Turns.{ActionTurn, FindsNone, Gets, GiveTurn, Turns}
+use Rattle.execution.specs.declared.action.Action.{Action}
+use Rattle.execution.specs.declared.action.Action.TheVariants.{Lose}
 use Rattle.std.proofs.lemmas.List.{append-nil, take_more}
 use Rattle.std.specs.Prelude.{IsErrOf}
 use Rattle.work_terms.specs.Disk.{Files}
-use Rattle.job_terms.specs.declared.BoardEvent.{BoardEvent}
-use Rattle.job_terms.specs.Workers.{BoardRun, BoardStep, End, GivenUp, Hand, HandStep, MarkFailed, State, jobs_over, with_hand}
-use Rattle.devices.specs.ViewLaws.{crashes_then, crashes_weaker, reads_none, reads_then, writes_none, writes_then}
-use Rattle.execution.specs.declared.action.Action.{Action}
-use Rattle.execution.specs.declared.action.Action.TheVariants.{Deliver, Fault, Give, Lose, Work}
-use Rattle.execution.specs.Marking.{IsRight, IsRunningBy, LeavesBy, MarksOn, done_of}
-use Rattle.execution.specs.Plan.{JobPlan, Stays}
-use Rattle.execution.specs.EventRun.{ActionStep, IsConfined, MarkFails, Performed, EventRun, Snapshot, WorkerStep, event_of, jobs_of, marking_of, snapshot_of, state_at}
+use Rattle.devices.specs.ViewLaws.{reads_none, reads_then, writes_none, writes_then}
+use Rattle.devices.specs.Views.{OutputView, Reads, SourceView}
 use Rattle.job_terms.specs.declared.BoardEvent.TheVariants as event
-use Rattle.job_terms.specs.Board.{Board, is_out, job_at, reopened}
-use Rattle.job_terms.specs.Workers.{Jobs, World}
-use Rattle.execution.specs.Ends.{NeedsPlace, NeedsRoom, StopsBefore, end_of, ended_of, events_of, fault_of}
 use Rattle.execution.specs.declared.fault.JobFault.{JobFault}
 use Rattle.execution.specs.declared.fault.JobFault.TheVariants as job_fault
 use Rattle.execution.specs.declared.fault.ExecutionFault.{ExecutionFault}
 use Rattle.execution.specs.declared.fault.ExecutionFault.TheVariants as fault
-use Rattle.execution.specs.Turns.{ActionTurn}
-use Rattle.execution.specs.Worlds.{IsWorld, Leads, state_of}
-use Rattle.devices.specs.Views.{OutputView, Reads, SourceView, Writes}
+use Rattle.execution.specs.Ends.{NeedsPlace, NeedsRoom, StopsBefore, end_of, ended_of, events_of, fault_of}
+use Rattle.execution.specs.Marking.{done_of}
+use Rattle.execution.specs.Plan.{JobPlan, Stays}
+use Rattle.execution.proofs.Changes.{alike-reclaimed, reclaim-step}
 use Rattle.execution.proofs.Firsts.{rises-after}
-use Rattle.execution.proofs.Keeps.{reclaim-done}
-use Rattle.execution.proofs.LeadLaws.{leads-append, leads-keeps, leads-none}
-use Rattle.execution.proofs.MarkSteps.{marks-quiet}
-use Rattle.execution.proofs.Marked.{leaves-wider}
-use Rattle.execution.proofs.Rights.{leads-right}
-use Rattle.execution.proofs.Runs.{TurnsHand, hand-leads, leads-one}
-use Rattle.execution.proofs.TurnLaws.{turns-one, turns-then}
+use Rattle.execution.proofs.MarkSteps.{IsUpToDate, marks-quiet, moments-then}
+use Rattle.execution.proofs.Runs.{TurnsHand, hand-step, leads-at, leads-of, leads-one, run-append, world_of}
+use Rattle.execution.proofs.Sound.{leads-keeps, leads-right}
 
--- ---- what holds of the plan and of the sources of one snapshot holds of another's
+-- ---- turns
 
-move : (P : JobPlan → Files → Type 0) (a b : Snapshot) → b.plan ≡ a.plan → b.source.files ≡ a.source.files
-    → P a.plan a.source.files → P b.plan b.source.files
-move P a b p s h = subst (λ (x : JobPlan). P x b.source.files) (sym p) (subst (λ (f : Files). P a.plan f) (sym s) h)
+-- a worker that is given a job
+pub given-turn : {s n : State} (hand : Hand) {now : Hand} → GiveStep s hand n now → GiveTurn s.board hand n.board now
+given-turn Nothing (Gives k h can is m) = Gets k can (ap (λ (x : State). x.board) is) m
+given-turn Nothing (NoneLeft h none is m) = FindsNone none (ap (λ (x : State). x.board) is) m
+given-turn Nothing (Busy busy is m) = absurd (busy refl)
+given-turn (Holds t) step = tt
+given-turn (Made t bytes) step = tt
+
+-- one turn
+pub turns-one : (action : Action) (number : ℕ) (board new : Board) (had has : ℕ → Hand)
+    → ActionTurn action board (had number) new (has number) → Turns (event_of action number ∷ []) board had new has
+turns-one Lose number board new had has turn = (new, has, tt, (refl, λ w. refl))
+turns-one _ number board new had has turn = (new, has, turn, (refl, λ w. refl))
+
+-- turns, and then others
+pub turns-then : (events more : List BoardEvent) (a b c : Board) (ha hb hc : ℕ → Hand) → Turns events a ha b hb
+    → Turns more b hb c hc → Turns (events ++ more) a ha c hc
+turns-then [] more a b c ha hb hc first rest =
+    subst₂ (λ x h. Turns more x h c hc) first.0 (fun_ext first.1) rest
+turns-then (e ∷ events) more a b c ha hb hc first rest =
+    (first.0, first.1, first.2, turns-then events more first.0 b c first.1 hb hc first.3 rest)
 
 -- ---- snapshots
 
-pub confined-none : (a : Snapshot) → IsConfined a a None
-confined-none a = record {
-  plan = refl;
-  size = refl;
-  source = reads_none a.source;
+-- a failure at the marks, from an earlier moment on
+pub mark-since : (plan : JobPlan) (a b c : OutputView) → a.failures ≤ b.failures → MarkFails plan b c
+    → MarkFails plan a c
+mark-since plan a b c later m =
+    record { has_marks = m.has_marks; rose = rises-after _ _ _ later m.rose; failed = m.failed }
+
+-- nothing was written
+confined-quiet : (a : Snapshot) (p : JobPlan) (board : Board) (stale : ℕ) (s : SourceView) (e : Option End)
+    → p ≡ a.plan → length board.jobs ≡ length a.board.jobs → Reads a.source s → (e ≡ Some MarkFailed → ⊥)
+    → IsConfined a (snapshot_of p board stale s a.output) e
+confined-quiet a p board stale s e plan size reads no_mark = record {
+  plan = plan;
+  size = size;
+  source = reads;
   output = writes_none (Stays a.plan) a.output;
-  mark = λ e. cc;
+  mark = λ is. absurd (no_mark is);
 }
 
-pub confined-then : (a b c : Snapshot) (e : Option End) → IsConfined a b None → IsConfined b c e → IsConfined a c e
-confined-then a b c e g h = record {
-  plan = h.plan ∙ g.plan;
-  size = h.size ∙ g.size;
-  source = reads_then {old = a.source} {mid = b.source} {new = c.source} g.source h.source;
-  output = writes_then {stays = (Stays a.plan)} {old = a.output} {mid = b.output} {new = c.output} g.output
-      (subst (λ (p : JobPlan). Writes (Stays p) b.output c.output) g.plan h.output);
-  mark = λ is. go (subst (λ (p : JobPlan). MarkFails p b.output c.output) g.plan (h.mark is));
-}
-  where
-    go : MarkFails a.plan b.output c.output → MarkFails a.plan a.output c.output
-    go m = record {
-      has_marks = m.has_marks;
-      rose = rises-after a.output.failures b.output.failures c.output.failures g.output.later m.rose;
-      failed = m.failed;
-    }
-
-pub run-none : (a : Snapshot) (had has : ℕ → Hand) → ((c : Files) → a.output.left_since a.output.moment c →
-    a.output.may_leave c)
-    → ((v : ℕ) → has v ≡ had v) → EventRun a had [] a has None
-run-none a had has only same = record {
-  kept = confined-none a;
+-- no event
+pub run-none : {a : Snapshot} {had has : ℕ → Hand} → IsUpToDate a.output → ((v : ℕ) → has v ≡ had v)
+    → EventRun a had [] a has None
+run-none {a = a} only same = record {
+  kept = confined-quiet a a.plan a.board a.stale a.source None refl refl (reads_none a.source) (λ e. cc);
   turned = λ none. (refl, same);
-  run = λ honest whole. leads-none a.plan.marks (jobs_of a) (state_at a None) had has same;
-  marks = λ honest whole right run. marks-quiet (marking_of a) (done_of a.board) (done_of a.board) a.output None only
-      (λ e. cc) (λ k. refl) run;
+  run = λ honest whole. leads-of (ap (world_of (state_at a None)) (fun_ext same));
+  marks = λ honest whole right run. marks-quiet only (λ e. cc) (λ k. refl) run;
 }
 
--- events, and then others
-pub run-then : (a b c : Snapshot) (ha hb hc : ℕ → Hand) (es fs : List BoardEvent)
-    (e : Option End) → EventRun a ha es b hb None
-    → EventRun b hb fs c hc e → EventRun a ha (es ++ fs) c hc e
-run-then a b c ha hb hc es fs e g h = record {
-  kept = confined-then a b c e g.kept h.kept;
+-- events, and then others: by the plan and the files of the first snapshot
+pub run-then : {a b c : Snapshot} {ha hb hc : ℕ → Hand} {es fs : List BoardEvent} {e : Option End}
+    → EventRun a ha es b hb None → EventRun b hb fs c hc e → EventRun a ha (es ++ fs) c hc e
+run-then {a = a} {b = b} {c = c} {ha = ha} {hb = hb} {hc = hc} {es = es} {fs = fs} {e = e} g h = record {
+  kept = record {
+    plan = planned.kept.plan;
+    size = planned.kept.size ∙ g.kept.size;
+    source = reads_then {mid = b.source} g.kept.source planned.kept.source;
+    output = writes_then {mid = b.output} g.kept.output planned.kept.output;
+    mark = λ is. mark-since a.plan a.output b.output c.output g.kept.output.later (planned.kept.mark is);
+  };
   turned = λ none. turns-then es fs a.board b.board c.board ha hb hc (g.turned refl) (h.turned none);
-  run = λ honest whole. leads-append a.plan.marks (jobs_of a) es fs (state_at a None) (state_at b None) (state_at c e)
-      ha hb hc refl (g.run honest whole) (second honest whole);
-  marks = λ honest whole right run. both honest whole right (g.marks honest whole right run)
-      (after honest whole right (g.marks honest whole right run));
+  run = λ honest whole. leads-of (run-append a.plan.marks (jobs_of a) es fs _ _ _ (leads-at (g.run honest whole))
+      refl (leads-at (next.run (there honest) (out whole))));
+  marks = λ honest whole right run.
+      let one = g.marks honest whole right run in
+      let held = leads-right a.plan.marks (jobs_of a) es (g.run honest whole) right in
+      let two = next.marks (there honest) (out whole) held one.now in record {
+        now = two.now;
+        moments = moments-then (marking_of a) (done_of a.board) (done_of b.board) (done_of c.board) a.output b.output
+            c.output (leads-keeps a.plan.marks (jobs_of a) es (g.run honest whole))
+            (leads-keeps a.plan.marks (jobs_of a) fs (next.run (there honest) (out whole))) one.moments two.moments;
+      };
 }
   where
     there : IsTrue a.source.honest → IsTrue b.source.honest
-    there honest = subst IsTrue (sym g.kept.source.same_honest) honest
+    there honest = rw g.kept.source.same_honest honest
 
     out : IsTrue a.output.honest → IsTrue b.output.honest
-    out whole = subst IsTrue (sym g.kept.output.same_honest) whole
+    out whole = rw g.kept.output.same_honest whole
 
-    second : IsTrue a.source.honest → IsTrue a.output.honest → Leads (λ world next. BoardRun a.plan.marks (jobs_of a)
-        world fs next) (state_at b None) hb (state_at c e) hc
-    second honest whole = move (λ p f. Leads (λ world next. BoardRun p.marks (jobs_over p.jobs f) world fs next)
-        (state_at b None) hb (state_at c e) hc) b a (sym g.kept.plan) (sym g.kept.source.same)
-        (h.run (there honest) (out whole))
+    planned : EventRun (record b { plan = a.plan }) hb fs c hc e
+    planned = subst (λ (p : JobPlan). EventRun (record b { plan = p }) hb fs c hc e) g.kept.plan h
 
-    after : IsTrue a.source.honest → IsTrue a.output.honest → ((v : ℕ) → IsRight (jobs_of a) (ha v))
-        → MarksOn (marking_of a) (done_of a.board) a.output (done_of b.board) b.output None
-        → MarksOn (marking_of a) (done_of b.board) b.output (done_of c.board) c.output e
-    after honest whole right m = move (λ p f. MarksOn (p.marking f) (done_of b.board) b.output (done_of c.board)
-        c.output e) b a (sym g.kept.plan) (sym g.kept.source.same)
-        (h.marks (there honest) (out whole)
-        (move (λ p f. (v : ℕ) → IsRight (jobs_over p.jobs f) (hb v)) a b g.kept.plan g.kept.source.same
-        (leads-right a.plan.marks (jobs_of a) es (state_at a None) (state_at b None) ha hb (g.run honest whole) right))
-        (move (λ p f. IsRunningBy (p.marking f) (done_of b.board) b.output.may_leave) a b g.kept.plan
-        g.kept.source.same m.now))
-
-    both : IsTrue a.source.honest → IsTrue a.output.honest → ((v : ℕ) → IsRight (jobs_of a) (ha v))
-        → MarksOn (marking_of a) (done_of a.board) a.output (done_of b.board) b.output None
-        → MarksOn (marking_of a) (done_of b.board) b.output (done_of c.board) c.output e
-        → MarksOn (marking_of a) (done_of a.board) a.output (done_of c.board) c.output e
-    both honest whole right one two = record {
-      now = two.now;
-      moments = crashes_then {P = (LeavesBy (marking_of a) (done_of a.board)
-          (done_of c.board))} {old = a.output} {mid = b.output} {new = c.output}
-          (crashes_weaker (LeavesBy (marking_of a) (done_of a.board) (done_of b.board)) (LeavesBy (marking_of a)
-          (done_of a.board) (done_of c.board)) {old = a.output} {new = b.output}
-          (λ f. leaves-wider (marking_of a) (done_of a.board) (done_of b.board) (done_of a.board) (done_of c.board) f
-          (λ k on. on) (leads-keeps a.plan.marks (jobs_of a) fs (state_at b None) (state_at c e) hb hc
-          (second honest whole))) one.moments)
-          (crashes_weaker (LeavesBy (marking_of a) (done_of b.board) (done_of c.board)) (LeavesBy (marking_of a)
-          (done_of a.board) (done_of c.board)) {old = b.output} {new = c.output}
-          (λ f. leaves-wider (marking_of a) (done_of b.board) (done_of c.board) (done_of a.board) (done_of c.board) f
-          (leads-keeps a.plan.marks (jobs_of a) es (state_at a None) (state_at b None) ha hb (g.run honest whole))
-          (λ k on. on)) two.moments);
-    }
+    next : EventRun (record b { plan = a.plan; source = record b.source { files = a.source.files } }) hb fs c hc e
+    next = subst (λ (f : Files). EventRun (record b { plan = a.plan; source = record b.source { files = f } }) hb fs c
+        hc e) g.kept.source.same planned
 
 -- ---- one worker's step is one event
 
-acts : (marks : Bool) (sources : Files) (p : JobPlan) (action : Action) (number : ℕ) (s t : State) (had has : ℕ → Hand)
-    → Leads (λ world next. HandStep (ActionStep marks (jobs_over p.jobs sources) action) world number next) s had t has
-    → Leads (λ world next. BoardStep marks (jobs_over p.jobs sources) world (event_of action number) next) s had t has
-acts marks sources p Give number s t had has h = h
-acts marks sources p Work number s t had has h = h
-acts marks sources p Deliver number s t had has h = h
-acts marks sources p Fault number s t had has h = h
-acts marks sources p Lose number s t had has h = h
+-- an action is the event of its name
+acts : (action : Action) (marks : Bool) (jobs : Jobs) (number : ℕ) (old new : World)
+    → HandStep (ActionStep marks jobs action) old number new → BoardStep marks jobs old (event_of action number) new
+acts Lose marks jobs number old new step = step
+acts _ marks jobs number old new step = step
 
-pub run-step : (a b : Snapshot) (action : Action) (number : ℕ) (had has : ℕ → Hand) (hand now : Hand) (e : Option End)
+-- whose events are a run of one
+pub run-step : {a b : Snapshot} {had has : ℕ → Hand} {hand now : Hand} {e : Option End} (action : Action) (number : ℕ)
     → TurnsHand had number hand now has
-    → WorkerStep (ActionStep a.plan.marks (jobs_of a) action) (ActionTurn action) a hand b now e → EventRun a had
-    (event_of action number ∷ []) b has e
-run-step a b action number had has hand now e turned h = record {
+    → WorkerStep (ActionStep a.plan.marks (jobs_of a) action) (ActionTurn action) a hand b now e
+    → EventRun a had (event_of action number ∷ []) b has e
+run-step {a = a} {b = b} {had = had} {has = has} {e = e} action number turned h = record {
   kept = h.kept;
-  turned = λ none. turns-one action number a.board b.board had has (subst (λ (x : Hand). ActionTurn action a.board x
-      b.board (has number)) turned.was (subst (λ (x : Hand). ActionTurn action a.board hand b.board x) (sym (turned.after number ∙ here number))
-      (h.turned none)));
-  run = λ honest whole. leads-one a.plan.marks (jobs_of a) (event_of action number) (state_at a None) (state_at b e)
-      had has refl
-      (acts a.plan.marks a.source.files a.plan action number (state_at a None) (state_at b e) had has
-      (hand-leads (ActionStep a.plan.marks (jobs_of a) action) number (state_at a None) had (state_at b e) hand now has
-      turned (h.taken honest whole)));
-  marks = λ honest whole right run. h.marks honest whole (subst (IsRight (jobs_of a)) (sym turned.was) (right number)) run;
+  turned = λ none. turns-one action number a.board b.board had has
+      (rw (← turned.was, turned.after number, eq-eqb number number refl) (h.turned none));
+  run = λ honest whole. leads-one a.plan.marks (jobs_of a) (event_of action number) refl (acts action _ _ number _ _
+      (hand-step (ActionStep a.plan.marks (jobs_of a) action) (state_at a None) (state_at b e) turned
+      (h.taken honest whole)));
+  marks = λ honest whole right run. h.marks honest whole (rw turned.was (right number)) run;
 }
-  where
-    here : (w : ℕ) → with_hand had w now w ≡ now
-    here w = ap (λ (b : Bool). cond b now (had w)) (eq-eqb w w refl)
 
 -- a step that writes nothing
-pub step-quiet : (by : State → Hand → State → Hand → Type 0) (turn : Board → Hand → Board → Hand → Type 0)
-    (p p' : JobPlan) (board board' : Board) (stale stale' : ℕ)
-    (s s' : SourceView) (o : OutputView) (hand now : Hand) (e : Option End) → p' ≡ p → length board'.jobs ≡ length
-    board.jobs
-    → Reads s s' → ((c : Files) → o.left_since o.moment c → o.may_leave c) → (e ≡ Some MarkFailed → ⊥)
-    → (IsTrue s.honest → by (state_at (snapshot_of p board stale s o) None) hand (state_at
-    (snapshot_of p' board' stale' s' o) e)
-    now)
-    → (by (state_at (snapshot_of p board stale s o) None) hand (state_at (snapshot_of p' board' stale' s' o) e) now
-    → (k : ℕ) → done_of board' k ≡ done_of board k)
-    → (e ≡ None → turn board hand board' now)
-    → WorkerStep by turn (snapshot_of p board stale s o) hand (snapshot_of p' board' stale' s' o) now e
-step-quiet by turn p p' board board' stale stale' s s' o hand now e plan size reads only no_mark step done turned = record {
-  turned = turned;
-  kept = record {
-    plan = plan;
-    size = size;
-    source = reads;
-    output = writes_none (Stays p) o;
-    mark = λ is. absurd (no_mark is);
-  };
-  taken = λ honest whole. step honest;
-  marks = λ honest whole right run. marks-quiet (p.marking s.files) (done_of board) (done_of board') o e only no_mark
-      (λ k. sym (done (step honest) k)) run;
-}
+pub step-quiet : {by : State → Hand → State → Hand → Type 0} {turn : Board → Hand → Board → Hand → Type 0}
+    {a : Snapshot} {p : JobPlan} {board : Board} {stale : ℕ} {s : SourceView} {hand now : Hand} {e : Option End}
+    → p ≡ a.plan → length board.jobs ≡ length a.board.jobs → Reads a.source s → IsUpToDate a.output
+    → (e ≡ Some MarkFailed → ⊥)
+    → (IsTrue a.source.honest → by (state_at a None) hand (state_at (snapshot_of p board stale s a.output) e) now)
+    → (by (state_at a None) hand (state_at (snapshot_of p board stale s a.output) e) now
+    → (k : ℕ) → done_of board k ≡ done_of a.board k)
+    → (e ≡ None → turn a.board hand board now)
+    → WorkerStep by turn a hand (snapshot_of p board stale s a.output) now e
+step-quiet {a = a} {p = p} {board = board} {stale = stale} {s = s} {e = e} plan size reads only no_mark step done turned
+    = record {
+      turned = turned;
+      kept = confined-quiet a p board stale s e plan size reads no_mark;
+      taken = λ honest whole. step honest;
+      marks = λ honest whole right run. marks-quiet only no_mark (done (step honest)) run;
+    }
 
 -- how a step of one worker ends is how the run of events does
-pub run-outcome : (a b : Snapshot) (had has : ℕ → Hand) (event : BoardEvent) (job : JobFault)
-    (reported : ExecutionFault)
-    → reported ≡ fault_of job → EventRun a had (event ∷ []) b has (ended_of {X = Unit {0}} (Err job))
-    → EventRun a had (events_of {X = Unit {0}} (Err reported) event) b has (end_of {X = Unit {0}} (Err reported))
-run-outcome a b had has event job reported is h =
-    subst (λ (f : ExecutionFault). EventRun a had (events_of {X = Unit {0}} (Err f) event) b has
-    (end_of {X = Unit {0}} (Err f))) (sym is) (go job h)
-  where
-    go : (f : JobFault) → EventRun a had (event ∷ []) b has (ended_of {X = Unit {0}} (Err f))
-        → EventRun a had (events_of {X = Unit {0}} (Err (fault_of f)) event) b has
-        (end_of {X = Unit {0}} (Err (fault_of f)))
-    go (job_fault.GivenUp k) r = r
-    go job_fault.Mark r = r
+pub run-outcome : (f : JobFault) {a b : Snapshot} {had has : ℕ → Hand} {event : BoardEvent}
+    → EventRun a had (event ∷ []) b has (ended_of {X = Unit {0}} (Err f))
+    → EventRun a had (events_of {X = Unit {0}} (Err (fault_of f)) event) b has
+    (end_of {X = Unit {0}} (Err (fault_of f)))
+run-outcome (job_fault.GivenUp k) r = r
+run-outcome job_fault.Mark r = r
 
 -- a job is open again
-reclaimed : (p : JobPlan) (board board' : Board) (stale : ℕ) (s : SourceView) (o : OutputView) (had : ℕ → Hand) (k : ℕ)
-    → ((c : Files) → o.left_since o.moment c → o.may_leave c)
-    → board' ≡ cond (is_out (job_at board k).standing) (reopened board k) board
-    → length board'.jobs ≡ length board.jobs
-    → EventRun (snapshot_of p board stale s o) had (event.Reclaim k ∷ []) (snapshot_of p board' stale s o) had None
-reclaimed p board board' stale s o had k only is size = record {
-  turned = λ none. (board', had, tt, (refl, λ w. refl));
-  kept = record {
-    plan = refl;
-    size = size;
-    source = reads_none s;
-    output = writes_none (Stays p) o;
-    mark = λ e. cc;
-  };
-  run = λ honest whole. leads-one p.marks (jobs_over p.jobs s.files) (event.Reclaim k) old new had had refl (record {
-    leads = λ world at. (
-      record { state = new; hands = world.hands },
-      (ap (λ b. state_of b o.files stale s.failures o.failures None) is ∙ step world at, refl),
-      record { state_is = refl; hands_are = at.hands_are },
-    );
-  });
-  marks = λ honest whole right run. marks-quiet (p.marking s.files) (done_of board) (done_of board') o None only
-      (λ e. cc) (λ j. sym (reclaim-done old k new (ap (λ b. state_of b o.files stale s.failures o.failures None) is ∙
-      same (is_out (job_at board k).standing)) j)) run;
-}
-  where
-    old : State
-    old = state_at (snapshot_of p board stale s o) None
+pub run-reclaim : {a : Snapshot} {board : Board} {had : ℕ → Hand} (k : ℕ) → IsUpToDate a.output
+    → board ≡ cond (is_out (job_at a.board k).standing) (reopened a.board k) a.board
+    → EventRun a had (event.Reclaim k ∷ []) (record a { board = board }) had None
+run-reclaim {a = a} {board = board} {had = had} k only is =
+    let step = reclaim-step (state_at a None) k board is in
+    let alike = alike-reclaimed (state_at a None) k (state_at (record a { board = board }) None) step in record {
+      turned = λ none. (board, had, tt, (refl, λ w. refl));
+      kept = confined-quiet a a.plan board a.stale a.source None refl alike.size (reads_none a.source) (λ e. cc);
+      run = λ honest whole. leads-one a.plan.marks (jobs_of a) (event.Reclaim k) refl (step, refl);
+      marks = λ honest whole right run. marks-quiet only (λ e. cc) alike.done run;
+    }
 
-    new : State
-    new = state_at (snapshot_of p board' stale s o) None
+-- ---- a list of events, of which this one comes next
 
-    same : (b : Bool) → state_of (cond b (reopened board k) board) o.files stale s.failures o.failures None
-        ≡ cond b (record old { board = reopened board k }) old
-    same true = refl
-    same false = refl
+module _ (events : List BoardEvent) (i : ℕ) (this : BoardEvent) (lt : i < length events)
+    (is : this ≡ get_or events i (event.Lose 0)) {a b : Snapshot} {ha hb : ℕ → Hand}
+    (ran : EventRun a ha (take i events) b hb None) where
+  -- it is done
+  pub run-next : {c : Snapshot} {hc : ℕ → Hand} {e : Option End} → EventRun b hb (this ∷ []) c hc e
+      → EventRun a ha (take (i + 1) events) c hc e
+  run-next next = rw (take_more events i (event.Lose 0) lt, ← is) (run-then ran next)
 
-    step : (world : World) → IsWorld world old had → state_of (cond (is_out (job_at board k).standing)
-        (reopened board k)
-        board) o.files stale s.failures o.failures None
-        ≡ cond (is_out (job_at world.state.board k).standing) (record world.state {
-          board = reopened world.state.board
-              k;
-        }) world.state
-    step world at = subst (λ (x : State). state_of (cond (is_out (job_at board k).standing) (reopened board k) board)
-        o.files stale s.failures o.failures None ≡ cond (is_out (job_at x.board k).standing)
-        (record x { board = reopened x.board k }) x) (sym at.state_is) (same (is_out (job_at board k).standing))
+  -- where this fault ended the events, so many of them were done
+  ended-by : {in_rounds : Bool} (stale : ℕ) (f : ExecutionFault) {c : ℕ → Snapshot} {hc : ℕ → Hand} (count : ℕ)
+      → count ≤ length events → EventRun a ha (take count events) (c stale) hc (end_of {X = Unit {0}} (Err f))
+      → StopsBefore events count f → Performed in_rounds events a ha c hc (Err f)
+  ended-by stale f count few ended stops =
+      record { count = count; few = few; stale = stale; ran = ended; stops = stops }
 
-pub run-reclaim : (p : JobPlan) (board board' : Board) (stale : ℕ) (s : SourceView) (o : OutputView) (had : ℕ → Hand)
-    (k : ℕ)
-    (is_event : BoardEvent) → is_event ≡ event.Reclaim k → ((c : Files) → o.left_since o.moment c → o.may_leave c)
-    → board' ≡ cond (is_out (job_at board k).standing) (reopened board k) board
-    → EventRun (snapshot_of p board stale s o) had (is_event ∷ []) (snapshot_of p board' stale s o) had None
-run-reclaim p board board' stale s o had k is_event same only is =
-    subst (λ (e : BoardEvent). EventRun (snapshot_of p board stale s o) had (e ∷ [])
-    (snapshot_of p board' stale s o) had None)
-    (sym same) (reclaimed p board board' stale s o had k only is
-    (ap (λ (b : Board). length b.jobs) is ∙ size (is_out (job_at board k).standing)))
-  where
-    size : (b : Bool) → length (cond b (reopened board k) board).jobs ≡ length board.jobs
-    size true = length-set board.jobs k _
-    size false = refl
-
--- what a worker did, by the name of it
-pub step-as : (action kind : Action) (marks : Bool) (jobs : Jobs) (a b : Snapshot) (hand now : Hand) (e : Option End)
-    → action ≡ kind → WorkerStep (ActionStep marks jobs kind) (ActionTurn kind) a hand b now e
-    → WorkerStep (ActionStep marks jobs action) (ActionTurn action) a hand b now e
-step-as action kind marks jobs a b hand now e is h =
-    subst (λ (x : Action). WorkerStep (ActionStep marks jobs x) (ActionTurn x) a hand b now e) (sym is) h
-
--- ---- a list of events
-
--- one event more, or none where no memory was left
-pub run-next : (a b c : Snapshot) (ha hb hc : ℕ → Hand) (events : List BoardEvent) (i : ℕ) (event d : BoardEvent)
-    → i < length events → event ≡ get_or events i d → EventRun a ha (take i events) b hb None
-    → EventRun b hb (event ∷ []) c hc None → EventRun a ha (take (i + 1) events) c hc None
-run-next a b c ha hb hc events i event d lt is g h =
-    subst (λ (es : List BoardEvent). EventRun a ha es c hc None) (sym (take_more events i d lt))
-    (subst (λ (e : BoardEvent). EventRun a ha (take i events ++ e ∷ []) c hc None) is
-    (run-then a b c ha hb hc (take i events) (event ∷ []) None g h))
-
--- the event that ended it, or none where no memory was left
-pub performed-ended : (in_rounds : Bool) (events : List BoardEvent) (i stale : ℕ) (this : BoardEvent)
-    (f : ExecutionFault) (a b : Snapshot) (c : ℕ → Snapshot) (ha hb hc : ℕ → Hand) → i < length events
-    → this ≡ get_or events i (event.Lose 0)
-    → EventRun a ha (take i events) b hb None
-    → EventRun b hb (events_of {X = Unit {0}} (Err f) this) (c stale) hc (end_of {X = Unit {0}} (Err f))
-    → (IsErrOf {T = Unit {0}} (Err f) fault.Memory → NeedsPlace this)
-    → (IsErrOf {T = Unit {0}} (Err f) fault.JobMemory → NeedsRoom this)
-    → ((file : ℕ) → IsErrOf {T = Unit {0}} (Err f) (fault.Output file) → ⊥)
-    → Performed in_rounds events a ha c hc (Err f)
-performed-ended in_rounds events i stale this f a b c ha hb hc lt is g h place room none = go f h place room none
-  where
-    last : (e : Option End) → EventRun b hb (this ∷ []) (c stale) hc e → EventRun a ha (take (i + 1) events)
-        (c stale) hc e
-    last e r = subst (λ (es : List BoardEvent). EventRun a ha es (c stale) hc e)
-        (sym (take_more events i (event.Lose 0) lt))
-        (subst (λ (x : BoardEvent). EventRun a ha (take i events ++ x ∷ []) (c stale) hc e) is
-        (run-then a b (c stale) ha hb hc (take i events) (this ∷ []) e g r))
-
-    before : EventRun b hb [] (c stale) hc None → EventRun a ha (take i events) (c stale) hc None
-    before r = subst (λ (es : List BoardEvent). EventRun a ha es (c stale) hc None) (append-nil (take i events))
-        (run-then a b (c stale) ha hb hc (take i events) [] None g r)
-
-    ends : (x : ExecutionFault) (count : ℕ) → count ≤ length events
-        → EventRun a ha (take count events) (c stale) hc (end_of {X = Unit {0}} (Err x)) → StopsBefore events count x
-        → Performed in_rounds events a ha c hc (Err x)
-    ends x count few ran stops = record { count = count; few = few; stale = stale; ran = ran; stops = stops }
-
-    go : (f : ExecutionFault)
-        → EventRun b hb (events_of {X = Unit {0}} (Err f) this) (c stale) hc (end_of {X = Unit {0}} (Err f))
-        → (IsErrOf {T = Unit {0}} (Err f) fault.Memory → NeedsPlace this)
-        → (IsErrOf {T = Unit {0}} (Err f) fault.JobMemory → NeedsRoom this)
-        → ((file : ℕ) → IsErrOf {T = Unit {0}} (Err f) (fault.Output file) → ⊥)
-        → Performed in_rounds events a ha c hc (Err f)
-    go fault.Memory r place room none =
-        ends fault.Memory i (omega (arith, lt)) (before r) (lt, subst NeedsPlace is (place refl))
-    go fault.JobMemory r place room none =
-        ends fault.JobMemory i (omega (arith, lt)) (before r) (lt, subst NeedsRoom is (room refl))
-    go (fault.GivenUp job) r place room none =
-        ends (fault.GivenUp job) (i + 1) (omega (arith, lt)) (last (Some (GivenUp job)) r) tt
-    go fault.Mark r place room none = ends fault.Mark (i + 1) (omega (arith, lt)) (last (Some MarkFailed) r) tt
-    go (fault.Output file) r place room none = absurd (none file refl)
+  -- it ended the run, or wasn't done since no memory was left
+  pub performed-ended : {in_rounds : Bool} (stale : ℕ) (f : ExecutionFault) {c : ℕ → Snapshot} {hc : ℕ → Hand}
+      → EventRun b hb (events_of {X = Unit {0}} (Err f) this) (c stale) hc (end_of {X = Unit {0}} (Err f))
+      → (IsErrOf {T = Unit {0}} (Err f) fault.Memory → NeedsPlace this)
+      → (IsErrOf {T = Unit {0}} (Err f) fault.JobMemory → NeedsRoom this)
+      → ((file : ℕ) → IsErrOf {T = Unit {0}} (Err f) (fault.Output file) → ⊥)
+      → Performed in_rounds events a ha c hc (Err f)
+  performed-ended stale fault.Memory r place room none = ended-by stale fault.Memory i (omega (arith, lt))
+      (rw append-nil at (run-then ran r)) (lt, rw is at (place refl))
+  performed-ended stale fault.JobMemory r place room none = ended-by stale fault.JobMemory i (omega (arith, lt))
+      (rw append-nil at (run-then ran r)) (lt, rw is at (room refl))
+  performed-ended stale (fault.GivenUp job) r place room none =
+      ended-by stale (fault.GivenUp job) (i + 1) (omega (arith, lt)) (run-next r) tt
+  performed-ended stale fault.Mark r place room none =
+      ended-by stale fault.Mark (i + 1) (omega (arith, lt)) (run-next r) tt
+  performed-ended stale (fault.Output file) r place room none = absurd (none file refl)

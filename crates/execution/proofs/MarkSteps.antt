@@ -1,56 +1,61 @@
--- The marks of one step.
-use Rattle.std.proofs.Common.{◌≡◌, ◌∙◌, ℕ, Bool, Option, Some, None, Ok, Err, sym, subst}
+-- Marks: the moments of one step, and of one after another.
+use Rattle.std.proofs.Common.{◌≡◌, ℕ, Bool, true, Option, Some, None, Result, refl, subst}
+use mathlib.Core.Path.{fun_ext}
 use Rattle.work_terms.specs.Disk.{Files}
-use Rattle.job_terms.specs.Workers.{End, MarkFailed}
-use Rattle.devices.specs.ViewLaws.{crashes_none, crashes_weaker}
+use Rattle.job_terms.specs.Workers.{End, GivenUp, MarkFailed}
+use Rattle.devices.specs.ViewLaws.{crashes_none, crashes_then, crashes_weaker}
+use Rattle.devices.specs.Views.{CrashesLeave, OutputView}
 use Rattle.execution.specs.MarkingLaws.{running_leaves}
 use Rattle.execution.specs.declared.fault.PlaceFault.{PlaceFault}
-use Rattle.execution.specs.declared.fault.PlaceFault.TheVariants as place
-use Rattle.execution.specs.Marking.{IsRunningBy, LeavesBy, Marking, Marks, MarksOn, with_done}
-use Rattle.devices.specs.Views.{OutputView}
-use Rattle.execution.proofs.Marked.{leaves-wider, running-as, runs-as, runs-ended}
+use Rattle.execution.specs.Marking.{IsRunningBy, LeavesBy, Marking, Marks, MarksOn, RunsOn, done_by}
+
+-- between moments that are further apart
+pub leaves-wider : (m : Option Marking) (before after earlier later : ℕ → Bool) (c : Files)
+    → ((k : ℕ) → earlier k ≡ true → before k ≡ true) → ((k : ℕ) → after k ≡ true → later k ≡ true)
+    → LeavesBy m before after c → LeavesBy m earlier later c
+leaves-wider None before after earlier later c e l r = tt
+leaves-wider (Some m) before after earlier later c e l r = record {
+  marks = r.marks;
+  there = r.there;
+  ours = r.ours;
+  still = λ job b lt from to on. r.still job b lt from to (e job on);
+  only = λ job b lt from to on. l job (r.only job b lt from to on);
+  wave = r.wave;
+}
+
+-- one stretch of moments after another, along which what is done stays done
+pub moments-then : (m : Option Marking) (first mid last : ℕ → Bool) (a b c : OutputView)
+    → ((k : ℕ) → first k ≡ true → mid k ≡ true) → ((k : ℕ) → mid k ≡ true → last k ≡ true)
+    → CrashesLeave (LeavesBy m first mid) a b → CrashesLeave (LeavesBy m mid last) b c
+    → CrashesLeave (LeavesBy m first last) a c
+moments-then m first mid last a b c on after one two = crashes_then {mid = b}
+    (crashes_weaker _ _ (λ f. leaves-wider m first mid first last f (λ k h. h) after) one)
+    (crashes_weaker _ _ (λ f. leaves-wider m mid last first last f on (λ k h. h)) two)
+
+-- an end that is no failed mark
+pub runs-ended : (ended : Option End) (m : Option Marking) (done : ℕ → Bool) (o : Files → Type 0)
+    → (ended ≡ Some MarkFailed → ⊥) → IsRunningBy m done o → RunsOn m done o ended
+runs-ended None m done o no_mark h = h
+runs-ended (Some (GivenUp job)) m done o no_mark h = h
+runs-ended (Some MarkFailed) m done o no_mark h = absurd (no_mark refl)
+
+-- a crash leaves nothing now that it may not leave
+abbrev pub IsUpToDate : OutputView → Type 0
+IsUpToDate o = (c : Files) → o.left_since o.moment c → o.may_leave c
 
 -- nothing was written, and as much is done
-pub marks-quiet : (m : Option Marking) (done now : ℕ → Bool) (o : OutputView) (ended : Option End)
-    → ((c : Files) → o.left_since o.moment c → o.may_leave c) → (ended ≡ Some MarkFailed → ⊥)
-    → ((k : ℕ) → done k ≡ now k) → IsRunningBy m done o.may_leave → MarksOn m done o now o ended
-marks-quiet m done now o ended only no_mark e run = record {
-  now = runs-ended ended m now o.may_leave no_mark (running-as m done now o.may_leave e run);
-  moments = crashes_none (LeavesBy m done now) o (λ c l. leaves-wider m done done done now c (λ k on. on)
-      (λ k on. sym (e k) ∙ on) (running_leaves m done o.may_leave c run (only c l)));
-}
+pub marks-quiet : {m : Option Marking} {done now : ℕ → Bool} {o : OutputView} {ended : Option End} → IsUpToDate o
+    → (ended ≡ Some MarkFailed → ⊥) → ((k : ℕ) → now k ≡ done k) → IsRunningBy m done o.may_leave
+    → MarksOn m done o now o ended
+marks-quiet {m = m} {done = done} {o = o} {ended = ended} only no_mark same run = rw (fun_ext same) (record {
+  now = runs-ended ended m done o.may_leave no_mark run;
+  moments = crashes_none (LeavesBy m done done) o (λ c l. running_leaves m done o.may_leave c run (only c l));
+})
 
-pub marks-placed : (m : Option Marking) (done now : ℕ → Bool) (job : ℕ) (old new : OutputView)
-    → ((k : ℕ) → with_done done job k ≡ now k) → Marks {X = Unit {0}} m done job old new (Ok tt)
-    → MarksOn m done old now new None
-marks-placed m done now job old new e h = record {
-  now = running-as m (with_done done job) now new.may_leave e h.goes_on;
-  moments = crashes_weaker (LeavesBy m done (with_done done job)) (LeavesBy m done now) {old = old} {new = new}
-      (λ c. leaves-wider m done (with_done done job) done now c (λ k on. on) (λ k on. sym (e k) ∙ on)) h.moments;
-}
-
-pub marks-unwritten : (m : Option Marking) (done now : ℕ → Bool) (job : ℕ) (old new : OutputView) (fault : PlaceFault)
-    (ended : Option End) → fault ≡ place.Write → ((k : ℕ) → done k ≡ now k) → (ended ≡ Some MarkFailed → ⊥)
-    → Marks {X = Unit {0}} m done job old new (Err fault) → MarksOn m done old now new ended
-marks-unwritten m done now job old new fault ended is e no_mark h =
-    go (subst (λ (f : PlaceFault). Marks {X = Unit {0}} m done job old new (Err f)) is h)
-  where
-    go : Marks {X = Unit {0}} m done job old new (Err place.Write) → MarksOn m done old now new ended
-    go g = record {
-      now = runs-ended ended m now new.may_leave no_mark (running-as m done now new.may_leave e g.goes_on);
-      moments = crashes_weaker (LeavesBy m done done) (LeavesBy m done now) {old = old} {new = new}
-          (λ c. leaves-wider m done done done now c (λ k on. on) (λ k on. sym (e k) ∙ on)) g.moments;
-    }
-
-pub marks-broken : (m : Option Marking) (done now : ℕ → Bool) (job : ℕ) (old new : OutputView) (fault : PlaceFault)
-    → fault ≡ place.Mark → ((k : ℕ) → with_done done job k ≡ now k)
-    → Marks {X = Unit {0}} m done job old new (Err fault) → MarksOn m done old now new (Some MarkFailed)
-marks-broken m done now job old new fault is e h =
-    go (subst (λ (f : PlaceFault). Marks {X = Unit {0}} m done job old new (Err f)) is h)
-  where
-    go : Marks {X = Unit {0}} m done job old new (Err place.Mark) → MarksOn m done old now new (Some MarkFailed)
-    go g = record {
-      now = runs-as (Some MarkFailed) m (with_done done job) now new.may_leave e g.goes_on;
-      moments = crashes_weaker (LeavesBy m done (with_done done job)) (LeavesBy m done now) {old = old} {new = new}
-          (λ c. leaves-wider m done (with_done done job) done now c (λ k on. on) (λ k on. sym (e k) ∙ on)) g.moments;
-    }
+-- a job was placed, or couldn't be, in one of these ways
+pub marks-placed : {m : Option Marking} {done now : ℕ → Bool} {job : ℕ} {old new : OutputView}
+    {result : Result (Unit {0}) PlaceFault} {ended : Option End} → ((k : ℕ) → done_by done job result k ≡ now k)
+    → RunsOn m (done_by done job result) new.may_leave ended → Marks m done job old new result
+    → MarksOn m done old now new ended
+marks-placed {m = m} {done = done} {old = old} {new = new} {ended = ended} same runs h =
+    subst (λ d. MarksOn m done old d new ended) (fun_ext same) (record { now = runs; moments = h.moments })

@@ -1,285 +1,173 @@
--- What holds along each run: right bytes in the hands, and outputs filled as far as their jobs are done.
-use Rattle.std.proofs.Common.{◌≡◌, ◌≢◌, ◌∙◌, ◌⊎◌, ℕ, ◌+◌, ◌<◌, Bool, true, false, cond, Option, Some, None, List, length, length-set, get_or-set_same, get_or-set_other, refl, sym, ap, subst, inl, inr}
-use Rattle.std.proofs.lemmas.Bool.Decides.{eqb_tells}
-use Rattle.std.proofs.lemmas.Bool.{cases_eq, cases_lt}
-use Rattle.std.proofs.lemmas.List.{get_or_past}
-use Rattle.work_terms.specs.Disk.{Files, IsWritten, IsTorn}
-use Rattle.job_terms.specs.declared.Ticket.{Ticket}
-use Rattle.job_terms.specs.declared.BoardEvent.{BoardEvent}
-use Rattle.job_terms.specs.declared.BoardEvent.TheVariants.{Give, Work, Deliver, Fault, Lose, Reclaim}
-use Rattle.job_terms.specs.Board.{Board, accepted, faulted, given_out, is_current, is_done, is_last_fault, is_out, reopened, job_at, no_job, with_job}
-use Rattle.job_terms.specs.Workers as w
-use Rattle.job_terms.specs.Workers.{Jobs, Hand, Nothing, Made, State, Puts, DeliverStep, Delivers, CantWrite, CantMark, IsStale, HasNoBytes, after_fault}
+-- What holds along each run: right bytes in the hands, outputs filled as far as their jobs are done, and the laws.
+use Rattle.std.proofs.Common.{◌≡◌, ◌≢◌, ◌∙◌, ◌⊎◌, ℕ, ◌<◌, Bool, true, false, Option, None, List, length, length-set, refl, sym, ap, subst, inl, inr, ◌+◌, ◌≤◌, take, drop, arith}
 use Rattle.std.proofs.lemmas.Slice.Eq.{bytes_eq-Decides}
 use Rattle.std.specs.Str.{bytes_eq}
-use Rattle.job_terms.specs.declared.Job.{Job}
-use Rattle.job_terms.specs.declared.Standing.TheVariants.{Open, Out}
-use Rattle.execution.proofs.Firsts.{givable-there}
-use Rattle.execution.specs.Filled.{AreFilled, IsFilled, IsGood, IsGoodHand, IsPartOf, IsSound}
-use Rattle.execution.specs.Marking.{done_of}
+use mathlib.Core.Path.{fun_ext, subst₂}
+use Rattle.work_terms.specs.Disk.{Files}
+use Rattle.job_terms.specs.declared.BoardEvent.{BoardEvent}
+use Rattle.job_terms.specs.Board.{Board}
+use Rattle.job_terms.specs.Workers.{BoardRun, BoardStep, Hand, Jobs, Nothing, Puts, State, World, DonePlaces}
+use Rattle.execution.specs.Filled.{AreFilled, AreParts, IsFilled, IsGood, IsGoodHand, IsSound, AreApart, IsFixedIn}
+use Rattle.execution.specs.Marking.{IsRight, done_of}
+use Rattle.execution.proofs.Changes.{Alike, Change, IsAlike, Placed, Torn, change-keeps, change-of, current-undone, givable-there, hands-hold, put-other, HasFailed, change-failed}
 use Rattle.execution.proofs.Fills.{filled-torn, filled-written}
-use Rattle.execution.proofs.Runs.{each-hand, run-holds}
-use Rattle.execution.proofs.Marked.{current-open, current-there, done-accepted}
+use Rattle.execution.proofs.Runs.{RunLeads, leads-at, run-holds}
+use Rattle.std.proofs.lemmas.Bool.{cases_eq}
+use Rattle.std.proofs.lemmas.List.{ext_get_or, get_or-drop, get_or-take, length-drop, length-take-le}
+use Rattle.execution.specs.Laws.{IsSettled, KeepsLaws, with_no_hands}
 
--- the same file, filled for fewer done jobs of this name
-pub filled-as : (jobs : Jobs) (name whole : List ℕ) (done now : ℕ → Bool) (file : Option (List ℕ))
-    → ((k : ℕ) → jobs.name k ≡ name → now k ≡ true → done k ≡ true) → IsFilled jobs name whole done file → IsFilled
-    jobs name whole now file
-filled-as jobs name whole done now file more h = record {
-  bytes = h.bytes;
-  there = h.there;
-  size = h.size;
-  same = λ i fixed. h.same i (λ k lt n from to. more k n (fixed k lt n from to));
-}
-
--- after an accepted delivery a job that is done was done before, or is this one
-done-before : (board : Board) (k : ℕ) → k < length board.jobs → (j : ℕ) → j ≢ k → done_of (accepted board k) j ≡ true
-    → done_of board j ≡ true
-done-before board k lt j ne on = elim (eqb_tells j k) [
-  | inl e ↦ absurd (ne e.1)
-  | inr e ↦ sym (ap (λ b. cond b true (done_of board j)) e.0) ∙ done-accepted board k lt j ∙ on
-]
-
-pub filled-delivered : (jobs : Jobs) (whole : List ℕ → List ℕ) (names : (a b : List ℕ) → (a ≡ b) ⊎ (a ≢ b))
-    (board : Board) (t : Ticket) (bytes : List ℕ) (old new : Files)
-    → is_current board t ≡ true → IsPartOf jobs t.job (whole (jobs.name t.job)) → bytes ≡ jobs.bytes t.job
-    → Puts (IsWritten (jobs.at t.job) bytes) jobs.name t.job old new
-    → AreFilled jobs whole (done_of board) old → AreFilled jobs whole (done_of (accepted board t.job)) new
-filled-delivered jobs whole names board t bytes old new cur part right puts filled = record {
-  each = λ j lt. elim (names (jobs.name j) (jobs.name t.job)) [
-    | inl e ↦ subst (λ n. IsFilled jobs n (whole n) (done_of (accepted board t.job)) (new n)) (sym e)
-        (filled-written jobs (jobs.name t.job) (whole (jobs.name t.job)) (done_of board)
-        (done_of (accepted board t.job)) t.job (old (jobs.name t.job)) (new (jobs.name t.job))
-        part (λ i ne on. done-before board t.job (current-there board t cur) i ne on)
-        (subst (λ n. IsFilled jobs n (whole n) (done_of board) (old n)) e (filled.each j lt))
-        (subst (λ (b : List ℕ). IsWritten (jobs.at t.job) b (old (jobs.name t.job)) (new (jobs.name t.job))) right
-        puts.here))
-    | inr ne ↦ subst (IsFilled jobs (jobs.name j) (whole (jobs.name j)) (done_of (accepted board t.job)))
-        (sym (puts.others j ne))
-        (filled-as jobs (jobs.name j) (whole (jobs.name j)) (done_of board) (done_of (accepted board t.job))
-        (old (jobs.name j))
-        (λ i named on. done-before board t.job (current-there board t cur) i (λ h. ne (sym named ∙ ap jobs.name h))
-        on) (filled.each j lt))
-  ];
-}
-
-pub filled-failed : (jobs : Jobs) (whole : List ℕ → List ℕ) (names : (a b : List ℕ) → (a ≡ b) ⊎ (a ≢ b))
-    (board : Board) (t : Ticket) (bytes : List ℕ) (old new : Files)
-    → t.job < jobs.count → is_current board t ≡ true → bytes ≡ jobs.bytes t.job
-    → Puts (IsTorn (jobs.at t.job) (length bytes)) jobs.name t.job old new
-    → AreFilled jobs whole (done_of board) old → AreFilled jobs whole (done_of board) new
-filled-failed jobs whole names board t bytes old new there cur right puts filled = record {
-  each = λ j lt. elim (names (jobs.name j) (jobs.name t.job)) [
-    | inl e ↦ subst (λ n. IsFilled jobs n (whole n) (done_of board) (new n)) (sym e)
-        (filled-torn jobs (jobs.name t.job) (whole (jobs.name t.job)) (done_of board) t.job (old (jobs.name t.job))
-        (new (jobs.name t.job))
-        there refl (current-open board t cur)
-        (subst (λ n. IsFilled jobs n (whole n) (done_of board) (old n)) e (filled.each j lt))
-        (subst (λ (b : List ℕ). IsTorn (jobs.at t.job) (length b) (old (jobs.name t.job)) (new (jobs.name t.job)))
-        right puts.here))
-    | inr ne ↦ subst (IsFilled jobs (jobs.name j) (whole (jobs.name j)) (done_of board)) (sym (puts.others j ne))
-        (filled.each j lt)
-  ];
-}
-
+-- names are the same, or they aren't
 names : (a b : List ℕ) → (a ≡ b) ⊎ (a ≢ b)
 names a b = go (bytes_eq a b) refl
   where
-    apart : true ≡ false → ⊥
-    apart h = cc
-
     go : (t : Bool) → bytes_eq a b ≡ t → (a ≡ b) ⊎ (a ≢ b)
     go true e = inl ((bytes_eq-Decides a b).0 e)
-    go false e = inr (λ h. apart (sym ((bytes_eq-Decides a b).1 h) ∙ e))
+    go false e = inr (λ h. cc (e, (bytes_eq-Decides a b).1 h))
 
--- another board with no job more that is done
-good-as : (jobs : Jobs) (whole : List ℕ → List ℕ) (old new : State) → length new.board.jobs ≡ length old.board.jobs →
-    new.files ≡ old.files
-    → ((k : ℕ) → done_of new.board k ≡ true → done_of old.board k ≡ true) → IsGood jobs whole old → IsGood jobs whole
-    new
-good-as jobs whole old new same files more g = record {
-  board = same ∙ g.board;
-  filled = record {
-    each = λ j lt. subst (λ (f : Files). IsFilled jobs (jobs.name j) (whole (jobs.name j)) (done_of new.board)
-        (f (jobs.name j))) (sym files)
-        (filled-as jobs (jobs.name j) (whole (jobs.name j)) (done_of old.board) (done_of new.board)
-        (old.files (jobs.name j)) (λ k _ on. more k on) (g.filled.each j lt));
-  };
+-- one job's place is written: its file is filled as this step fills it, every other as before
+filled-put : {step : Option (List ℕ) → Option (List ℕ) → Type 0} (jobs : Jobs) (whole : List ℕ → List ℕ)
+    (done more : ℕ → Bool) (k : ℕ) (old new : Files) → Puts step jobs.name k old new
+    → ((i : ℕ) → i ≢ k → more i ≡ true → done i ≡ true)
+    → (IsFilled jobs (jobs.name k) (whole (jobs.name k)) done (old (jobs.name k))
+    → step (old (jobs.name k)) (new (jobs.name k))
+    → IsFilled jobs (jobs.name k) (whole (jobs.name k)) more (new (jobs.name k)))
+    → AreFilled jobs whole done old → AreFilled jobs whole more new
+filled-put jobs whole done more k old new puts off here filled = record {
+  each = λ j lt. elim (names (jobs.name j) (jobs.name k)) [
+    | inl e ↦ rw e (here (rw e at (filled.each j lt)) puts.here)
+    | inr ne ↦ let f = filled.each j lt in rw (puts.others j ne) (record {
+      bytes = f.bytes;
+      there = f.there;
+      size = f.size;
+      same = λ i fixed. f.same i
+          (λ n below named from to. off n (λ is. ne (sym named ∙ ap jobs.name is)) (fixed n below named from to));
+    })
+  ];
 }
 
--- a job that is put and isn't done
-put-less : (board : Board) (k : ℕ) (job : Job) → k < length board.jobs → is_done job.standing ≡ false
-    → (j : ℕ) → done_of (with_job board k job) j ≡ true → done_of board j ≡ true
-put-less board k job lt off j on = elim (cases_eq j k) [
-  | inl e ↦ absurd (apart (sym on ∙ ap (λ i. done_of (with_job board k job) i) e ∙ ap (λ (x : Job). is_done
-      x.standing) (get_or-set_same board.jobs k job no_job lt) ∙ off))
-  | inr ne ↦ sym (ap (λ (x : Job). is_done x.standing) (get_or-set_other board.jobs k j job no_job ne)) ∙ on
-]
-  where
-    apart : true ≡ false → ⊥
-    apart h = cc
+module _ (jobs : Jobs) (whole : List ℕ → List ℕ) (parts : AreParts jobs whole) where
+  -- another board with the same jobs done
+  good-as : (old new : State) → IsAlike old new → IsGood jobs whole old → IsGood jobs whole new
+  good-as old new a good = record {
+    board = a.size ∙ good.board;
+    filled = record {
+      each = subst₂ (λ d f. (j : ℕ) → j < jobs.count
+          → IsFilled jobs (jobs.name j) (whole (jobs.name j)) d (f (jobs.name j))) (sym (fun_ext a.done)) (sym a.kept)
+          good.filled.each;
+    };
+  }
 
-out-there : (board : Board) (k : ℕ) → is_out (job_at board k).standing ≡ true → k < length board.jobs
-out-there board k e = elim (cases_lt k (length board.jobs)) [
-  | inl lt ↦ lt
-  | inr past ↦ absurd (apart (sym e ∙ ap (λ (j : Job). is_out j.standing) (get_or_past board.jobs k no_job past)))
-]
-  where
-    apart : true ≡ false → ⊥
-    apart h = cc
+  -- what an event makes of files that are filled so
+  change-good : (old new : State) (hand : Hand) → Change jobs old hand new → IsGoodHand jobs hand
+      → IsGood jobs whole old → IsGood jobs whole new
+  change-good old new hand (Alike a) made good = good-as old new a good
+  change-good old new hand (Torn t bytes files h cur puts a) held good =
+      let made = rw h at held in good-as (record old { files = files }) new a (record {
+        board = good.board;
+        filled = filled-put jobs whole (done_of old.board) (done_of old.board) t.job old.files files
+            (rw made.1 at puts) (λ i ne on. on)
+            (filled-torn jobs _ _ (done_of old.board) t.job _ _ made.0 refl (current-undone old.board t cur))
+            good.filled;
+      })
+  change-good old new hand (Placed t bytes h cur puts is failed) held good = let made = rw h at held in record {
+    board = rw is (length-set old.board.jobs t.job _ ∙ good.board);
+    filled = filled-put jobs whole (done_of old.board) (done_of new.board) t.job old.files new.files
+        (rw made.1 at puts) off (filled-written jobs _ _ (done_of old.board) (done_of new.board) t.job _ _
+        (parts t.job made.0) off) good.filled;
+  }
+    where
+      off : (i : ℕ) → i ≢ t.job → done_of new.board i ≡ true → done_of old.board i ≡ true
+      off i ne on = sym (ap (λ (b : Board). done_of b i) is ∙ put-other old.board t.job _ i ne) ∙ on
 
-fault-good : (jobs : Jobs) (whole : List ℕ → List ℕ) (s : State) (t : Ticket) → IsGood jobs whole s → IsGood jobs
-    whole (after_fault s t)
-fault-good jobs whole s t g = go (is_current s.board t) (cond (is_last_fault s.board t.job) (Some (w.GivenUp t.job))
-    None) refl
-  where
-    go : (b : Bool) (x : Option w.End) → is_current s.board t ≡ b → IsGood jobs whole
-        (cond b (record s { board = faulted s.board t.job; ended = x }) s)
-    go true x e = good-as jobs whole s (record s { board = faulted s.board t.job; ended = x })
-        (length-set s.board.jobs t.job _) refl
-        (put-less s.board t.job (record (job_at s.board t.job) {
-          standing = Open;
-          faults = (job_at s.board
-              t.job).faults + 1;
-        }) (current-there s.board t e) refl) g
-    go false x e = g
+  -- one event, and a run of them
+  step-sound : (marks : Bool) (old : World) (event : BoardEvent) (new : World) → old.state.ended ≡ None
+      → BoardStep marks jobs old event new → IsSound jobs whole old → IsSound jobs whole new
+  step-sound marks old event new none s sound = record {
+    good = let c = change-of marks jobs old event new s in
+        change-good old.state new.state (old.hands c.0) c.1 (sound.hands c.0) sound.good;
+    hands = hands-hold (IsGoodHand jobs) tt marks jobs (λ t lt. (lt, refl)) old event new
+        (λ k can. subst (λ n. k < n) sound.good.board (givable-there old.state.board k can)) s sound.hands;
+  }
 
-pub give-good : (jobs : Jobs) (whole : List ℕ → List ℕ) (old new : State) (hand now : Hand) → w.GiveStep old hand new
-    now
-    → IsGood jobs whole old → IsGoodHand jobs hand → IsGood jobs whole new × IsGoodHand jobs now
-give-good jobs whole old new hand now (w.Gives k h can n m) g good =
-    let there = givable-there old.board k can in (
-      subst (IsGood jobs whole) (sym n) (good-as jobs whole old (record old { board = given_out old.board k })
-          (length-set old.board.jobs k _) refl
-          (put-less old.board k (record (job_at old.board k) {
-            standing = Out;
-            given = (job_at old.board k).given +
-                1;
-          }) there refl) g),
-      subst (IsGoodHand jobs) (sym m) (subst (λ n. k < n) g.board there),
-    )
-give-good jobs whole old new hand now (w.NoneLeft h none n m) g good = (
-  subst (IsGood jobs whole) (sym n) g,
-  subst
-      (IsGoodHand jobs) (sym m) good,
-)
-give-good jobs whole old new hand now (w.Busy h n m) g good = (
-  subst (IsGood jobs whole) (sym n) g,
-  subst
-      (IsGoodHand jobs) (sym m) good,
-)
+  pub run-sound : (marks : Bool) (events : List BoardEvent) (old new : World) → BoardRun marks jobs old events new
+      → IsSound jobs whole old → IsSound jobs whole new
+  run-sound marks = run-holds (IsSound jobs whole) marks jobs (step-sound marks)
 
-pub work-good : (jobs : Jobs) (whole : List ℕ → List ℕ) (old new : State) (hand now : Hand) → w.WorkStep jobs old hand
-    new now
-    → IsGood jobs whole old → IsGoodHand jobs hand → IsGood jobs whole new × IsGoodHand jobs now
-work-good jobs whole old new hand now (w.Makes t h n m) g good =
-    (subst (IsGood jobs whole) (sym n) g, subst (IsGoodHand jobs) (sym m) (subst (IsGoodHand jobs) h good, refl))
-work-good jobs whole old new hand now (w.CantMake t failures h r n m) g good = (
-  subst (IsGood jobs whole) (sym n) (fault-good jobs whole (record old { shelf_failures = failures }) t
-      (record { board = g.board; filled = g.filled })),
-  subst (IsGoodHand jobs) (sym m) tt,
-)
-work-good jobs whole old new hand now (w.HasNoJob h n m) g good = (
-  subst (IsGood jobs whole) (sym n) g,
-  subst
-      (IsGoodHand jobs) (sym m) good,
-)
+-- what is done stays done
+pub run-keeps : (marks : Bool) (jobs : Jobs) (events : List BoardEvent) (old new : World)
+    → BoardRun marks jobs old events new → (j : ℕ) → done_of old.state.board j ≡ true → done_of new.state.board j ≡ true
+run-keeps marks jobs events old new run j = run-holds (λ x. done_of x.state.board j ≡ true) marks jobs
+    (λ before event after none s. change-keeps (change-of marks jobs before event after s).1 j) events old new run
 
--- the bytes of the job stand at its place, and it is done
-accepted-good : (jobs : Jobs) (whole : List ℕ → List ℕ) (parts : (k : ℕ) → k < jobs.count → IsPartOf jobs k
-    (whole (jobs.name k))) (old new : State) (t : Ticket) (bytes : List ℕ) → new.board ≡ accepted old.board t.job
-    → is_current old.board t ≡ true → IsGoodHand jobs (Made t bytes)
-    → Puts (IsWritten (jobs.at t.job) bytes) jobs.name t.job old.files new.files → IsGood jobs whole old
-    → IsGood jobs whole new
-accepted-good jobs whole parts old new t bytes is cur made puts g = record {
-  board = ap (λ (b : Board). length b.jobs) is ∙ length-set old.board.jobs t.job _ ∙ g.board;
-  filled = subst (λ (b : Board). AreFilled jobs whole (done_of b) new.files) (sym is)
-      (filled-delivered jobs whole names old.board t bytes old.files new.files cur (parts t.job made.0) made.1 puts
-      g.filled);
-}
+-- ---- where runs lead
 
-pub deliver-good : (marks : Bool) (jobs : Jobs) (whole : List ℕ → List ℕ) (parts : (k : ℕ) → k < jobs.count → IsPartOf
-    jobs k (whole (jobs.name k)))
-    (old new : State) (hand now : Hand) → DeliverStep marks jobs old hand new now
-    → IsGood jobs whole old → IsGoodHand jobs hand → IsGood jobs whole new × IsGoodHand jobs now
-deliver-good marks jobs whole parts old new hand now (Delivers t bytes files h cur puts n m) g good =
-    let made = subst (IsGoodHand jobs) h good in (
-      subst (IsGood jobs whole) (sym n) (accepted-good jobs whole parts old _ t bytes refl cur made puts g),
-      subst (IsGoodHand jobs) (sym m) tt,
-    )
-deliver-good marks jobs whole parts old new hand now (CantWrite t bytes files failures h cur puts r n m) g good =
-    let made = subst (IsGoodHand jobs) h good in (
-      subst (IsGood jobs whole) (sym n) (fault-good jobs whole (record old {
-        files = files;
-        bench_failures =
-            failures;
-      }) t (record {
-        board = g.board;
-        filled = filled-failed jobs whole names old.board t bytes old.files files made.0 cur made.1 puts g.filled;
-      })),
-      subst (IsGoodHand jobs) (sym m) tt,
-    )
-deliver-good marks jobs whole parts old new hand now (CantMark t bytes files failures on h cur puts r n m) g good =
-    let made = subst (IsGoodHand jobs) h good in (
-      subst (IsGood jobs whole) (sym n) (accepted-good jobs whole parts old _ t bytes refl cur made puts g),
-      subst (IsGoodHand jobs) (sym m) tt,
-    )
-deliver-good marks jobs whole parts old new hand now (IsStale t bytes h cur n m) g good = (
-  subst (IsGood jobs whole) (sym n) (record { board = g.board; filled = g.filled }),
-  subst (IsGoodHand jobs)
-      (sym m) tt,
-)
-deliver-good marks jobs whole parts old new hand now (HasNoBytes h n m) g good = (
-  subst (IsGood jobs whole) (sym n) g,
-  subst (IsGoodHand jobs) (sym m) good,
-)
+module _ (marks : Bool) (jobs : Jobs) (events : List BoardEvent) {old new : State} {had has : ℕ → Hand}
+    (lead : RunLeads marks jobs events old had new has) where
+  pub leads-keeps : (j : ℕ) → done_of old.board j ≡ true → done_of new.board j ≡ true
+  leads-keeps = run-keeps marks jobs events _ _ (leads-at lead)
 
-pub step-sound : (marks : Bool) (jobs : Jobs) (whole : List ℕ → List ℕ) (parts : (k : ℕ) → k < jobs.count → IsPartOf
-    jobs k (whole (jobs.name k)))
-    (old : w.World) (event : BoardEvent) (new : w.World) → w.BoardStep marks jobs old event new → IsSound jobs whole
-    old → IsSound jobs whole new
-step-sound marks jobs whole parts old (Give n) new s good =
-    let r = give-good jobs whole old.state new.state (old.hands n) s.0 s.1 good.good (good.hands n) in
-    record { good = r.0; hands = each-hand (IsGoodHand jobs) old.hands new.hands n s.0 s.2 r.1 good.hands }
-step-sound marks jobs whole parts old (Work n) new s good =
-    let r = work-good jobs whole old.state new.state (old.hands n) s.0 s.1 good.good (good.hands n) in
-    record { good = r.0; hands = each-hand (IsGoodHand jobs) old.hands new.hands n s.0 s.2 r.1 good.hands }
-step-sound marks jobs whole parts old (Deliver n) new s good =
-    let r = deliver-good marks jobs whole parts old.state new.state (old.hands n) s.0 s.1 good.good (good.hands n) in
-    record { good = r.0; hands = each-hand (IsGoodHand jobs) old.hands new.hands n s.0 s.2 r.1 good.hands }
-step-sound marks jobs whole parts old (Fault n) new s good = record {
-  good = go (old.hands n) s.1;
-  hands = each-hand (IsGoodHand jobs) old.hands new.hands n s.0 s.2 (nothing (old.hands n) s.1) good.hands;
-}
-  where
-    go : (h : Hand) → w.FaultStep old.state h new.state s.0 → IsGood jobs whole new.state
-    go Nothing t = subst (IsGood jobs whole) (sym t.0) good.good
-    go (w.Holds ticket) t = subst (IsGood jobs whole) (sym t.0) (fault-good jobs whole old.state ticket good.good)
-    go (Made ticket bytes) t = subst (IsGood jobs whole) (sym t.0) (fault-good jobs whole old.state ticket good.good)
+  -- what was made stays right
+  pub leads-right : ((v : ℕ) → IsRight jobs (had v)) → (v : ℕ) → IsRight jobs (has v)
+  leads-right = run-holds (λ x. (v : ℕ) → IsRight jobs (x.hands v)) marks jobs
+      (λ before event after none. hands-hold (IsRight jobs) tt marks jobs (λ t holds. refl) before event after
+      (λ k can. tt)) events _ _ (leads-at lead)
 
-    nothing : (h : Hand) → w.FaultStep old.state h new.state s.0 → IsGoodHand jobs s.0
-    nothing Nothing t = subst (IsGoodHand jobs) (sym t.1) tt
-    nothing (w.Holds ticket) t = subst (IsGoodHand jobs) (sym t.1) tt
-    nothing (Made ticket bytes) t = subst (IsGoodHand jobs) (sym t.1) tt
-step-sound marks jobs whole parts old (Lose n) new s good = record {
-  good = subst (IsGood jobs whole) (sym s.1.0) good.good;
-  hands = each-hand (IsGoodHand jobs) old.hands new.hands n s.0 s.2 (subst (IsGoodHand jobs) (sym s.1.1) tt) good.hands;
-}
-step-sound marks jobs whole parts old (Reclaim k) new s good = record {
-  good = subst (IsGood jobs whole) (sym s.0) (go (is_out (job_at old.state.board k).standing) refl);
-  hands = λ v. subst (λ (h : ℕ → Hand). IsGoodHand jobs (h v)) (sym s.1) (good.hands v);
-}
-  where
-    go : (b : Bool) → is_out (job_at old.state.board k).standing ≡ b → IsGood jobs whole
-        (cond b (record old.state { board = reopened old.state.board k }) old.state)
-    go true e = good-as jobs whole old.state (record old.state { board = reopened old.state.board k })
-        (length-set old.state.board.jobs k _) refl
-        (put-less old.state.board k (record (job_at old.state.board k) { standing = Open }) (out-there old.state.board
-        k e) refl) good.good
-    go false e = good.good
+  -- from hands that hold nothing
+  pub leads-good : (whole : List ℕ → List ℕ) → AreParts jobs whole → ((v : ℕ) → had v ≡ Nothing)
+      → IsGood jobs whole old → IsGood jobs whole new
+  leads-good whole parts idle good = (run-holds (IsSound jobs whole) marks jobs (step-sound jobs whole parts marks)
+      events _ _ (leads-at lead) (record { good = good; hands = λ v. rw (idle v) tt })).good
 
-pub run-sound : (marks : Bool) (jobs : Jobs) (whole : List ℕ → List ℕ) (parts : (k : ℕ) → k < jobs.count → IsPartOf
-    jobs k (whole (jobs.name k)))
-    (events : List BoardEvent) (old new : w.World) → w.BoardRun marks jobs old events new → IsSound jobs whole old →
-    IsSound jobs whole new
-run-sound marks jobs whole parts = run-holds (IsSound jobs whole) marks jobs (step-sound marks jobs whole parts)
+-- ---- the laws
+
+module _ (jobs : Jobs) (whole : List ℕ → List ℕ) (parts : AreParts jobs whole) (apart : AreApart jobs) where
+  -- the places of what is done hold their bytes
+  places-done : (state : State) → IsGood jobs whole state → DonePlaces jobs state
+  places-done state good k lt on =
+      let f = good.filled.each k lt in
+      let p = parts k lt in
+      let n = length (jobs.bytes k) in
+      let inside : jobs.at k + n ≤ length f.bytes = omega (arith, p.inside, f.size) in
+      let left : n ≤ length (drop (jobs.at k) f.bytes) = omega (arith, inside, length-drop (jobs.at k) f.bytes) in
+      record {
+        file = f.bytes;
+        there = f.there;
+        inside = inside;
+        same = ext_get_or 0 (jobs.bytes k) (take n (drop (jobs.at k) f.bytes))
+            (sym (length-take-le n (drop (jobs.at k) f.bytes) left))
+            (λ i less. rw (get_or-take n (drop (jobs.at k) f.bytes) i 0 less, get_or-drop (jobs.at k) f.bytes i 0)
+            (p.part i less ∙ sym (f.same (jobs.at k + i) (fixed i less))));
+      }
+    where
+      fixed : (i : ℕ) → i < length (jobs.bytes k) → IsFixedIn jobs (jobs.name k) (done_of state.board) (jobs.at k + i)
+      fixed i less j below named from to = elim (cases_eq j k) [
+        | inl e ↦ ap (done_of state.board) e ∙ on
+        | inr ne ↦ absurd (elim (apart j k below lt ne named) [
+          | inl before ↦ omega (arith, before, to)
+          | inr behind ↦ omega (arith, behind, from, less)
+        ])
+      ]
+
+  -- what is done stays done
+  settled-after : (marks : Bool) (first second : List BoardEvent) (start mid end : World) → IsSound jobs whole start
+      → BoardRun marks jobs start first mid → BoardRun marks jobs mid second end → IsSettled jobs mid.state end.state
+  settled-after marks first second start mid end sound one other =
+      let here = run-sound jobs whole parts marks first start mid one sound in
+      let there = run-sound jobs whole parts marks second mid end other here in record {
+        stays = λ k lt. run-keeps marks jobs second mid end other k;
+        before = places-done mid.state here.good;
+        after = places-done end.state there.good;
+      }
+
+  -- all of it, where these are the first of the events
+  pub laws-kept : (marks : Bool) (events first : List BoardEvent) {old new : State} {had has : ℕ → Hand}
+      → RunLeads marks jobs first old had new has → ((v : ℕ) → had v ≡ Nothing) → old.ended ≡ None
+      → IsGood jobs whole old → KeepsLaws marks jobs events old new
+  laws-kept marks events first {old = old} {new = new} lead idle none good = record {
+    done_places = places-done new (leads-good marks jobs first lead whole parts idle good);
+    settled = λ fewer more le mid end one other. settled-after marks (take fewer events)
+        (drop fewer (take more events)) (with_no_hands old) mid end (record { good = good; hands = λ v. tt }) one other;
+    given_up = run-holds (λ x. HasFailed x.state.board x.state.ended) marks jobs
+        (λ before event after none s failed. change-failed (change-of marks jobs before event after s).1 none)
+        first _ _ (leads-at lead) (λ job e. cc);
+  }

@@ -1,88 +1,65 @@
 -- Stretches, one more behind the others.
-use Rattle.std.proofs.Common.{◌≡◌, ◌+◌, ◌-◌, ◌*◌, ◌<◌, ◌≤◌, ◌++◌, ℕ, Bool, false, List, [], ◌∷◌, inl, inr, length, get_or, refl, sym, ap, subst, ◌∙◌, arith, length-append}
-use Rattle.std.specs.List.{All}
-use Rattle.std.specs.Prelude.{min}
-use Rattle.std.proofs.Math.Seq.{get_or-append_seam}
+use Rattle.std.proofs.Common.{◌≡◌, ◌+◌, ◌-◌, ◌*◌, ◌<◌, ◌≤◌, ◌++◌, ℕ, Bool, false, List, [], ◌∷◌, inl, inr, length, get_or, refl, sym, ap, ◌∙◌, arith, All, min}
 use Rattle.std.proofs.lemmas.Bool.{cases_lt}
-use Rattle.std.proofs.lemmas.List.{get_or_append_left}
+use Rattle.std.proofs.lemmas.List.{get_or_append_left, get_or_push, length_push}
+use Rattle.std.proofs.lemmas.List.Elements.{All-push}
 use Rattle.rendering.specs.declared.stretch.Stretch.{Stretch}
 use Rattle.rendering.specs.Cut.{AreEven, AreLongest, IsCut, IsShort, IsUniform, even_stretch}
 
+-- they still follow one another
 pub cut-push : (stretches : List Stretch) (from mid : ℕ) (s : Stretch) → IsCut from stretches mid → s.first ≡ mid
     → s.first < s.end → IsCut from (stretches ++ s ∷ []) s.end
 cut-push [] from mid s cut at some = (at ∙ sym cut, some, refl)
-cut-push (t ∷ stretches) from mid s cut at some =
-    (cut.0, cut.1, cut-push stretches t.end mid s cut.2 at some)
-
--- what holds of each, and of one more
-pub all-push : (P : Stretch → Type 0) (stretches : List Stretch) (s : Stretch) → All P stretches → P s
-    → All P (stretches ++ s ∷ [])
-all-push P stretches s all here k d below = elim (cases_lt k (length stretches)) [
-  | inl before ↦ subst P (sym (get_or_append_left stretches (s ∷ []) d k before)) (all k d before)
-  | inr past ↦ let at : k ≡ length stretches = omega (arith, below, past, length-append stretches (s ∷ [])) in
-      subst P (sym (ap (λ (i : ℕ). get_or (stretches ++ s ∷ []) i d) at ∙ get_or-append_seam stretches s [] d)) here
-]
+cut-push (t ∷ stretches) from mid s cut at some = (cut.0, cut.1, cut-push stretches t.end mid s cut.2 at some)
 
 -- the last of them, if there is one, could not go on with blocks that are marked so
 abbrev pub CannotGoOn : ℕ → List Stretch → Bool → Type 0
 CannotGoOn most stretches mark = (k : ℕ) (d : Stretch) → k + 1 ≡ length stretches → (get_or stretches k d).done ≡ mark
     → (get_or stretches k d).end - (get_or stretches k d).first ≡ most
 
-pub longest-push : (most : ℕ) (stretches : List Stretch) (s : Stretch) → AreLongest most stretches
+-- they are as long as can be where the last one could not go on
+longest-push : (most : ℕ) (stretches : List Stretch) (s : Stretch) → AreLongest most stretches
     → CannotGoOn most stretches s.done → AreLongest most (stretches ++ s ∷ [])
 longest-push most stretches s longest ends k d below alike =
-    let count = length-append stretches (s ∷ []) in
-    let within : k < length stretches = omega (arith, below, count) in
-    let left = get_or_append_left stretches (s ∷ []) d k within in
-    let is_last : Stretch → Type 0 = λ t. t.end - t.first ≡ most in
-    subst is_last (sym left) (elim (cases_lt (k + 1) (length stretches)) [
-      | inl before ↦ longest k d before (ap (λ (t : Stretch). t.done) (sym left) ∙ alike
-          ∙ ap (λ (t : Stretch). t.done) (get_or_append_left stretches (s ∷ []) d (k + 1) before))
-      | inr past ↦ let at : k + 1 ≡ length stretches = omega (arith, within, past) in
-          ends k d at (ap (λ (t : Stretch). t.done) (sym left) ∙ alike
-          ∙ ap (λ (i : ℕ). (get_or (stretches ++ s ∷ []) i d).done) at
-          ∙ ap (λ (t : Stretch). t.done) (get_or-append_seam stretches s [] d))
+    let within : k < length stretches = omega (arith, below, length_push stretches s) in
+    let here = get_or_append_left stretches (s ∷ []) d k within in
+    rw here (elim (cases_lt (k + 1) (length stretches)) [
+      | inl before ↦
+          longest k d before (rw (here, get_or_append_left stretches (s ∷ []) d (k + 1) before) at alike)
+      | inr past ↦ let last : k + 1 ≡ length stretches = omega (arith, within, past) in
+          ends k d last (rw (here, get_or_push stretches s d (k + 1) (sym last)) at alike)
     ])
 
-pub ends-push : (most : ℕ) (stretches : List Stretch) (s : Stretch) (mark : Bool)
+-- the one behind them could not go on if it is full, or marked otherwise
+ends-push : (most : ℕ) (stretches : List Stretch) (s : Stretch) (mark : Bool)
     → (s.done ≡ mark → s.end - s.first ≡ most) → CannotGoOn most (stretches ++ s ∷ []) mark
 ends-push most stretches s mark full k d last alike =
-    let at : k ≡ length stretches = omega (arith, last, length-append stretches (s ∷ [])) in
-    let here = ap (λ (i : ℕ). get_or (stretches ++ s ∷ []) i d) at ∙ get_or-append_seam stretches s [] d in
-    subst (λ (t : Stretch). t.end - t.first ≡ most) (sym here)
-    (full (ap (λ (t : Stretch). t.done) (sym here) ∙ alike))
+    let here = get_or_push stretches s d k (omega (arith, last, length_push stretches s)) in
+    rw here (full (rw here at alike))
 
--- stretches of as many blocks each, and the next of them
+-- ---- stretches of as many blocks each, and the next of them
+
+-- with the next of them they are still the first
 pub even-push : (most to : ℕ) (stretches : List Stretch) (s : Stretch) → AreEven most to stretches
     → s ≡ even_stretch most to (length stretches) → AreEven most to (stretches ++ s ∷ [])
 even-push most to stretches s even here k d below = elim (cases_lt k (length stretches)) [
   | inl before ↦ get_or_append_left stretches (s ∷ []) d k before ∙ even k d before
-  | inr past ↦ let at : k ≡ length stretches = omega (arith, below, past, length-append stretches (s ∷ [])) in
-      ap (λ (i : ℕ). get_or (stretches ++ s ∷ []) i d) at ∙ get_or-append_seam stretches s [] d
-      ∙ here ∙ ap (even_stretch most to) (sym at)
+  | inr past ↦ let at : length stretches ≡ k = omega (arith, below, past, length_push stretches s) in
+      get_or_push stretches s d k at ∙ here ∙ ap (even_stretch most to) at
 ]
 
-abbrev fresh_from : ℕ → ℕ → Stretch
-fresh_from first behind = record { first = first; end = behind; done = false }
+module _ (most to n : ℕ) {first behind : ℕ} (place : first ≡ min (n * most) to) (some : first < to)
+    (ends : behind ≡ min (first + most) to) where
+  begins : first ≡ n * most
+  begins = omega (arith, place, some)
 
-pub even-next : (most to n first behind : ℕ) → first ≡ min (n * most) to → first < to → behind ≡ min (first + most) to
-    → record { first = first; end = behind; done = false } ≡ even_stretch most to n
-even-next most to n first behind place some ends =
-    let begins : first ≡ n * most = omega (arith, place, some) in
-    ap (λ (x : ℕ). fresh_from x behind) begins
-    ∙ ap (λ (x : ℕ). fresh_from (n * most) x) (ends ∙ ap (λ (x : ℕ). min (x + most) to) begins)
+  -- the next of them
+  pub even-next : record { first = first; end = behind; done = false } ≡ even_stretch most to n
+  even-next = rw (ends, begins) refl
 
--- where the next one begins
-pub place-push : (most to : ℕ) (stretches : List Stretch) (s : Stretch) (first behind : ℕ)
-    → first ≡ min (length stretches * most) to → first < to → behind ≡ min (first + most) to
-    → behind ≡ min (length (stretches ++ s ∷ []) * most) to
-place-push most to stretches s first behind place some ends =
-    let n = length stretches in
-    let begins : first ≡ n * most = omega (arith, place, some) in
-    let longer : length (stretches ++ s ∷ []) ≡ n + 1 = length-append stretches (s ∷ []) in
-    let more : length (stretches ++ s ∷ []) * most ≡ n * most + most =
-    ap (λ (x : ℕ). x * most) longer ∙ omega arith in
-    ends ∙ ap (λ (x : ℕ). min (x + most) to) begins ∙ ap (λ (x : ℕ). min x to) (sym more)
+  -- where the one behind it begins
+  pub place-next : behind ≡ min ((n + 1) * most) to
+  place-next = omega (arith, ends, begins)
 
 -- ---- cut by marks
 
@@ -98,7 +75,7 @@ pub record IsCutSoFar (marked : List Bool) (most first here : ℕ) (done : Bool)
   pub begun : 1 ≤ length stretches → first < here
   pub ends : CannotGoOn most stretches done
 
-module _ (marked : List Bool) (most first here : ℕ) (done : Bool) (stretches : List Stretch)
+module _ {marked : List Bool} {most first here : ℕ} {done : Bool} {stretches : List Stretch}
     (is : IsCutSoFar marked most first here done stretches) where
   abbrev last_one : Stretch
   last_one = record { first = first; end = here; done = done }
@@ -109,9 +86,9 @@ module _ (marked : List Bool) (most first here : ℕ) (done : Bool) (stretches :
   cut-here some begun full = record {
     within = omega arith;
     cut = cut-push stretches 0 first last_one is.cut refl begun;
-    uniform = all-push (IsUniform marked) stretches last_one is.uniform is.same;
-    short = all-push (IsShort most) stretches last_one is.short is.room;
-    same = λ b from to. let at : b ≡ here = omega (arith, from, to) in ap (λ (k : ℕ). get_or marked k false) at;
+    uniform = All-push (IsUniform marked) stretches last_one is.uniform is.same;
+    short = All-push (IsShort most) stretches last_one is.short is.room;
+    same = λ b from to. ap (λ (k : ℕ). get_or marked k false) (omega (arith, from, to));
     room = omega (arith, some);
     longest = longest-push most stretches last_one is.longest is.ends;
     begun = λ more. omega arith;
@@ -129,7 +106,7 @@ module _ (marked : List Bool) (most first here : ℕ) (done : Bool) (stretches :
     short = is.short;
     same = λ b from to. elim (cases_lt b here) [
       | inl less ↦ is.same b from less ∙ sym (goes (omega (arith, from, less))).0
-      | inr past ↦ let at : b ≡ here = omega (arith, past, to) in ap (λ (k : ℕ). get_or marked k false) at
+      | inr past ↦ ap (λ (k : ℕ). get_or marked k false) (omega (arith, past, to))
     ];
     room = elim (cases_lt first here) [
       | inl less ↦ omega (arith, (goes less).1)

@@ -1,14 +1,9 @@
-mod Asked
-mod Beside
-mod Calls
-mod BlockMarks
 mod Both
-mod Resuming
+mod Calls
 mod Clipped
 mod Cuts
 mod Frames
-mod Noted
-mod Parts
-mod Steps
+mod Jobs
+mod Laid
 mod Stretches
 mod Works

@@ -1,272 +1,136 @@
--- A marked rendering as an execution sees it: its jobs, the file as it is laid out, and its marks.
-use Rattle.std.proofs.Common.{◌≡◌, ◌≢◌, ◌∙◌, ℕ, ◌-◌, ◌/◌, ◌<◌, ◌≤◌, Bool, true, false, Option, Some, List, length, get_or, refl, sym, ap, subst, arith}
-use Rattle.std.specs.Prelude.{⊤, Result, Ok, Err, map}
-use Rattle.clipping.specs.declared.tally.Clips.{Clips}
-use Rattle.std.proofs.lemmas.List.{get_or-append_right, get_or-map, length-map}
-use Rattle.sound_terms.specs.Blocks.{block_start}
-use Rattle.sound_terms.specs.Depth.{bits_of}
-use Rattle.sound_terms.specs.Render.{render_info}
-use Rattle.sound_terms.specs.Waves.{header_of, zeros}
-use Rattle.work_terms.specs.Disk.{Files, HasRead, HasWritten, IsBeside, IsDurable}
+-- A marked rendering as an execution sees it: its jobs, its files, and the marks that it goes on with.
+use Rattle.std.proofs.Common.{◌≡◌, ◌∙◌, ℕ, ◌<◌, ◌≤◌, Bool, true, Some, List, [], length, take, get_or, refl, sym, ap, arith, ◌∷◌, None, All, get_or-take}
+use Rattle.std.specs.Prelude.{⊤, Result, Ok, Err}
+use Rattle.std.proofs.lemmas.Bool.Decides.{nat_tests}
+use Rattle.std.proofs.lemmas.Option.{same_Some}
+use Rattle.sound_terms.specs.Blocks.{block_count}
+use Rattle.work_terms.specs.Disk.{Files}
 use Rattle.job_terms.specs.Workers.{jobs_over}
-use Rattle.rendering.specs.declared.stretch.Stretch.{Stretch}
-use Rattle.devices.specs.Frame.{OnlyWrites}
-use Rattle.devices.specs.declared.bench.Bench as bench
-use Rattle.markfile.specs.Format.{AreFresh, fresh_marks, marks_name, sound_name}
-use Rattle.markfile.specs.Started.{LeavesStart}
-use Rattle.markfile.specs.Started as mark_file
-use Rattle.execution.specs.Marking.{AreLeftBy, HoldsIn, IsRunning, LaysBy, Marking, NoneStartedBy, is_marked, is_started}
-use Rattle.execution.specs.Plan.{AreBlank, IsLast, Stays}
-use Rattle.execution.specs.Worlds.{IsPlaced}
-use Rattle.execution.specs.declared.fault.PlaceFault.{PlaceFault}
-use Rattle.execution.specs.declared.fault.PlaceFault.TheVariants.{Mark, Write}
 use Rattle.markfile.specs.declared.run.RunId.{RunId}
-use Rattle.rendering.specs.Maker.{HasSoundJobs, IsReopened, marks_of, plan_of}
-use Rattle.rendering.specs.MakerLaws.{some_job, started_as}
-use Rattle.rendering.specs.Marked.{IsRunOf, MarkedWork, laid_file, padded}
-use Rattle.rendering.specs.Placed.{HasPlaced}
-use Rattle.rendering.specs.Work.{IsRenderWork, RenderWork, bytes_for, heard, no_stretch, stretch_at, work_of}
-use Rattle.rendering.specs.Written.{frames_before}
-use Rattle.rendering.proofs.BlockMarks.{names_apart}
-use Rattle.rendering.proofs.Frames.{length-frames_of}
-use Rattle.rendering.proofs.Parts.{are_apart, are_parts, bytes_product, laid_filled, zero_at}
-use Rattle.rendering.proofs.Resuming.{apart, laid_holds, same_run, stays_beside}
+use Rattle.markfile.specs.Format.{head_of, marks_name}
+use Rattle.markfile.specs.Opened.{AreFound, AreSettled}
+use Rattle.execution.specs.Filled.{AreFilled}
+use Rattle.execution.specs.Marking.{AreLeftBy, IsRunning, Marking, is_started}
+use Rattle.clipping.specs.declared.tally.Clips.{Clips}
+use Rattle.devices.specs.Frame.{OnlyWrites}
+use Rattle.devices.specs.declared.bench.Bench.{Ghosts}
+use Rattle.execution.specs.Plan.{Stays}
+use Rattle.execution.specs.declared.fault.PlaceFault.{PlaceFault}
+use Rattle.execution.specs.declared.fault.PlaceFault.TheVariants.{Mark}
+use Rattle.rendering.specs.declared.stretch.Stretch.{Stretch}
+use Rattle.rendering.specs.Cut.{IsUniform}
+use Rattle.rendering.specs.CutLaws.{cut-covers}
+use Rattle.rendering.specs.Maker.{marks_of, HasSoundJobs, IsReopened, plan_of}
+use Rattle.rendering.specs.Marked.{IsRunOf, MarkedWork, IsOther}
+use Rattle.rendering.specs.Work.{IsRenderWork, RenderWork, done_before, no_stretch, whole_of, work_of}
+use Rattle.rendering.specs.MakerLaws.{some_job}
+use Rattle.rendering.proofs.Jobs.{job_own, are_apart, are_parts, job_sized, stretch_inside}
+use Rattle.rendering.proofs.Calls.{writes_as}
 
 -- ---- its jobs
 
-job_sized : (work : RenderWork) (sources : Files) (k : ℕ)
-    → length ((work_of work).bytes sources k) ≡ (work_of work).size k
-job_sized work sources k =
-    let range = work.planned.range in
-    let s = stretch_at work.stretches k in
-    let n = frames_before range s.end - frames_before range s.first in
-    length-frames_of (bits_of range.depth) range.channels (block_start range s.first) n
-    (heard work.planned work.sounds sources) ∙ bytes_product n range.channels (bits_of range.depth / 8)
-
+-- each has as many bytes as are counted, a part of the file, apart from the others
 pub sound_jobs : (marked : MarkedWork) → IsRenderWork marked.work → HasSoundJobs marked
 sound_jobs marked is = record {
-  fit = λ sources. record {
-    sized = λ k below. job_sized marked.work sources k;
-    parts = λ k below. let part = are_parts marked.work sources is k below in
-        record { inside = part.inside; part = part.part };
-  };
+  fit = λ sources.
+      record { sized = λ k below. job_sized marked.work sources is k; parts = are_parts marked.work sources is };
   apart = λ sources. are_apart marked.work sources is;
 }
 
+-- the run is the same, however its blocks are cut
+pub same_run : {work : RenderWork} {run : RunId} (stretches : List Stretch) → IsRunOf work run
+    → IsRunOf (record work { stretches = stretches }) run
+same_run stretches of = record { blocks = of.blocks; size = of.size }
+
 -- its blocks are cut anew
-pub reopened_as : (was is : RenderWork) (run : RunId) (noted clips : List Clips) → IsRunOf was run
-    → is.planned ≡ was.planned → is.sounds ≡ was.sounds → IsRenderWork is
-    → IsReopened (record { work = was; run = run; clips = noted }) (record { work = is; run = run; clips = clips })
-reopened_as was is run noted clips of planned sounds whole = record {
-  planned = planned;
-  sounds = sounds;
+pub reopened_as : {work : RenderWork} {run : RunId} {noted clips : List Clips} {stretches : List Stretch}
+    → IsRunOf work run → IsRenderWork (record work { stretches = stretches })
+    → IsReopened (record { work = work; run = run; clips = noted })
+    (record { work = record work { stretches = stretches }; run = run; clips = clips })
+reopened_as {work} {run} {noted} {clips} {stretches} of whole = record {
+  planned = refl;
+  sounds = refl;
   run = refl;
-  whole = record { work = whole; run = same_run was is run planned of };
-  jobs = sound_jobs (record { work = is; run = run; clips = clips }) whole;
+  whole = record { work = whole; run = same_run stretches of };
+  jobs = sound_jobs (record { work = record work { stretches = stretches }; run = run; clips = clips }) whole;
 }
 
 -- ---- its files
 
 -- a file that stays is neither of the two
-pub stays_apart : (marked : MarkedWork) (n : List ℕ) → IsRenderWork marked.work → Stays (plan_of marked) n
-    → (n ≢ sound_name) × (n ≢ marks_name)
-stays_apart marked n is stays = (
-  λ e. stays.jobs 0 (some_job marked.work is) (sym e),
-  λ e. stays.marks (λ _. Option.None) (marks_of marked (λ _. Option.None)) refl (sym e),
+pub stays_apart : (work : RenderWork) (run : RunId) → IsRenderWork work → (n : List ℕ)
+    → Stays (plan_of (record { work = work; run = run; clips = [] })) n → IsOther n
+stays_apart work run is n stays = (
+  λ e. stays.jobs 0 (some_job work is) (sym e),
+  λ e. stays.marks (λ _. None) (marks_of (record { work = work; run = run; clips = [] }) (λ _. None)) refl (sym e),
 )
 
--- no output comes last
-pub none_last : (marked : MarkedWork) (i : ℕ) → IsLast (plan_of marked) i → ⊥
-none_last marked i last = omega (arith, last.0, last.1)
+-- a call that places a job writes the two
+pub places_as : {B : Type 0} (g : Ghosts B) (marked : MarkedWork) (result : Result ⊤ PlaceFault) {old new : B}
+    → IsRenderWork marked.work
+    → OnlyWrites g IsOther old new result (λ _. ⊤) (λ fault failed. fault ≡ Mark → failed marks_name)
+    → OnlyWrites g (Stays (plan_of marked)) old new result (λ _. ⊤)
+    (λ fault failed. fault ≡ Mark → (sources : Files) (m : Marking) → (plan_of marked).marking sources ≡ Some m
+    → failed m.marks)
+places_as g marked (Ok x) is w = writes_as g (stays_apart marked.work marked.run is) tt w
+places_as g marked (Err fault) {new = new} is w = writes_as g (stays_apart marked.work marked.run is)
+    (λ device at sources m e. rw (← same_Some (marks_of marked sources) m e) (w.failed_there device at)) w
 
--- a call that writes one of them
-module _ {B : Type 0} (g : bench.Ghosts B) where
-  pub writes_as : (P Q : List ℕ → Type 0) → ((n : List ℕ) → Q n → P n) → {old new : B}
-      {quiet device failed other : Type 0} → other
-      → HasWritten g.stored g.honest g.failures g.failed_at g.may_leave P old new quiet device failed
-      → HasWritten g.stored g.honest g.failures g.failed_at g.may_leave Q old new quiet device other
-  writes_as P Q few failed w = record {
-    others = λ h n s. w.others h n (few n s);
-    durable = λ h n s was. w.durable h n (few n s) was;
-    honest_same = w.honest_same;
-    cause = w.cause;
-    keeps = w.keeps;
-    failed_there = failed;
+-- ---- marks that it finds
+
+-- whole marks are started
+started_by : (marks rest : List ℕ) → take 44 marks ≡ 1 ∷ rest → 44 ≤ length marks → is_started (Some marks) ≡ true
+started_by marks rest front long =
+    let gate : get_or marks 0 0 ≡ 1 = sym (get_or-take 44 marks 0 0 (omega arith)) ∙ ap (λ x. get_or x 0 0) front in
+    grind (arith, nat_tests, gate, long)
+
+-- the file is filled as far as the jobs are done whose marks are set
+pub filled_running : (marked : MarkedWork) (sources : Files) → IsRenderWork marked.work → IsRunOf marked.work marked.run
+    → {done : ℕ → Bool} {o : Files → Type 0} {files : Files} → IsRunning (marks_of marked sources) done o → o files
+    → AreFilled (jobs_over (work_of marked.work) sources) (λ _. whole_of marked.work sources) done files
+filled_running marked sources is run {files = files} runs now = record {
+  each = λ j below. let sound = runs.wave files now in record {
+    bytes = sound.bytes;
+    there = sound.there;
+    size = sound.holds.size;
+    same = λ i fixed. sound.holds.same i (λ b few from to.
+        let job = cut-covers marked.work.stretches 0 (block_count marked.work.planned.range) b no_stretch is.cut
+        (omega arith) (omega (arith, few, run.blocks)) in
+        let own = job_own marked.work sources is job.place b job.there job.behind_first job.before_end in
+        runs.tell job.place b job.there job.behind_first job.before_end
+        ∙ fixed job.place job.there refl (omega (arith, own.0, from)) (omega (arith, own.1, to)));
+  };
+}
+
+-- marks that were found, and stretches into which they cut the blocks
+module _ {work : RenderWork} {stretches : List Stretch} {run : RunId} (sources : Files)
+    (whole : IsRenderWork (record work { stretches = stretches })) (of : IsRunOf work run) where
+  abbrev before : Marking
+  before = marks_of (record { work = work; run = run; clips = [] }) sources
+
+  abbrev now : Marking
+  now = marks_of (record { work = record work { stretches = stretches }; run = run; clips = [] }) sources
+
+  -- the jobs whose blocks are marked are done
+  pub goes_on_running : {old new : Files → Type 0} {files : Files} {told : List Bool} → AreFound run files told
+      → AreLeftBy (Some before) old → ((c : Files) → new c → old c) → ((c : Files) → new c → AreSettled files c)
+      → All (IsUniform told) stretches → (done : ℕ → Bool)
+      → ((k : ℕ) → k < length stretches → done k ≡ done_before (record work { stretches = stretches }) k)
+      → IsRunning now done new
+  goes_on_running {old} {new} found left back settled uniform done agrees = record {
+    marks = found.marks;
+    ours = record { front = found.ours.front; size = found.ours.size };
+    tell = λ job b lt from to.
+        let inside = stretch_inside (record work { stretches = stretches }) whole job lt in
+        sym (found.each b (omega (arith, to, inside.there, of.blocks))) ∙ uniform job no_stretch lt b from to
+        ∙ sym (agrees job lt);
+    kept = kept;
+    wave = λ c at.
+        let is = left c c (back c at) (back c at) (ap is_started (kept c at)
+        ∙ started_by found.marks (head_of run) found.ours.front (omega (arith, found.ours.size))) in
+        let h = rw (same_Some is.marks found.marks (sym is.there ∙ kept c at)) at is.sound in
+        record { bytes = h.bytes; there = h.there; holds = record { size = h.holds.size; same = h.holds.same } };
   }
-
-  -- or reads it, and lets fewer outcomes be
-  pub reads_as : (Q : List ℕ → Type 0) → {old new : B} {quiet device failed other : Type 0} → other
-      → ((c : Files) → g.may_leave new c → g.may_leave old c)
-      → HasRead g.stored g.honest g.failures g.failed_at old new quiet device failed
-      → HasWritten g.stored g.honest g.failures g.failed_at g.may_leave Q old new quiet device other
-  reads_as Q failed crash r = record {
-    others = λ h n s. ap (λ (files : Files). files n) r.same;
-    durable = λ h n s was c at. was c (crash c at) ∙ sym (ap (λ (files : Files). files n) r.same);
-    honest_same = r.honest_same;
-    cause = r.cause;
-    keeps = r.keeps;
-    failed_there = failed;
-  }
-
--- ---- a job is placed
-
--- the rendered file alone changes, at the job's place
-pub placed_as : (marked : MarkedWork) (k at : ℕ) (bytes : List ℕ) (old new : Files) (result : Result ⊤ PlaceFault)
-    → at ≡ (work_of marked.work).at k → HasPlaced at bytes (old sound_name) (new sound_name) result
-    → IsPlaced (plan_of marked).jobs (plan_of marked).marks k bytes old new result
-placed_as marked k at bytes old new (Ok x) is placed =
-    record {
-      here = subst (λ (n : ℕ). HasPlaced {X = ⊤} n bytes (old sound_name) (new sound_name) (Ok x)) is placed;
-      others = λ j ne. absurd (ne refl);
-    }
-placed_as marked k at bytes old new (Err Write) is placed =
-    record {
-      here = subst (λ (n : ℕ). HasPlaced {X = ⊤} n bytes (old sound_name) (new sound_name) (Err Write)) is placed;
-      others = λ j ne. absurd (ne refl);
-    }
-placed_as marked k at bytes old new (Err Mark) is placed = (
-  refl,
-  record {
-    here = subst (λ (n : ℕ). HasPlaced {X = ⊤} n bytes (old sound_name) (new sound_name) (Err Mark)) is placed;
-    others = λ j ne. absurd (ne refl);
-  },
-)
-
--- ---- the file is laid out
-
-same_bytes : (a b : List ℕ) → Some a ≡ Some b → a ≡ b
-same_bytes a b e = cc
-
-pub laid_blank : (marked : MarkedWork) (sources files : Files) → IsRenderWork marked.work
-    → files sound_name ≡ Some (laid_file marked.work.planned.range)
-    → AreBlank (jobs_over (plan_of marked).jobs sources) ((plan_of marked).whole sources) files
-laid_blank marked sources files is there =
-    let range = marked.work.planned.range in
-    let head = header_of (render_info range) in
-    let size = bytes_for range (range.to - range.from) in
-    let filled = laid_filled marked.work sources files size is refl there in
-    record {
-      each = λ j below. let file = filled.each j below in record {
-        bytes = file.bytes;
-        there = file.there;
-        size = file.size;
-        outside = λ i out. file.same i (λ k lt named from to. absurd (out k lt named from to));
-        zero_within = λ i k lt named from to.
-            let past : length head ≤ i = omega (arith, from) in
-            ap (λ (x : List ℕ). get_or x i 0) (same_bytes file.bytes (laid_file range) (sym file.there ∙ there))
-            ∙ get_or-append_right head (zeros (padded size)) (length head) i 0 refl past
-            ∙ zero_at (padded size) (i - length head);
-      };
-    }
-
--- ---- and its marks are begun
-
-module _ (marked : MarkedWork) (sources : Files) (is : IsRenderWork marked.work) (run : IsRunOf marked.work marked.run)
-    (fresh : AreFresh marked.run (fresh_marks marked.run)) (files : Files)
-    (there : files sound_name ≡ Some (laid_file marked.work.planned.range)) where
-  abbrev m : Marking
-  m = marks_of marked sources
-
-  sound_left : (c : Files) → c sound_name ≡ files sound_name
-      → HoldsIn m (is_marked (fresh_marks marked.run)) (c sound_name)
-  sound_left c same =
-      let range = marked.work.planned.range in
-      let filled = laid_filled marked.work sources files (bytes_for range (range.to - range.from)) is refl there in
-      subst (HoldsIn m (is_marked (fresh_marks marked.run))) (sym same)
-      (laid_holds marked sources is run files (is_marked (fresh_marks marked.run)) fresh.unmarked filled)
-
-  pub begins_running : (done : ℕ → Bool) (o : Files → Type 0) → IsDurable sound_name files o
-      → ((c : Files) → o c → c marks_name ≡ Some (fresh_marks marked.run))
-      → ((k : ℕ) → k < length marked.work.stretches → done k ≡ false) → IsRunning m done o
-  begins_running done o durable lasts none = record {
-    marks = fresh_marks marked.run;
-    ours = record { front = fresh.ours.front; size = fresh.ours.size };
-    tell = λ job b lt from to. fresh.unmarked b ∙ sym (none job lt);
-    kept = lasts;
-    wave = λ c left. sound_left c (durable c left);
-  }
-
-  module _ (mid : Files → Type 0) (durable : IsDurable sound_name files mid) where
-    sound_still : (c : Files) → LeavesStart marked.run mid c
-        → HoldsIn m (is_marked (fresh_marks marked.run)) (c sound_name)
-    sound_still c left = let was = stays_beside mid marks_name sound_name c names_apart left.beside in
-        sound_left c (was.2 ∙ durable was.0 was.1)
-
-    begun : (c : Files) → LeavesStart marked.run mid c → is_started (c marks_name) ≡ true
-        → c marks_name ≡ Some (fresh_marks marked.run)
-    begun c left started = left.fresh (sym (started_as (c marks_name)) ∙ started)
-
-    -- marks that are started have none set
-    pub begins_lay : (c : Files) → LeavesStart marked.run mid c → LaysBy (Some m) c
-    begins_lay c left started = record {
-      marks = fresh_marks marked.run;
-      there = begun c left started;
-      ours = record { front = fresh.ours.front; size = fresh.ours.size };
-      still = λ job b lt from to on. absurd (apart (sym on));
-      only = λ job b lt from to on. absurd (apart (sym on ∙ fresh.unmarked b));
-      wave = sound_still c left;
-    }
-
-    -- and are true of each outcome
-    pub begins_left : (now : Files → Type 0) → ((c : Files) → now c → LeavesStart marked.run mid c)
-        → AreLeftBy (Some m) now
-    begins_left now each c d at other started = record {
-      marks = fresh_marks marked.run;
-      there = begun c (each c at) started;
-      ours = record { front = fresh.ours.front; size = fresh.ours.size };
-      sound = sound_still d (each d other);
-    }
-
--- marks that aren't started stay so while the rendered file is written
-pub beside_lays : (marked : MarkedWork) (sources : Files) (old : Files → Type 0) (c : Files)
-    → NoneStartedBy (Some (marks_of marked sources)) old → IsBeside old sound_name c
-    → is_started (c marks_name) ≡ false
-beside_lays marked sources old c none beside =
-    let d = stays_beside old sound_name marks_name c (λ e. names_apart (sym e)) beside in
-    ap is_started d.2 ∙ none d.0 d.1
-
-pub none_lays : (marked : MarkedWork) (sources : Files) (old : Files → Type 0)
-    → NoneStartedBy (Some (marks_of marked sources)) old → (c : Files) → IsBeside old sound_name c
-    → LaysBy (Some (marks_of marked sources)) c
-none_lays marked sources old none c beside started =
-    absurd (apart (sym started ∙ beside_lays marked sources old c none beside))
-
-pub none_left : (marked : MarkedWork) (sources : Files) (old now : Files → Type 0)
-    → NoneStartedBy (Some (marks_of marked sources)) old → ((c : Files) → now c → IsBeside old sound_name c)
-    → AreLeftBy (Some (marks_of marked sources)) now
-none_left marked sources old now none each c d at other started =
-    absurd (apart (sym started ∙ beside_lays marked sources old c none (each c at)))
-
--- as the marks' own crate says it
-pub none_begun : (marked : MarkedWork) (sources : Files) (old : Files → Type 0)
-    → NoneStartedBy (Some (marks_of marked sources)) old → (now : Files → Type 0)
-    → ((c : Files) → now c → IsBeside old sound_name c) → mark_file.NoneStarted now
-none_begun marked sources old none now each c at =
-    sym (started_as (c marks_name)) ∙ beside_lays marked sources old c none (each c at)
-
--- ---- which jobs are done
-
-pub done_at : (stretches : List Stretch) (k : ℕ) → k < length (map (λ (s : Stretch). s.done) stretches)
-    → get_or (map (λ (s : Stretch). s.done) stretches) k false ≡ (stretch_at stretches k).done
-done_at stretches k below = get_or-map (λ (s : Stretch). s.done) stretches k no_stretch false
-    (omega (arith, below, length-map stretches (λ (s : Stretch). s.done)))
-
--- ---- a job is placed
-
-pub same_marking : (a b : Marking) → Some a ≡ Some b → a ≡ b
-same_marking a b e = cc
-
-module _ {B : Type 0} (g : bench.Ghosts B) where
-  -- a job is placed
-  pub places_as : (marked : MarkedWork) (result : Result ⊤ PlaceFault) {old new : B} → IsRenderWork marked.work
-      → OnlyWrites g (λ n. (n ≢ sound_name) × (n ≢ marks_name)) old new result (λ _. ⊤)
-      (λ fault failed. fault ≡ Mark → failed marks_name)
-      → OnlyWrites g (Stays (plan_of marked)) old new result (λ _. ⊤)
-      (λ fault failed. fault ≡ Mark → (sources : Files) (m : Marking) → (plan_of marked).marking sources ≡ Some m
-      → failed m.marks)
-  places_as marked (Ok x) is w = writes_as g (λ n. (n ≢ sound_name) × (n ≢ marks_name)) (Stays (plan_of marked))
-      (λ n stays. stays_apart marked n is stays) tt w
-  places_as marked (Err fault) {new = new} is w = writes_as g (λ n. (n ≢ sound_name) × (n ≢ marks_name))
-      (Stays (plan_of marked)) (λ n stays. stays_apart marked n is stays)
-      (λ device at sources m e. subst (λ (x : Marking). g.failed_at new x.marks)
-      (same_marking (marks_of marked sources) m e) (w.failed_there device at)) w
+    where
+      kept : (c : Files) → new c → c marks_name ≡ Some found.marks
+      kept c at = rw found.there at (settled c at).marks

@@ -1,5 +1,5 @@
 -- Laws of what is clipped.
-use Rattle.std.proofs.Common.{◌≡◌, ◌∙◌, ℕ, ◌+◌, ◌-◌, ◌/◌, ◌<◌, Bool, false, List, [], length, ap, subst, sym, arith}
+use Rattle.std.proofs.Common.{◌≡◌, ◌∙◌, ℕ, ◌+◌, ◌-◌, ◌/◌, Bool, false, List, [], ap, subst, sym, arith}
 use Rattle.std.proofs.lemmas.List.Elements.{All-from_get_or}
 use Rattle.std.specs.Prelude.{ℤ, pos, slice_index_or, if◌then◌else◌}
 use Rattle.std.specs.List.{All}

@@ -13,10 +13,6 @@ use Rattle.devices.specs.Frame.{OnlyWrites}
 abbrev pub block_bytes : Range → (ℕ → ℕ → ℤ) → ℕ → List ℕ
 block_bytes range mix k = flat_map (sample_bytes (bits_of range.depth)) (mixed_block range mix k)
 
--- the bytes of the first n frames
-abbrev pub first_frames : Range → (ℕ → ℕ → ℤ) → ℕ → List ℕ
-first_frames range mix n = frames_of (bits_of range.depth) mix range.channels range.from n
-
 -- the frames before block k
 abbrev pub frames_before : Range → ℕ → ℕ
 frames_before range k = min (k * block_length) (range.to - range.from)

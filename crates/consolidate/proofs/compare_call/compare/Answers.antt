@@ -1,21 +1,19 @@
-use Rattle.std.proofs.Common.{Bool, IsTrue, Ok, Err, sym, subst, arith, rules}
-use Rattle.work_terms.specs.Disk.{Files}
-use Rattle.list_terms.specs.Heard.{project_fault, project_mix, sounds_of}
-use Rattle.list_terms.specs.Text.{text_value}
+use Rattle.std.proofs.Common.{Ok, Err, rules}
+use Rattle.list_terms.specs.Heard.{project_fault, sounds_of}
 use Rattle.comparison.specs.Range.{compared_in}
-use Rattle.comparison.specs.Whole.{IsComparison}
+use Rattle.consolidate.specs.CompareFault.{IsFirst, IsOwn}
 use Rattle.consolidate.proofs.Listed.{same_spelt}
-use Rattle.consolidate.proofs.Reported as reported
-use Rattle.consolidate.proofs.Reported.{answers_first, answers_range, answers_second, empty_alike, holds_first, holds_second, is_first, is_second, no_fault, some_compared, was_first, was_second}
-use Rattle.consolidate.proofs.Stores.{read_behind}
+use Rattle.consolidate.proofs.Reported.{answers_first, answers_range, answers_second, empty_alike, first_of_sums, first_read, for_first, for_second, no_fault, own_of_sums, second_read, some_compared}
+use Rattle.consolidate.proofs.Stores.{read_as, read_behind}
 use Rattle.consolidate.proofs.compare_call.compare.Goals as goal
 
 pub returns-in-Err-compare_projects : goal.returns-in-Err-compare_projects
 returns-in-Err-compare_projects g c =
-    let one = c.in-Ok.opened.checked in
-    let two = c.in-Ok-open_list.opened.checked in
-    let sounds = sounds_of one.bound in
-    let others = sounds_of two.bound in
+    let one = c.in-Ok.ensures in
+    let two = c.in-Ok-open_list.ensures in
+    let refused = c.in-Err-compare_projects.ensures in
+    let sounds = sounds_of c.in-Ok.opened.checked.bound in
+    let others = sounds_of c.in-Ok-open_list.opened.checked.bound in
     let files = g.S.Shelf.stored c.args.first_shelf.now in
     let stored = g.T.Shelf.stored c.args.second_shelf.now in
     let text = c.args.first_list.now in
@@ -26,63 +24,42 @@ returns-in-Err-compare_projects g c =
     let is = c.of_sums.ensures in
     record {
       compared = λ honest sure. tt;
-      first_refusals = λ honest. answers_first sounds others (project_fault text files)
-          (c.in-Ok.ensures.refusals honest) fault told is;
-      second_refusals = λ sure. answers_second sounds others (project_fault other stored)
-          (c.in-Ok-open_list.ensures.refusals sure) fault told is;
+      first_refusals = λ honest.
+          answers_first sounds others (project_fault text files) (one.refusals honest) fault told is;
+      second_refusals = λ sure.
+          answers_second sounds others (project_fault other stored) (two.refusals sure) fault told is;
       range = λ project next spelt next_spelt.
-          let same = same_spelt one.project project (text_value text) c.in-Ok.ensures.spelt spelt in
-          let next_same = same_spelt two.project next (text_value other) c.in-Ok-open_list.ensures.spelt next_spelt in
           answers_range sounds others (compared_in chosen project.events next.events) fault told is
-          (empty_alike chosen one.project project two.project next (Err fault) same next_same
-          c.in-Err-compare_projects.ensures.empty);
-      bad_first_text = λ refusal bad. absurd (no_fault one.project refusal (text_value text) c.in-Ok.ensures.spelt bad);
-      bad_second_text = λ refusal bad.
-          absurd (no_fault two.project refusal (text_value other) c.in-Ok-open_list.ensures.spelt bad);
-      first_own = reported.first_own sounds others text fault told is;
-      second_own = reported.second_own sounds others other fault told is;
-      first_in_turn = λ honest. reported.first_in_turn sounds others text files fault told is;
-      second_in_turn = λ sure. reported.second_in_turn sounds others other stored fault told is;
-      first_read = read_behind g.S.Shelf _ _ _ c.in-Ok.ensures.only_reads c.in-Err-compare_projects.ensures.first_read
-          (λ none source. none (is_first sounds others fault told is source)) (was_first sounds others fault told is)
-          (λ there device. holds_first sounds others (g.S.Shelf.failed_at c.compare_projects.new.first_shelf) fault told
-          is (there (was_first sounds others fault told is device)));
-      second_read = read_behind g.T.Shelf _ _ _ c.in-Ok-open_list.ensures.only_reads
-          c.in-Err-compare_projects.ensures.second_read
-          (λ none source. none (is_second sounds others fault told is source)) (was_second sounds others fault told is)
-          (λ there device. holds_second sounds others (g.T.Shelf.failed_at c.compare_projects.new.second_shelf) fault told
-          is (there (was_second sounds others fault told is device)));
+          (empty_alike chosen (Err fault) (same_spelt one.spelt spelt) (same_spelt two.spelt next_spelt) refused.empty);
+      bad_first_text = λ refusal bad. absurd (no_fault one.spelt bad);
+      bad_second_text = λ refusal bad. absurd (no_fault two.spelt bad);
+      first_own = for_first sounds others (IsOwn text) (own_of_sums text) fault told is;
+      second_own = for_second sounds others (IsOwn other) (own_of_sums other) fault told is;
+      first_in_turn = λ honest. for_first sounds others (IsFirst text files) (first_of_sums text files) fault told is;
+      second_in_turn = λ sure.
+          for_second sounds others (IsFirst other stored) (first_of_sums other stored) fault told is;
+      first_read = read_behind one.only_reads (first_read sounds others g.S.Shelf _
+          c.compare_projects.new.first_shelf fault told is refused.first_read);
+      second_read = read_behind two.only_reads (second_read sounds others g.T.Shelf _
+          c.compare_projects.new.second_shelf fault told is refused.second_read);
     }
 
 pub returns-in-Err-open_list : goal.returns-in-Err-open_list
 returns-in-Err-open_list g c =
-    let one = c.in-Ok.opened.checked in
+    let one = c.in-Ok.ensures in
     let refused = c.in-Err-open_list.ensures in
-    let opened = c.in-Ok.ensures.only_reads in
-    let quiet = opened.cause.left tt in
     record {
       compared = λ honest sure. tt;
-      first_refusals = λ honest. c.in-Ok.ensures.refusals honest;
-      second_refusals = λ sure. refused.refusals sure;
+      first_refusals = one.refusals;
+      second_refusals = refused.refusals;
       range = λ project next spelt next_spelt of. absurd of;
-      bad_first_text = λ refusal bad.
-          absurd (no_fault one.project refusal (text_value c.args.first_list.now) c.in-Ok.ensures.spelt bad);
+      bad_first_text = λ refusal bad. absurd (no_fault one.spelt bad);
       bad_second_text = λ refusal bad. (refused.bad_text refusal bad).0;
       first_own = tt;
       second_own = refused.own;
       first_in_turn = λ honest. tt;
-      second_in_turn = λ sure. refused.in_turn sure;
-      first_read = record {
-        same = opened.same;
-        honest_same = opened.honest_same;
-        cause = record {
-          later = omega (arith, quiet);
-          left = λ none. quiet;
-          rose = λ device few. absurd device;
-        };
-        keeps = λ n failed. opened.keeps n failed;
-        failed_there = λ device. absurd device;
-      };
+      second_in_turn = refused.in_turn;
+      first_read = read_as (λ quiet. tt) (λ device. device) (λ failed device. absurd device) one.only_reads;
       second_read = refused.only_reads;
     }
 
@@ -90,54 +67,40 @@ pub returns-in-Ok-compare_projects : goal.returns-in-Ok-compare_projects
 returns-in-Ok-compare_projects g c =
     let one = c.in-Ok.opened.checked in
     let two = c.in-Ok-open_list.opened.checked in
-    let stored = g.T.Shelf.stored c.args.second_shelf.now in
-    let text = c.args.first_list.now in
-    let other = c.args.second_list.now in
-    let chosen = c.args.selection.now in
+    let first = c.in-Ok.ensures in
+    let second = c.in-Ok-open_list.ensures in
+    let told = c.in-Ok-compare_projects.ensures in
     let comparison = c.in-Ok-compare_projects.comparison in
-    let opened = c.in-Ok.ensures.only_reads in
-    let stocked = c.in-Ok-open_list.ensures.only_reads in
     record {
       compared = λ honest sure. record {
         project = one.project;
         binding = one.bound;
-        spelled = c.in-Ok.ensures.spelled;
-        accepted = c.in-Ok.ensures.accepted honest;
+        spelled = first.spelled;
+        accepted = first.accepted honest;
         other_project = two.project;
         other_binding = two.bound;
-        other_spelled = c.in-Ok-open_list.ensures.spelled;
-        other_accepted = c.in-Ok-open_list.ensures.accepted sure;
-        compared =
-            let found = c.in-Ok-compare_projects.ensures.compared
-            (subst (λ (b : Bool). IsTrue b) (sym opened.honest_same) honest)
-            (subst (λ (b : Bool). IsTrue b) (sym stocked.honest_same) sure) in
-            subst (λ (files : Files). IsComparison chosen (project_mix files one.project one.bound)
-            (project_mix stored two.project two.bound) comparison) opened.same
-            (subst (λ (files : Files). IsComparison chosen
-            (project_mix (g.S.Shelf.stored c.open_list.new.shelf) one.project one.bound)
-            (project_mix files two.project two.bound) comparison) stocked.same found);
-        counted = c.in-Ok-compare_projects.ensures.counted;
+        other_spelled = second.spelled;
+        other_accepted = second.accepted sure;
+        compared = rw (first.only_reads.same, second.only_reads.same) at
+            (told.compared (rw first.only_reads.honest_same honest) (rw second.only_reads.honest_same sure));
+        counted = told.counted;
         rate = search rules;
         separators = search rules;
-        notices = c.in-Ok.ensures.notices;
-        other_notices = c.in-Ok-open_list.ensures.notices;
+        notices = first.notices;
+        other_notices = second.notices;
       };
-      first_refusals = λ honest. c.in-Ok.ensures.refusals honest;
-      second_refusals = λ sure. c.in-Ok-open_list.ensures.refusals sure;
+      first_refusals = first.refusals;
+      second_refusals = second.refusals;
       range = λ project next spelt next_spelt.
-          let same = same_spelt one.project project (text_value text) c.in-Ok.ensures.spelt spelt in
-          let next_same = same_spelt two.project next (text_value other) c.in-Ok-open_list.ensures.spelt next_spelt in
-          some_compared (compared_in chosen project.events next.events) comparison
-          (empty_alike chosen one.project project two.project next (Ok comparison) same next_same
-          c.in-Ok-compare_projects.ensures.empty);
-      bad_first_text = λ refusal bad. absurd (no_fault one.project refusal (text_value text) c.in-Ok.ensures.spelt bad);
-      bad_second_text = λ refusal bad.
-          absurd (no_fault two.project refusal (text_value other) c.in-Ok-open_list.ensures.spelt bad);
+          some_compared (compared_in c.args.selection.now project.events next.events) comparison
+          (empty_alike c.args.selection.now (Ok comparison) (same_spelt first.spelt spelt)
+          (same_spelt second.spelt next_spelt) told.empty);
+      bad_first_text = λ refusal bad. absurd (no_fault first.spelt bad);
+      bad_second_text = λ refusal bad. absurd (no_fault second.spelt bad);
       first_own = tt;
       second_own = tt;
       first_in_turn = λ honest. tt;
       second_in_turn = λ sure. tt;
-      first_read = read_behind g.S.Shelf _ _ _ opened c.in-Ok-compare_projects.ensures.first_read (λ q. q) (λ d. d) (λ f. f);
-      second_read = read_behind g.T.Shelf _ _ _ stocked c.in-Ok-compare_projects.ensures.second_read (λ q. q) (λ d. d)
-          (λ f. f);
+      first_read = read_behind first.only_reads told.first_read;
+      second_read = read_behind second.only_reads told.second_read;
     }

@@ -1,8 +1,9 @@
 use Rattle.std.proofs.Common.{[], rules}
 use Rattle.std.proofs.lemmas.Result.{err_from_is_err_and}
+use Rattle.consolidate.specs.Own.{IsOfRendering}
 use Rattle.consolidate.specs.RenderOutcome.{in_rounds}
-use Rattle.consolidate.proofs.Answered.{anew_done, anew_failed, anew_unopened, clips_list, rendering_own}
-use Rattle.consolidate.proofs.First.{rendered_first}
+use Rattle.consolidate.proofs.Answered.{anew_done, anew_failed, anew_unopened, clips_list}
+use Rattle.consolidate.proofs.Own.{comes_first, own_of}
 use Rattle.consolidate.proofs.render_call.render_watched.Goals as goal
 
 pub returns-in_err-checked-clause-renders : goal.returns-in_err-checked-clause-renders
@@ -11,9 +12,8 @@ returns-in_err-checked-clause-renders g c =
     let fault = c.in_err-checked.field-0.0 in
     let told = c.in_err-checked.ensures in
     rw (p.1, p.2) (record {
-      answer = anew_unopened g.S.Shelf g.B.Bench _ _ _ _ c.args.list.now c.args.choice.now in_rounds c.args.shelf.now
-          c.open.new.shelf c.args.bench.now fault (g.met.B.Bench.only_now c.args.bench.now) told
-          (rendering_own c.args.list.now fault told.own);
+      answer = anew_unopened g.S.Shelf g.B.Bench _ _ _ _ c.args.list.now c.args.choice.now in_rounds fault
+          (g.met.B.Bench.only_now c.args.bench.now) told (own_of IsOfRendering (λ any of own. own) fault told.own);
       report = tt;
     })
 
@@ -22,9 +22,8 @@ returns-in_err-made-clause-renders g c =
     let p = err_from_is_err_and c.from_residual-in_err-made.result c.from_residual-in_err-made.ensures.1 in
     let told = c.in_err-made.ensures in
     rw (p.1, p.2) (record {
-      answer = anew_failed g.S.Shelf g.B.Bench _ _ _ _ c.args.list.now c.args.choice.now in_rounds c.args.shelf.now
-          c.open.new.shelf c.render_checked.new.shelf c.args.bench.now c.render_checked.new.bench c.in_ok-checked.field-0
-          c.in_ok-checked.ensures c.in_err-made.field-0.0 told.does told.refusals told.own rendered_first;
+      answer = anew_failed g.S.Shelf g.B.Bench _ _ _ _ c.args.list.now c.args.choice.now in_rounds
+          c.in_ok-checked.ensures told.does told.refusals told.own (comes_first IsOfRendering (λ any of own. own));
       report = tt;
     })
 
@@ -34,9 +33,8 @@ returns-clause-renders g c =
     let told = c.in_ok-made.ensures in
     let checked = c.in_ok-checked.field-0.checked in
     record {
-      answer = anew_done g.S.Shelf g.B.Bench _ _ _ _ c.args.list.now c.args.choice.now in_rounds c.args.shelf.now
-          c.open.new.shelf c.render_checked.new.shelf c.args.bench.now c.render_checked.new.bench c.in_ok-checked.field-0
-          opened _ _ told.does (λ done. told.finished) told.finished
+      answer = anew_done g.S.Shelf g.B.Bench _ _ _ _ c.args.list.now c.args.choice.now in_rounds opened told.does
+          (λ done. told.finished) told.finished
           (λ honest file. record {
             project = checked.project;
             binding = checked.bound;
@@ -50,5 +48,5 @@ returns-clause-renders g c =
     }
 
 pub returns-clause-clips : goal.returns-clause-clips
-returns-clause-clips g c = clips_list g.S.Shelf c.args.list.now c.args.choice.now c.args.shelf.now c.open.new.shelf
-    c.in_ok-checked.field-0 c.in_ok-checked.ensures (λ _. []) _ c.in_ok-made.ensures.clips
+returns-clause-clips g c = clips_list g.S.Shelf c.args.list.now c.args.choice.now c.in_ok-checked.ensures (λ _. []) _
+    c.in_ok-made.ensures.clips

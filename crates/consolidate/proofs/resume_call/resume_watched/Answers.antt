@@ -1,31 +1,24 @@
-use Rattle.std.proofs.Common.{◌∙◌, ◌-◌, ap}
 use Rattle.std.proofs.lemmas.Result.{err_from_is_err_and}
-use Rattle.list_terms.specs.Accepted.{range_of}
-use Rattle.list_terms.specs.Project.{ListProject}
 use Rattle.markfile.specs.Opened.{opened_of}
 use Rattle.rendering.specs.Clipping.{marked_in}
 use Rattle.rendering.specs.Marked.{run_of}
 use Rattle.rendering.specs.Rendering.{values_of}
-use Rattle.consolidate.specs.Marks.{HoldsMarked, count_in, list_marking}
+use Rattle.consolidate.specs.Marks.{list_marking}
 use Rattle.consolidate.proofs.Answered.{again_done, again_failed, again_keeps, again_unopened, clips_list}
-use Rattle.consolidate.proofs.Crashes.{idle}
-use Rattle.consolidate.proofs.Listed.{same_spelt}
-use Rattle.consolidate.proofs.Resumes.{left_holds}
+use Rattle.consolidate.proofs.Listed.{left_holds, same_spelt}
+use Rattle.consolidate.proofs.Stores.{idle}
 use Rattle.consolidate.proofs.resume_call.resume_watched.Goals as goal
 
 pub returns-in_err-checked-clause-resumes : goal.returns-in_err-checked-clause-resumes
 returns-in_err-checked-clause-resumes g c =
     let p = err_from_is_err_and c.from_residual.result c.from_residual.ensures.1 in
-    let values = values_of c.args.choice.now.options in
-    let sources = g.S.Shelf.stored c.args.shelf.now in
     rw (p.1, p.2) (record {
-      answer = again_unopened g.S.Shelf g.B.Bench c.args.list.now c.args.choice.now _ _ _ c.args.shelf.now c.open.new.shelf
-          c.args.bench.now c.in_err-checked.field-0.0 (g.met.B.Bench.only_now c.args.bench.now) c.in_err-checked.ensures;
+      answer = again_unopened g.S.Shelf g.B.Bench c.args.list.now c.args.choice.now _ _ _ c.in_err-checked.field-0.0
+          (g.met.B.Bench.only_now c.args.bench.now) c.in_err-checked.ensures;
       marked = λ right project is. tt;
-      keeps_marked = λ honest right left marks there started. idle g.B.Bench.moment g.B.Bench.left_since
-          c.args.bench.now (HoldsMarked c.args.list.now values sources marks)
-          (λ x at p b accepted. left_holds (list_marking c.args.list.now values sources p b)
-          (g.B.Bench.may_leave c.args.bench.now) (g.B.Bench.stored c.args.bench.now) marks (left p b accepted)
+      keeps_marked = λ honest right left marks there started.
+          idle (λ x at p b accepted. left_holds (list_marking c.args.list.now (values_of c.args.choice.now.options)
+          (g.S.Shelf.stored c.args.shelf.now) p b) (g.B.Bench.stored c.args.bench.now) (left p b accepted)
           (g.met.B.Bench.reads_now c.args.bench.now right) there started x
           (g.met.B.Bench.only_now c.args.bench.now x at));
       report = λ project is. tt;
@@ -36,13 +29,11 @@ returns-in_err-found-clause-resumes g c =
     let p = err_from_is_err_and c.from_residual-in_err-found.result c.from_residual-in_err-found.ensures.1 in
     let told = c.in_err-found.ensures in
     rw (p.1, p.2) (record {
-      answer = again_failed g.S.Shelf g.B.Bench c.args.list.now c.args.choice.now c.args.shelf.now c.open.new.shelf
-          c.resume_checked.new.shelf c.args.bench.now c.resume_checked.new.bench c.in_ok-checked.field-0
-          c.in_ok-checked.ensures _ _ _ c.in_err-found.field-0.0 told.does told.refusals told.own;
+      answer = again_failed g.S.Shelf g.B.Bench c.args.list.now c.args.choice.now c.in_ok-checked.ensures _ _ _
+          told.does told.refusals told.own;
       marked = λ right project is. tt;
       keeps_marked = λ honest right left marks. again_keeps g.S.Shelf g.B.Bench c.args.list.now c.args.choice.now
-          c.args.shelf.now c.open.new.shelf c.resume_checked.new.shelf c.args.bench.now c.resume_checked.new.bench
-          c.in_ok-checked.field-0 c.in_ok-checked.ensures marks (λ h r l. told.keeps h r l marks) honest right left;
+          c.args.bench.now c.in_ok-checked.ensures marks (λ h r l. told.keeps h r l marks) honest right left;
       report = λ project is. tt;
     })
 
@@ -51,11 +42,9 @@ returns-clause-resumes g c =
     let opened = c.in_ok-checked.ensures in
     let told = c.in_ok-found.ensures in
     let checked = c.in_ok-checked.field-0.checked in
-    let values = values_of c.args.choice.now.options in
     record {
-      answer = again_done g.S.Shelf g.B.Bench c.args.list.now c.args.choice.now c.args.shelf.now c.open.new.shelf
-          c.resume_checked.new.shelf c.args.bench.now c.resume_checked.new.bench c.in_ok-checked.field-0 opened _ _ _ _ _
-          told.does (λ done. told.finished) told.finished
+      answer = again_done g.S.Shelf g.B.Bench c.args.list.now c.args.choice.now opened _ _ _ told.does
+          (λ done. told.finished) told.finished
           (λ honest file. record {
             project = checked.project;
             binding = checked.bound;
@@ -65,19 +54,13 @@ returns-clause-resumes g c =
             notices = opened.notices;
           })
           told.refusals;
-      marked = λ right p is. told.marked right
-          ∙ ap (λ (q : ListProject). count_in (opened_of (run_of c.args.list.now (range_of q values))
-          (g.B.Bench.stored c.args.bench.now))) (same_spelt checked.project p _ opened.spelt is);
+      marked = λ right p is. rw (← same_spelt opened.spelt is) (told.marked right);
       keeps_marked = λ honest right left marks. again_keeps g.S.Shelf g.B.Bench c.args.list.now c.args.choice.now
-          c.args.shelf.now c.open.new.shelf c.resume_checked.new.shelf c.args.bench.now c.resume_checked.new.bench
-          c.in_ok-checked.field-0 opened marks (λ h r l. told.keeps h r l marks) honest right left;
-      report = λ p is. told.report
-          ∙ ap (λ (q : ListProject). (range_of q values).to - (range_of q values).from)
-          (same_spelt checked.project p _ opened.spelt is);
+          c.args.bench.now opened marks (λ h r l. told.keeps h r l marks) honest right left;
+      report = λ p is. rw (← same_spelt opened.spelt is) told.report;
     }
 
 pub returns-clause-clips : goal.returns-clause-clips
-returns-clause-clips g c honest right = clips_list g.S.Shelf c.args.list.now c.args.choice.now c.args.shelf.now
-    c.open.new.shelf c.in_ok-checked.field-0 c.in_ok-checked.ensures
+returns-clause-clips g c honest right = clips_list g.S.Shelf c.args.list.now c.args.choice.now c.in_ok-checked.ensures
     (λ range. marked_in (opened_of (run_of c.args.list.now range) (g.B.Bench.stored c.args.bench.now))) _
     (λ h. c.in_ok-found.ensures.clips h right) honest

@@ -1,14 +1,5 @@
-use Rattle.std.proofs.lemmas.List.Elements.{All-weaker}
-use Rattle.interval.specs.AtHome.{IsAtHome}
-use Rattle.consolidation.proofs.Linked.{have_channels}
+use Rattle.consolidation.proofs.CopiedReading.{have_channels}
 use Rattle.consolidation.proofs.plan_parts.text_over.Goals as goal
-
-pub relink_homed-requires-clause-at_home : goal.relink_homed-requires-clause-at_home
-relink_homed-requires-clause-at_home c = rw c.requires.1.homes
-    (All-weaker (IsAtHome _ _) _ (λ p is. is.at_home) _ c.requires.1.left.at_home)
-
-pub relink_homed-requires-clause-runs : goal.relink_homed-requires-clause-runs
-relink_homed-requires-clause-runs c = (c.requires.0, rw c.requires.1.homes c.requires.1.kept)
 
 pub returns-clause-linked : goal.returns-clause-linked
 returns-clause-linked c =

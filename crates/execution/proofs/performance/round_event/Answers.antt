@@ -1,6 +1,6 @@
-use Rattle.std.proofs.Common.{◌/◌, refl, sym, arith}
+use Rattle.std.proofs.Common.{◌≡◌, ◌/◌, ◌%◌, refl, sym, arith}
 use Rattle.job_terms.specs.declared.BoardEvent.TheVariants.{Deliver, Give, Work}
-use Rattle.execution.proofs.RoundEvents.{at-turn, third}
+use Rattle.execution.proofs.RoundEvents.{at-turn}
 use Rattle.execution.proofs.performance.round_event.Goals as goal
 
 pub returns-then-turn-eq0-clause-event : goal.returns-then-turn-eq0-clause-event
@@ -13,5 +13,5 @@ returns-then-turn-eq1-clause-event c n lt = sym (at-turn (Work 1) 1 (λ m. refl)
 
 pub returns-clause-event : goal.returns-clause-event
 returns-clause-event c n lt =
-    let two = third c.args.i c.if-turn-eq0.false c.if-turn-eq1.false in
+    let two : c.args.i % 3 ≡ 2 = omega (arith, c.if-turn-eq0.false, c.if-turn-eq1.false) in
     sym (at-turn (Deliver 1) 2 (λ m. refl) n (c.args.i / 3) c.args.i (omega (arith, two)) (omega (arith, two, lt)))

@@ -1,6 +1,4 @@
-use Rattle.std.proofs.Common.{◌≡◌, ◌*◌, ◌≤◌, ◌-◌, length}
-use Rattle.std.specs.List.{All}
-use Rattle.std.specs.Prelude.{min}
+use Rattle.std.proofs.Common.{◌≡◌, ◌*◌, ◌≤◌, ◌-◌, length, All, min}
 use Rattle.rendering.specs.Cut.{AreEven, IsCut, IsFresh, IsShort}
 use Rattle.rendering.proofs.job_length.fresh_stretches.Given as goal
 

@@ -1,5 +1,4 @@
-use Rattle.std.proofs.Common.{◌∙◌, ap, arith, length, refl}
-use Rattle.rendering.specs.declared.stretch.Stretch.{Stretch}
+use Rattle.std.proofs.Common.{◌∙◌, ap, arith, refl}
 use Rattle.rendering.proofs.Cuts.{cut-here, cut-on, cut-push}
 use Rattle.rendering.proofs.job_length.stretches_of.Goals as goal
 use Rattle.rendering.proofs.job_length.stretches_of.Goals.{then-ends_here+in_ok-push, else-ends_here}
@@ -8,14 +7,12 @@ pub loop-i-preserved : goal.loop-i-preserved
 loop-i-preserved c = elim c.if-ends_here.branch [
   | then-ends_here+in_ok-push w ↦
       rw (w.first-is, w.done-is, ap (λ v. v.items) w.stretches-is ∙ w.in_ok-push.ensures.items)
-      (cut-here _ _ _ _ _ _ c.loop-i.invariant c.requires.some (w.if-ends_here.ensures.some refl)
+      (cut-here c.loop-i.invariant c.requires.some (w.if-ends_here.ensures.some refl)
       (w.if-ends_here.ensures.full refl))
   | else-ends_here w ↦ rw (w.first-is, w.done-is, w.stretches-is)
-      (cut-on _ _ _ _ _ _ c.loop-i.invariant c.requires.some (w.if-ends_here.ensures.goes_on refl))
+      (cut-on c.loop-i.invariant c.requires.some (w.if-ends_here.ensures.goes_on refl))
 ]
 
 pub returns-clause-cut : goal.returns-clause-cut
-returns-clause-cut c =
-    let s : Stretch = record { first = c.loop-i.first; end = length c.args.marked.now; done = c.loop-i.done } in
-    rw c.in_ok-push-2.ensures.items
-    (cut-push c.loop-i.stretches.items 0 c.loop-i.first s c.loop-i.invariant.cut refl (omega arith))
+returns-clause-cut c = rw c.in_ok-push-2.ensures.items
+    (cut-push c.loop-i.stretches.items 0 c.loop-i.first _ c.loop-i.invariant.cut refl (omega arith))

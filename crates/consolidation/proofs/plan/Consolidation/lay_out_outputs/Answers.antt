@@ -1,6 +1,6 @@
 use Rattle.std.proofs.Common.{IsTrue, arith, rules}
 use Rattle.consolidation.specs.Planned.{IsMediaPlan}
-use Rattle.consolidation.proofs.Ended.{one_more_laid}
+use Rattle.consolidation.proofs.Blanks.{one_more_laid}
 use Rattle.consolidation.proofs.plan.Consolidation.lay_out_outputs.Goals as goal
 
 pub loop-position-preserved : goal.loop-position-preserved
@@ -14,6 +14,3 @@ loop-position-preserved g c =
           (c.in_ok-lay_out_output.ensures.laid now),
       omega (arith, c.loop-position.invariant.2, c.lay_out_output.ensures.later),
     )
-
-pub returns-clause-planned : goal.returns-clause-planned
-returns-clause-planned g c = rw (← c.self.view_is) c.self.invariant.0

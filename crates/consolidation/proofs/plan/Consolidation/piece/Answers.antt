@@ -4,9 +4,6 @@ use Rattle.consolidation.proofs.Jobwise.{job_number}
 use Rattle.consolidation.proofs.Wholes.{job_is_piece}
 use Rattle.consolidation.proofs.plan.Consolidation.piece.Goals as goal
 
-pub run_of-position-requires-clause-ends : goal.run_of-position-requires-clause-ends
-run_of-position-requires-clause-ends c = rw (c.as_slice-runs.ensures.lent, c.as_slice-ends.ensures.value) c.self.invariant.1
-
 pub piece_of-requires : goal.piece_of-requires
 piece_of-requires c =
     let is = c.run_of-position.ensures in

@@ -1,5 +1,5 @@
 use Rattle.std.proofs.lemmas.Result.{IfOk-weaker}
-use Rattle.consolidation.proofs.Blanks.{fits_planned}
+use Rattle.consolidation.proofs.Wholes.{fits_planned}
 use Rattle.consolidation.proofs.plan.Consolidation.plan.Goals as goal
 
 pub returns-clause-fits : goal.returns-clause-fits

@@ -1,7 +1,4 @@
 use Rattle.execution.proofs.calls.Execution.execute_events.Goals as goal
 
-pub returns : goal.returns
-returns g c = record {
-  executed = rw (← c.self.view_is) c.execute.ensures.executed;
-  notes = rw (← c.self.view_is) c.execute.ensures.notes;
-}
+pub returns-clause-executed : goal.returns-clause-executed
+returns-clause-executed g c = rw (← c.self.view_is) c.execute.ensures.executed

@@ -1,7 +1,4 @@
 use Rattle.execution.proofs.calls.Execution.resume_events.Goals as goal
 
-pub returns : goal.returns
-returns g c = record {
-  resumed = rw (← c.self.view_is) c.resume.ensures.resumed;
-  notes = rw (← c.self.view_is) c.resume.ensures.notes;
-}
+pub returns-clause-resumed : goal.returns-clause-resumed
+returns-clause-resumed g c = rw (← c.self.view_is) c.resume.ensures.resumed

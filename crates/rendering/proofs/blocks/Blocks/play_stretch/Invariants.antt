@@ -17,7 +17,8 @@ invariant-loop-next g l = record {
   sources : IsQuiet g.S.Shelf l.initial.shelf l.shelf;
   played : IsTrue (g.S.Shelf.honest l.initial.shelf) → take l.end l.bytes ≡ bytes_of_blocks l.fn.self.planned.range
       (heard l.fn.self.planned l.fn.self.sounds (g.S.Shelf.stored l.initial.shelf)) l.stretch.first l.next;
-  clips : IsTrue (g.S.Shelf.honest l.initial.shelf) → Clip l.fn.self.planned.range (sums_of_blocks l.fn.self.planned.range
+  clips : IsTrue (g.S.Shelf.honest l.initial.shelf) → Clip l.fn.self.planned.range
+      (sums_of_blocks l.fn.self.planned.range
       (heard l.fn.self.planned l.fn.self.sounds (g.S.Shelf.stored l.initial.shelf)) l.stretch.first l.next) l.clips;
 }
 

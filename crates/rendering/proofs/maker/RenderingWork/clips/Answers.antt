@@ -1,65 +1,54 @@
-use Rattle.std.proofs.Common.{◌≡◌, ◌∙◌, ◌+◌, ◌-◌, ◌*◌, ◌<◌, ◌≤◌, ℕ, List, length, ap, sym, subst, arith}
-use Rattle.std.specs.Prelude.{ℤ}
-use Rattle.sound_terms.specs.Blocks.{block_count}
-use Rattle.rendering.specs.Clipping.{Clip, sums_of_blocks, unmarked}
-use Rattle.rendering.specs.Cut.{IsCut}
-use Rattle.rendering.specs.CutLaws.{cut-inside}
-use Rattle.rendering.specs.Marked.{MarkedWork}
-use Rattle.rendering.specs.Work.{IsRenderWork, heard, no_stretch, stretch_at}
+use Rattle.std.proofs.Common.{◌≡◌, ◌-◌, ◌<◌, ◌≤◌, length, arith}
+use Rattle.std.proofs.lemmas.List.{drop_all, drop_more}
+use Rattle.sound_terms.specs.Blocks.{block_count, block_start}
+use Rattle.rendering.specs.Clipping.{unmarked}
+use Rattle.rendering.specs.Work.{heard, no_stretch, stretch_at}
 use Rattle.rendering.specs.Written.{frames_before}
-use Rattle.rendering.specs.declared.stretch.Stretch.{Stretch}
-use Rattle.rendering.proofs.Clipped.{clips_after, clips_none, first_is, first_last, first_next, first_of, first_there, whole_sums}
+use Rattle.rendering.proofs.Clipped.{clips_after, clips_none}
+use Rattle.rendering.proofs.Jobs.{stretch_inside}
 use Rattle.rendering.proofs.maker.RenderingWork.clips.Goals as goal
 
 pub loop-job-init : goal.loop-job-init
-loop-job-init c sources marked uniform noted =
-    let work = c.args.self.now.work in
-    let range = work.planned.range in
-    let mix : ℕ → ℕ → ℤ = unmarked marked range (heard work.planned work.sounds sources) in
-    let is : IsRenderWork work = subst (λ (m : MarkedWork). IsRenderWork m.work) c.self.view_is c.self.invariant.0 in
-    subst (λ (k : ℕ). Clip range (sums_of_blocks range mix 0 k) c.none-clips.result)
-    (sym (first_is work.stretches 0 (block_count range) is.cut)) (clips_none range mix 0 c.none-clips.result
-    c.none-clips.ensures)
+loop-job-init c = rw (← c.self.view_is) (
+  0,
+  c.self.invariant.0.cut,
+  λ sources marked uniform noted. clips_none c.self.inside.rendering.planned.range _ 0 c.none-clips.ensures,
+)
 
 pub loop-job-preserved : goal.loop-job-preserved
-loop-job-preserved c sources marked uniform noted =
-    let work = c.args.self.now.work in
+loop-job-preserved c =
+    let work = c.self.inside.rendering in
+    let whole = c.self.invariant.0 in
     let range = work.planned.range in
-    let mix : ℕ → ℕ → ℤ = unmarked marked range (heard work.planned work.sounds sources) in
-    let is : IsRenderWork work = subst (λ (m : MarkedWork). IsRenderWork m.work) c.self.view_is c.self.invariant.0 in
     let job = c.loop-job.job in
     let s = stretch_at work.stretches job in
-    let below : job < length work.stretches = subst (λ (m : MarkedWork). job < length m.work.stretches) c.self.view_is
-    (subst (λ (n : ℕ). job < n) c.job_count-job-end.ensures c.loop-job-test.true) in
-    let inside = cut-inside work.stretches 0 (block_count range) job no_stretch is.cut below in
-    let same : c.stretch-stretch.result ≡ s = subst (λ (m : MarkedWork). c.stretch-stretch.result
-    ≡ stretch_at m.work.stretches job) c.self.view_is c.stretch-stretch.ensures.stretch in
-    let before : c.samples_before-before.result ≡ (frames_before range s.first - frames_before range 0) * range.channels =
-    subst (λ (m : MarkedWork). c.samples_before-before.result
-    ≡ frames_before m.work.planned.range c.stretch-stretch.result.first * m.work.planned.range.channels) c.self.view_is
-    c.samples_before-before.ensures
-    ∙ ap (λ (x : Stretch). frames_before range x.first * range.channels) same
-    ∙ ap (λ (n : ℕ). n * range.channels) (omega arith) in
-    subst (λ (k : ℕ). Clip range (sums_of_blocks range mix 0 k) c.joined-clips.result)
-    (sym (first_next work.stretches 0 (block_count range) job no_stretch is.cut below))
-    (clips_after range mix 0 s.first s.end c.samples_before-before.result c.loop-job.clips c.clips_in.result
-    c.joined-clips.result (omega arith) (omega (arith, inside.1)) (omega (arith, inside.1, inside.2)) is.planned.in_day
-    is.planned.few_channels before c.joined-clips.ensures
-    (subst (λ (k : ℕ). Clip range (sums_of_blocks range mix 0 k) c.loop-job.clips)
-    (first_there work.stretches (block_count range) job no_stretch below)
-    (c.loop-job.invariant sources marked uniform noted))
-    (c.clips_in.ensures sources marked uniform (noted job below)))
+    let is = rw (← c.self.view_is) at c.loop-job.invariant in
+    let below : job < length work.stretches = omega (arith, c.loop-job-test.true, c.job_count-job-end.ensures) in
+    let cut = rw (drop_more work.stretches job no_stretch below) at is.1 in
+    let inside = stretch_inside work whole job below in
+    let stretch = c.stretch-stretch.ensures.stretch in
+    let none : frames_before range s.first ≡ frames_before range s.first - frames_before range 0 = omega arith in
+    let before = rw (stretch, none) at c.samples_before-before.ensures in
+    rw (← c.self.view_is) (
+      s.end,
+      cut.2,
+      λ sources marked uniform noted.
+          let mix = unmarked marked range (heard work.planned work.sounds sources) in
+          clips_after range mix 0 s.first s.end (omega arith) (omega (arith, inside.some))
+          (omega (arith, inside.some, inside.there)) whole.planned.in_day whole.planned.few_channels before
+          c.joined-clips.ensures (rw cut.0 (is.2 sources marked uniform noted))
+          ((rw (← c.self.view_is) at c.clips_in.ensures) sources marked uniform (noted job below)),
+    )
 
 pub returns : goal.returns
-returns c sources marked uniform noted =
-    let work = c.args.self.now.work in
+returns c =
+    let work = c.self.inside.rendering in
     let range = work.planned.range in
-    let mix : ℕ → ℕ → ℤ = unmarked marked range (heard work.planned work.sounds sources) in
-    let is : IsRenderWork work = subst (λ (m : MarkedWork). IsRenderWork m.work) c.self.view_is c.self.invariant.0 in
-    let count : c.job_count-job-end.result ≡ length work.stretches = subst (λ (m : MarkedWork). c.job_count-job-end.result
-    ≡ length m.work.stretches) c.self.view_is c.job_count-job-end.ensures in
-    let end : c.loop-job.job ≡ length work.stretches = omega (arith, count) in
-    subst (λ (x : List ℤ). Clip range x c.loop-job.clips) (whole_sums range mix is.planned.some)
-    (subst (λ (k : ℕ). Clip range (sums_of_blocks range mix 0 k) c.loop-job.clips)
-    (ap (λ (n : ℕ). first_of work.stretches (block_count range) n) end ∙ first_last work.stretches (block_count range))
-    (c.loop-job.invariant sources marked uniform noted))
+    let is = rw (← c.self.view_is) at c.loop-job.invariant in
+    let behind : length work.stretches ≤ c.loop-job.job = omega (arith, c.job_count-job-end.ensures) in
+    let all : is.0 ≡ block_count range = rw (drop_all c.loop-job.job work.stretches behind) at is.1 in
+    let start : block_start range 0 ≡ range.from = omega arith in
+    let count : frames_before range (block_count range) - frames_before range 0 ≡ range.to - range.from =
+    omega (arith, c.self.invariant.0.planned.some) in
+    rw (← c.self.view_is)
+    (λ sources marked uniform noted. rw (all, start, count) at (is.2 sources marked uniform noted))

@@ -1,5 +1,5 @@
 use Rattle.std.proofs.Common.{arith}
-use Rattle.rendering.proofs.Parts.{few_stretches}
+use Rattle.rendering.proofs.Jobs.{few_stretches}
 use Rattle.rendering.proofs.work.Rendering.by_source.Goals as goal
 
 pub in_order_of-requires : goal.in_order_of-requires

@@ -1,5 +1,5 @@
 use Rattle.std.proofs.Common.{arith}
-use Rattle.rendering.proofs.Parts.{few_stretches}
+use Rattle.rendering.proofs.Jobs.{few_stretches}
 use Rattle.rendering.proofs.work.Rendering.job_count.Goals as goal
 
 pub overflow_cast-result : goal.overflow_cast-result
