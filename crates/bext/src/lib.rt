@@ -3,6 +3,7 @@
 
 ghost use Rattle.std.specs.Prelude.{◌≡◌, ◌+◌, ◌≤◌, ◌++◌, length, take, drop, Some};
 ghost use Rattle.sound_terms.specs.Bext.{bext_of, bext_bytes};
+ghost use Rattle.sound_terms.specs.Waves.{u16_bytes, u64_bytes};
 
 use byteorder::{ByteOrder, LittleEndian};
 pub use sound_terms::Bext;
@@ -43,9 +44,29 @@ pub fn bytes_of(bext: &Bext) -> [u8; 602]
     let mut bytes = [0; 602];
     put(&mut bytes, 0, &bext.text);
     let time_reference = bext.time_reference;
-    put(&mut bytes, 338, &time_reference.to_le_bytes());
-    put(&mut bytes, 346, &VERSION.to_le_bytes());
+    put(&mut bytes, 338, &u64_field(time_reference));
+    put(&mut bytes, 346, &u16_field(VERSION));
     bytes
+}
+
+/// A number of 16 bits, the lowest byte first.
+#[tactic(auto, unfolding(sound_terms::specs::Waves::u16_bytes))]
+fn u16_field(number: u16) -> [u8; 2]
+    ensures { result ≡ u16_bytes number }
+{
+    let mut field = [0; 2];
+    LittleEndian::write_u16(&mut field, number);
+    field
+}
+
+/// A number of 64 bits, the lowest byte first.
+#[tactic(auto, unfolding(sound_terms::specs::Waves::u64_bytes))]
+fn u64_field(number: u64) -> [u8; 8]
+    ensures { result ≡ u64_bytes number }
+{
+    let mut field = [0; 8];
+    LittleEndian::write_u64(&mut field, number);
+    field
 }
 
 /// Puts `word` over the bytes from `at` on.

@@ -7,7 +7,7 @@ use Rattle.bext.proofs.Fields.{bext_again}
 use Rattle.bext.proofs.bytes_of.Goals as goal
 
 bytes_put : goal.returns-clause-bytes
-unfolding bext_bytes zeros u16_bytes u64_bytes
+unfolding bext_bytes zeros
 bytes_put c =
     let bext = c.args.bext.now in
     let next = c.put-2.ensures in
@@ -16,7 +16,7 @@ bytes_put c =
     let b = length-u64_bytes bext.time_reference in
     let d = length-u16_bytes 1 in
     three_filled bext.text (u64_bytes bext.time_reference) (u16_bytes 1) (replicate 602 0) _ _ _
-    338 346 348 a (omega arith) (omega arith) c.put.ensures (rw c.to_le_bytes.ensures at next) (rw c.to_le_bytes-2.ensures at last)
+    338 346 348 a (omega arith) (omega arith) c.put.ensures (rw c.u64_field.ensures at next) (rw c.u16_field.ensures at last)
 
 pub returns-clause-bytes : goal.returns-clause-bytes
 returns-clause-bytes = bytes_put
