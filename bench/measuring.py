@@ -121,6 +121,13 @@ def without_syncs(folder: Path) -> list:
     return ["env", f"LD_PRELOAD={library}"]
 
 
+def job_copier(folder: Path) -> Path:
+    """A C program that makes the reads, writes and syncs of a rendering straight through, and does nothing else."""
+    program = folder / "jobs"
+    subprocess.run(["gcc", "-O2", "-o", program, TOP / "bench" / "jobs.c"], check=True)
+    return program
+
+
 def copy_of(source: Path, target: Path) -> Job:
     """cp, and a sync of the copy."""
     return Job(["sh", "-c", 'cp "$0" "$1" && sync "$1"', source, target])

@@ -1,11 +1,13 @@
 """Rendering beside `cp`, `sox` and `ffmpeg`: 30 minutes, stereo, 24 bits."""
 
+import filecmp
+import sys
 from pathlib import Path
 from typing import NamedTuple, Optional
 
 from measuring import (
-    HEAD, Bench, Cut, Job, block_of, copy_of, expect_about, expect_data, expect_mix, expect_size, line, list_text,
-    make_sound, table,
+    HEAD, Bench, Cut, Job, block_of, copy_of, expect_about, expect_data, expect_mix, expect_size, job_copier, line,
+    list_text, make_sound, table,
 )
 
 SECOND = 48_000
@@ -20,6 +22,14 @@ PIECES = tuple(f"P{place:02d}.wav" for place in range(JOINED))
 CUTS = 1000
 MANY = 32_767
 SHORT = 125
+MEBIBYTE = 1 << 20
+
+# Copies by a C program: the bytes of a job, and how many are read and written at once; 0 where a job is read whole.
+COPIES = {
+    "a C program: jobs of 16 MiB, made and then written": (16 * MEBIBYTE, 0),
+    "a C program: jobs of 1 MiB, made and then written": (MEBIBYTE, 0),
+    "a C program: jobs of 16 MiB, written as they are made": (16 * MEBIBYTE, 98_304),
+}
 
 
 class Mix(NamedTuple):
@@ -137,6 +147,20 @@ def many_entries(bench: Bench) -> str:
     return line("32,767 entries in 1,000 blocks: 85 seconds, mono, 16 bits", cost, (None, None, None))
 
 
+def copied_in_jobs(bench: Bench, source: Path) -> list:
+    """What the reads, writes and syncs of a rendering straight through take alone."""
+    target = bench.out() / "copy.wav"
+    copier = job_copier(bench.folder)
+
+    def look(out: Path) -> None:
+        if not filecmp.cmp(source, out / "copy.wav", shallow=False):
+            sys.exit("bench: a copy has other bytes")
+
+    jobs = {name: Job([copier, source, target, str(job), str(piece)], look) for name, (job, piece) in COPIES.items()}
+    costs = bench.costs_of({"cp": copy_of(source, target), **jobs})
+    return [line(name, costs[name], (costs["cp"], None, None)) for name in COPIES]
+
+
 def make_half_hour(bench: Bench) -> tuple:
     """30 minutes, and the second that they repeat; and the same in ten files."""
     block = block_of(SECOND, 2, 24)
@@ -155,4 +179,4 @@ def lines(bench: Bench) -> list:
     for name, mix in MIXES.items():
         costs = bench.costs_of(jobs_of(bench, mix, source, block))
         rows.append(line(name, costs["render"], (costs["cp"], costs.get("sox"), costs.get("ffmpeg"))))
-    return [*rows, many_entries(bench)]
+    return [*rows, *copied_in_jobs(bench, source), many_entries(bench)]

@@ -1,0 +1,93 @@
+// jobs SOURCE TARGET JOB PIECE: copies a file as the program renders one straight through, and does nothing else. The
+// target and its marks, a byte for each 24,576 bytes, are laid out and synced; then each JOB bytes are written and
+// synced, and their marks are written and synced. With PIECE 0 a job is read whole, by 256 KiB at once, before it is
+// written; else it is read and written by so many bytes at once.
+
+#include <err.h>
+#include <fcntl.h>
+#include <stdio.h>
+#include <stdlib.h>
+#include <string.h>
+#include <sys/stat.h>
+#include <unistd.h>
+
+enum { BLOCK = 24576, AT_ONCE = 262144 };
+
+static void read_all(int source, char *bytes, size_t length, off_t at)
+{
+    if (pread(source, bytes, length, at) != (ssize_t)length)
+        err(1, "read");
+}
+
+static void write_all(int target, const char *bytes, size_t length, off_t at)
+{
+    if (pwrite(target, bytes, length, at) != (ssize_t)length)
+        err(1, "write");
+}
+
+static void sync_file(int file)
+{
+    if (fdatasync(file))
+        err(1, "sync");
+}
+
+static int lay_out(const char *name, off_t length)
+{
+    int file = open(name, O_WRONLY | O_CREAT | O_EXCL, 0666);
+    if (file < 0 || ftruncate(file, length))
+        err(1, "%s", name);
+    sync_file(file);
+    return file;
+}
+
+static size_t least(size_t one, size_t other)
+{
+    return one < other ? one : other;
+}
+
+static void copy_whole(int source, int target, char *bytes, size_t length, off_t at)
+{
+    for (size_t done = 0; done < length; done += AT_ONCE)
+        read_all(source, bytes + done, least(AT_ONCE, length - done), at + done);
+    write_all(target, bytes, length, at);
+}
+
+static void copy_pieces(int source, int target, char *bytes, size_t length, off_t at, size_t piece)
+{
+    for (size_t done = 0; done < length; done += piece) {
+        size_t part = least(piece, length - done);
+        read_all(source, bytes, part, at + done);
+        write_all(target, bytes, part, at + done);
+    }
+}
+
+int main(int count, char **words)
+{
+    if (count != 5)
+        errx(2, "usage: jobs SOURCE TARGET JOB PIECE");
+    size_t job = strtoul(words[3], NULL, 10), piece = strtoul(words[4], NULL, 10);
+    int source = open(words[1], O_RDONLY);
+    struct stat state;
+    if (source < 0 || fstat(source, &state) || job == 0)
+        err(1, "%s", words[1]);
+    size_t length = state.st_size;
+    char name[4096];
+    snprintf(name, sizeof name, "%s.marks", words[2]);
+    int target = lay_out(words[2], length), marks = lay_out(name, length / BLOCK + 1);
+    char *bytes = malloc(piece ? piece : job), *set = malloc(length / BLOCK + 1);
+    if (!bytes || !set)
+        err(1, "memory");
+    memset(set, 1, length / BLOCK + 1);
+    for (size_t at = 0; at < length; at += job) {
+        size_t part = least(job, length - at);
+        if (piece)
+            copy_pieces(source, target, bytes, part, at, piece);
+        else
+            copy_whole(source, target, bytes, part, at);
+        sync_file(target);
+        size_t first = at / BLOCK;
+        write_all(marks, set, (at + part) / BLOCK - first, first);
+        sync_file(marks);
+    }
+    return 0;
+}
