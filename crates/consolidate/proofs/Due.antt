@@ -1,5 +1,6 @@
 -- Which refusal is due, and what may come in its place.
 use Rattle.std.proofs.Common.{◌≡◌, ◌∙◌, ℕ, ◌≤◌, Bool, true, false, List, Option, None, Some, ap, arith, refl, sym, IfSome, Result, Ok, Err, cond, nat_le, nat_lt, length}
+use Rattle.std.proofs.lemmas.Bool.{false≢true}
 use Rattle.std.proofs.lemmas.Bool.Decides.{nat_tests}
 use Rattle.sound_terms.specs.Render.{Range}
 use Rattle.work_terms.specs.Disk.{Files}
@@ -18,11 +19,13 @@ use Rattle.rendering.specs.Marked.{IsFoundAs, run_of}
 use Rattle.rendering.specs.Rendering.{empty_fault, render_fault}
 use Rattle.rendering.specs.declared.fault.RenderFault.{RenderFault}
 use Rattle.rendering.specs.declared.fault.RenderFault.TheVariants.{Intervals}
+use Rattle.consolidate.specs.Approaches.{due_by, found_by, is_again}
 use Rattle.consolidate.specs.Commands.{range_refusal, render_refusal}
 use Rattle.consolidate.specs.Fault.{refusal_of, refusal_of_marks}
 use Rattle.consolidate.specs.Marks.{fault_in, marks_refusal}
-use Rattle.consolidate.specs.Resuming.{resume_refusal}
 use Rattle.consolidate.specs.declared.fault.Fault.{Fault}
+use Rattle.consolidate.specs.declared.request.Approach.{Approach}
+use Rattle.consolidate.specs.declared.request.Approach.TheVariants.{Again, Anew}
 
 module _ {text : List ℕ} {files : Files} {project : ListProject} {binding : Binding}
     (accepted : IsAccepted text files project binding) where
@@ -72,12 +75,6 @@ range_turn : (values : OptionValues) (text : Result ListProject Refusal) → IsF
 range_turn values (Err refusal) = tt
 range_turn values (Ok project) = empty_turn (range_of project values)
 
--- a refusal of the opening is due of a rendering
-pub opening_due : (refusal : Refusal) (text : List ℕ) (values : OptionValues) (files : Files) → turn_of refusal ≤ 3
-    → IsDue refusal (project_fault text files) → IsDue refusal (render_refusal text values files)
-opening_due refusal text values files turn due = due_behind 3 refusal (project_fault text files)
-    (range_refusal values (text_value text)) turn (range_turn values (text_value text)) due
-
 -- what is due of rendering an accepted list is due of its range
 pub range_due : {text : List ℕ} (values : OptionValues) {files : Files} {project : ListProject} {binding : Binding}
     → IsAccepted text files project binding → render_refusal text values files ≡ render_fault project values
@@ -107,12 +104,6 @@ opening_due_of_work refusal work turn accepted due =
 
 -- ---- 67 to 69, and 62, of marks
 
--- nothing is due of marks that are found
-pub found_due : (found : Option ℕ) (due : Result (Option (List Bool)) MarkFault) → IsFoundAs (Ok found) due
-    → fault_in due ≡ None
-found_due None due is = ap fault_in is
-found_due (Some count) due is = ap fault_in is.1
-
 -- marks come behind all else
 marks_turn : (last : ℕ) → last ≤ 10 → (due : Result (Option (List Bool)) MarkFault) → IsFrom last (fault_in due)
 marks_turn last low (Ok found) = tt
@@ -125,36 +116,55 @@ marks_late text values outputs (Err refusal) = tt
 marks_late text values outputs (Ok project) =
     marks_turn 3 (omega arith) (opened_of (run_of text (range_of project values)) outputs)
 
--- a refusal of the opening is due
-pub opening_due_of_resuming : (refusal : Refusal) (text : List ℕ) (values : OptionValues) (files outputs : Files)
-    → turn_of refusal ≤ 3 → IsDue refusal (project_fault text files)
-    → IsDue refusal (resume_refusal text values files outputs)
-opening_due_of_resuming refusal text values files outputs turn due =
-    due_behind 3 refusal (render_refusal text values files) (marks_refusal text values outputs (text_value text)) turn
-    (marks_late text values outputs (text_value text)) (opening_due refusal text values files turn due)
+-- a refusal of the opening is due of a rendering, and of going on with it
+rendering_due : (refusal : Refusal) (text : List ℕ) (values : OptionValues) (files : Files) → turn_of refusal ≤ 3
+    → IsDue refusal (project_fault text files) → IsDue refusal (render_refusal text values files)
+rendering_due refusal text values files turn due = due_behind 3 refusal (project_fault text files)
+    (range_refusal values (text_value text)) turn (range_turn values (text_value text)) due
+
+pub opening_due : (approach : Approach) (refusal : Refusal) (text : List ℕ) (values : OptionValues) (files outputs : Files)
+    → turn_of refusal ≤ 3 → IsDue refusal (project_fault text files) → IsDue refusal (due_by approach
+    (render_refusal text values files) (marks_refusal text values outputs (text_value text)))
+opening_due (Anew handing) refusal text values files outputs turn due = rendering_due refusal text values files turn due
+opening_due Again refusal text values files outputs turn due = due_behind 3 refusal (render_refusal text values files)
+    (marks_refusal text values outputs (text_value text)) turn (marks_late text values outputs (text_value text))
+    (rendering_due refusal text values files turn due)
 
 -- of an accepted list that of its range, and then of its marks
-pub resuming_due : {text : List ℕ} (values : OptionValues) {files : Files} (outputs : Files) {project : ListProject}
-    {binding : Binding} → IsAccepted text files project binding
-    → resume_refusal text values files outputs ≡ first_fault (render_fault project values)
-    (fault_in (opened_of (run_of text (range_of project values)) outputs))
-resuming_due values outputs accepted = rw (range_due values accepted, accepted.spelt)
+pub accepted_due : (approach : Approach) {text : List ℕ} (values : OptionValues) {files : Files} (outputs : Files)
+    {project : ListProject} {binding : Binding} → IsAccepted text files project binding
+    → due_by approach (render_refusal text values files) (marks_refusal text values outputs (text_value text))
+    ≡ due_by approach (render_fault project values)
+    (fault_in (found_by approach (run_of text (range_of project values)) outputs))
+accepted_due (Anew handing) values outputs accepted = range_due values accepted
+accepted_due Again values outputs accepted = rw (range_due values accepted, accepted.spelt)
 
 plan_turn : (of : RenderFault) → turn_of (rendering.refusal_of of) ≤ 10
 plan_turn Intervals = omega arith
 plan_turn _ = omega arith
 
 -- a plan is refused before marks are opened
-pub plan_due : (of : RenderFault) (told : Fault) (first : Option Refusal) (due : Result (Option (List Bool)) MarkFault)
-    → refusal_of told ≡ rendering.refusal_of of → IsDue (rendering.refusal_of of) first
-    → IsDue (refusal_of told) (first_fault first (fault_in due))
-plan_due of told first due same is = rw same (due_behind 10 (rendering.refusal_of of) first (fault_in due)
+pub plan_due : (approach : Approach) (of : RenderFault) (told : Fault) (first : Option Refusal)
+    (due : Result (Option (List Bool)) MarkFault) → refusal_of told ≡ rendering.refusal_of of
+    → IsDue (rendering.refusal_of of) first → IsDue (refusal_of told) (due_by approach first (fault_in due))
+plan_due (Anew handing) of told first due same is = rw same is
+plan_due Again of told first due same is = rw same (due_behind 10 (rendering.refusal_of of) first (fault_in due)
     (plan_turn of) (marks_turn 10 (omega arith) due) is)
 
--- what the marks are refused for is due
-pub open_due : (of : MarkFault) (due : Result (Option (List Bool)) MarkFault) → IsFoundAs (Err of) due
-    → IsDue (refusal_of_marks of) (fault_in due)
-open_due marks.OtherRun due is = rw (is) refl
-open_due marks.BadMarks due is = rw (is) refl
-open_due of due is =
-    in_place 10 (refusal_of_marks of) (fault_in due) (omega arith) (marks_turn 10 (omega arith) due)
+module _ {first : Option Refusal} (none : first ≡ None) where
+  -- nothing is due of marks that are found
+  pub found_due : (approach : Approach) (found : Option ℕ) (due : Result (Option (List Bool)) MarkFault)
+      → IsFoundAs (Ok found) due → due_by approach first (fault_in due) ≡ None
+  found_due (Anew handing) found due is = none
+  found_due Again None due is = rw (none, is)
+  found_due Again (Some count) due is = rw (none, is.1)
+
+  -- what the marks are refused for is due
+  pub open_due : (approach : Approach) (of : MarkFault) (due : Result (Option (List Bool)) MarkFault)
+      → is_again approach ≡ true → IsFoundAs (Err of) due
+      → IsDue (refusal_of_marks of) (due_by approach first (fault_in due))
+  open_due (Anew handing) of due again is = absurd (false≢true again)
+  open_due Again marks.OtherRun due again is = rw (none, is) refl
+  open_due Again marks.BadMarks due again is = rw (none, is) refl
+  open_due Again of due again is = rw none
+      (in_place 10 (refusal_of_marks of) (fault_in due) (omega arith) (marks_turn 10 (omega arith) due))

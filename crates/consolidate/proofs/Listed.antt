@@ -9,16 +9,18 @@ use Rattle.list_terms.specs.Heard.{IsAccepted}
 use Rattle.list_terms.specs.Project.{ListProject}
 use Rattle.markfile.specs.Format.{marks_name, sound_name}
 use Rattle.markfile.specs.Opened.{front_fault, opened_of, told}
-use Rattle.markfile.specs.Started.{is_started}
+use Rattle.markfile.specs.Started.{NoneStarted, is_started}
 use Rattle.markfile.specs.declared.fault.MarkFault.{MarkFault}
 use Rattle.markfile.specs.declared.run.RunId.{RunId}
 use Rattle.execution.specs.Marking.{AreTrueMarks, HoldsIn, Marking}
 use Rattle.rendering.specs.Maker.{IsReopened, marks_of}
 use Rattle.rendering.specs.Marked.{HoldsMarked, IsFoundAs, IsLeftByRun, MarkedWork, run_of}
 use Rattle.rendering.specs.Work.{whole_of}
-use Rattle.consolidate.specs.Listed.{IsMarkedIn, IsPlannedAs, marking_in}
+use Rattle.consolidate.specs.Approaches.{IfAgain, StartsBy, found_by}
+use Rattle.consolidate.specs.Listed.{IsMarkedIn, IsPlannedAs, Listed, marking_in}
 use Rattle.consolidate.specs.Marks.{count_in, file_marking, list_marking}
-use Rattle.consolidate.specs.declared.request.Listed.{Listed}
+use Rattle.consolidate.specs.declared.request.Approach.{Approach}
+use Rattle.consolidate.specs.declared.request.Approach.TheVariants.{Again, Anew}
 use Rattle.consolidate.proofs.Due.{one_accepted}
 
 -- where no marks are started
@@ -32,12 +34,12 @@ same_spelt one other = let both = sym one ∙ other in cc
 
 -- a plan of what is asked for
 pub marked_in : (listed : Listed) {marked : MarkedWork} → IsPlannedAs listed marked.work
-    → marked.run ≡ run_of listed.list.now marked.work.planned.range → IsMarkedIn listed marked
+    → marked.run ≡ run_of listed.request.list.now marked.work.planned.range → IsMarkedIn listed marked
 marked_in listed of run = record {
   range = of.range;
   whole = of.whole;
   reads_back = of.reads_back;
-  run = run ∙ ap (λ (r : Range). run_of listed.list.now r) of.range;
+  run = run ∙ ap (λ (r : Range). run_of listed.request.list.now r) of.range;
 }
 
 -- the marks of a plan that is cut anew are those of the same list
@@ -131,3 +133,32 @@ pub counted : (found : Option ℕ) (due : Result (Option (List Bool)) MarkFault)
     → unwrap_or found 0 ≡ count_in due
 counted None due is = sym (ap count_in is)
 counted (Some count) due is = is.2 ∙ sym (ap count_in is.1)
+
+-- ---- of one that is begun, or gone on with
+
+-- what holds of any one holds of one that is gone on with
+pub if_again : (approach : Approach) {P : Type 0} → P → IfAgain approach P
+if_again (Anew handing) p = tt
+if_again Again p = p
+
+pub again_as : (approach : Approach) {P Q : Type 0} → (P → Q) → IfAgain approach P → IfAgain approach Q
+again_as (Anew handing) so p = tt
+again_as Again so p = so p
+
+pub starts_as : (approach : Approach) (outcomes : Files → Type 0) {P Q : Type 0} → (P → Q)
+    → StartsBy approach outcomes P → StartsBy approach outcomes Q
+starts_as (Anew handing) outcomes so none = none
+starts_as Again outcomes so p = so p
+
+-- what holds where no marks are started holds of all that it starts from
+pub left_by : (approach : Approach) {outcomes : Files → Type 0} {P : Type 0} → (NoneStarted outcomes → P)
+    → StartsBy approach outcomes P → P
+left_by (Anew handing) so none = so none
+left_by Again so left = left
+
+-- where blocks are marked it is gone on with
+pub marked_again : (approach : Approach) (run : RunId) (outputs : Files) (outcomes : Files → Type 0) {marked : List Bool}
+    {P : Type 0} → found_by approach run outputs ≡ Ok (Some marked)
+    → (IfAgain approach P → P) × (StartsBy approach outcomes P → P)
+marked_again (Anew handing) run outputs outcomes is = absurd (cc)
+marked_again Again run outputs outcomes is = (λ p. p, λ p. p)

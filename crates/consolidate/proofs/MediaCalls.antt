@@ -1,46 +1,159 @@
--- What an execution of a consolidation leaves.
-use Rattle.std.proofs.Common.{◌≡◌, ◌≢◌, ◌∙◌, ◌+◌, ◌-◌, ◌<◌, ◌≤◌, ℕ, Bool, true, false, IsTrue, Option, None, Result, Ok, Err, List, codes, length, refl, ap, subst, arith, IfErr, IfOk, OnOk, if◌then◌else◌, is_some, get_or}
+-- What a consolidation leaves, however far it came.
+use Rattle.std.proofs.Common.{◌≡◌, ◌≢◌, ◌∙◌, ◌+◌, ◌-◌, ◌<◌, ◌≤◌, ◌==◌, ◌||◌, ℕ, zero, suc, Bool, true, false, IsTrue, Option, None, Some, Result, Ok, Err, List, codes, length, refl, sym, ap, subst, arith, is_some, option_map, get_or, cond, nat_lt}
+use Rattle.std.specs.Prelude.{⊤}
 use Rattle.std.specs.List.{range_with_len}
 use Rattle.std.proofs.lemmas.Bool.{false≢true}
+use Rattle.std.proofs.lemmas.Bool.Decides.{nat_tests}
 use Rattle.std.proofs.lemmas.List.{length-replicate}
 use Rattle.work_terms.specs.Disk.{Files, IsDurable}
-use Rattle.work_terms.specs.Refusals.{Answers, Refusal, stage_of, turn_of}
+use Rattle.work_terms.specs.Refusals.{IsDue}
 use Rattle.devices.specs.declared.source.Shelf as source
 use Rattle.devices.specs.declared.bench.Bench as output
+use Rattle.devices.specs.Frame.{OnlyReads}
 use Rattle.devices.specs.Views.{OutputView, SourceView, output_view, source_view}
 use Rattle.job_terms.specs.declared.BoardEvent.{BoardEvent}
 use Rattle.job_terms.specs.declared.Progress.{Progress}
-use Rattle.job_terms.specs.Board.{Board, fresh_job, is_finished}
+use Rattle.job_terms.specs.Board.{Board, fresh_job}
 use Rattle.job_terms.specs.Workers.{Hand, Nothing, jobs_over}
 use Rattle.list_terms.specs.Binding.{Binding}
-use Rattle.list_terms.specs.Heard.{IsAccepted}
+use Rattle.list_terms.specs.Bound.{binding_of}
+use Rattle.list_terms.specs.Heard.{IsAccepted, sounds_of}
 use Rattle.list_terms.specs.Project.{ListProject}
 use Rattle.list_terms.specs.Renewed.{media_name}
+use Rattle.sound_terms.specs.Sounds.{SoundFacts}
 use Rattle.passes.specs.Left.{Leaving}
+use Rattle.passes.specs.declared.fault.PassFault.TheVariants as pass_fault
+use Rattle.mediaset.specs.declared.fault.RunFault.TheVariants as run_fault
+use Rattle.relink.specs.declared.fault.RelinkFault.TheVariants as relink_fault
 use Rattle.execution.specs.Boards.{fresh_board}
+use Rattle.execution.specs.Ends.{WantsNoPlace, WantsNoRoom}
 use Rattle.execution.specs.EventRun.{Snapshot, snapshot_of}
 use Rattle.execution.specs.Marking.{done_of}
 use Rattle.execution.specs.Outcome.{Executed, HasFailed, IsBefore, IsBounded, IsFresh, Outcome}
 use Rattle.execution.specs.OutcomeLaws.{finished_all}
-use Rattle.execution.specs.Plan.{AreDurable as AreDurableIn, AreBlank, HoldJobs, HoldLast, IsLast, JobPlan}
+use Rattle.execution.specs.Plan.{AreDurable as AreDurableIn, AreBlank, HoldJobs, HoldLast, IsForeign, IsLast, JobPlan}
 use Rattle.execution.specs.declared.fault.ExecutionFault.{ExecutionFault}
 use Rattle.execution.specs.declared.fault.ExecutionFault.TheVariants as cause
 use Rattle.provenance.specs.Asked.{AskedReport}
-use Rattle.consolidation.specs.Consolidated.{AreDurable, IsElsewhere}
+use Rattle.consolidation.specs.Consolidated.{AreDurable, IsConsolidated, IsElsewhere, IsWorkOf, Work, work_fault}
+use Rattle.consolidation.specs.Fault.{FailsAt, IsSource as IsOfSource, number_of, refusal_of as refusal_of_plan}
 use Rattle.consolidation.specs.Jobs.{work_of}
 use Rattle.consolidation.specs.Media.{IsNoMedium}
-use Rattle.consolidation.specs.Outputs.{AreNamedOutputs, job_plan, whole_output}
-use Rattle.consolidation.specs.Planned.{MediaPlan}
-use Rattle.consolidate.specs.Commands.{KeepsStores}
-use Rattle.consolidate.specs.Fault.{refusal_of}
-use Rattle.consolidate.specs.MediaOutcome.{ConsolidatesList, ConsolidatesMedia, consolidation_fault}
-use Rattle.consolidate.specs.Outcomes.{AnswersAs}
-use Rattle.consolidate.specs.Schedules.{BeforeList}
+use Rattle.consolidation.specs.Outputs.{AreNamedOutputs, FitsSources, job_plan, last_count, last_name, output_name, whole_output}
+use Rattle.consolidation.specs.Planned.{IsPlanOf, MediaPlan}
+use Rattle.consolidation.specs.Sizes.{written_of}
+use Rattle.consolidation.specs.There.{AreThere}
+use Rattle.consolidation.specs.Work.{SoundsTheSame}
+use Rattle.consolidation.specs.declared.fault.ConsolidationFault.{ConsolidationFault}
+use Rattle.consolidation.specs.declared.fault.ConsolidationFault.TheVariants as plan_fault
+use Rattle.consolidation.specs.declared.written.Written.{Written}
+use Rattle.consolidate.specs.Approaches.{AreRounds, SaysBy, are_events, events_by}
+use Rattle.consolidate.specs.Commands.{KeepsStores, HoldsOfSource, IsSource}
+use Rattle.consolidate.specs.Copied.{CopiesProject}
+use Rattle.consolidate.specs.Fault.{name_of_output, refusal_of, NamesOpened}
+use Rattle.consolidate.specs.MediaOutcome.{ConsolidatesMedia, consolidation_fault, last_output, output_file}
+use Rattle.consolidate.specs.Outcomes.{AnswersAs, IsAllDone, read_view}
+use Rattle.consolidate.specs.Own.{IsConsolidatedFile, IsOfMedia}
+use Rattle.consolidate.specs.declared.copy_call.Copied.{Copied}
 use Rattle.consolidate.specs.declared.fault.Fault.{Fault}
 use Rattle.consolidate.specs.declared.fault.Fault.TheVariants as fault
 use Rattle.consolidate.specs.declared.fault.OutputFile.TheVariants as file
-use Rattle.consolidate.proofs.MediaFaults.{before_list, before_report, last_some, may_come, same_name}
-use Rattle.consolidate.proofs.Stores.{IsEnd, by_names, ended_by, outcome_opened, went_on}
+use Rattle.consolidate.specs.declared.request.HandingOut.{HandingOut}
+use Rattle.consolidate.specs.declared.request.HandingOut.TheVariants.{Events, Rounds}
+use Rattle.consolidate.proofs.Stores.{IsEnd, IsOpened, LeavesNow, by_names, ended_by, not_begun, opened_before, outcome_plain, read_as, stopped_early, went_on}
+
+-- ---- which fault stands for one of its execution
+
+last_same : (reported : Bool) (position : ℕ)
+    → name_of_output (last_output reported position) ≡ last_name reported position
+last_same false position = refl
+last_same true zero = refl
+last_same true (suc zero) = refl
+last_same true (suc (suc position)) = refl
+
+-- the output of a number has its name
+same_name : (media : ℕ) (reported : Bool) (number : ℕ)
+    → name_of_output (output_file media reported number) ≡ output_name media reported number
+same_name media reported number = by_test (nat_lt number media) where
+  by_test : (b : Bool) → name_of_output (cond b (file.Medium (suc number)) (last_output reported (number - media)))
+      ≡ cond b (media_name (suc number)) (last_name reported (number - media))
+  by_test true = refl
+  by_test false = last_same reported (number - media)
+
+last_own : (reported : Bool) (position : ℕ) → IsConsolidatedFile reported (last_output reported position)
+last_own false position = tt
+last_own true zero = refl
+last_own true (suc zero) = refl
+last_own true (suc (suc position)) = tt
+
+file_own : (media : ℕ) (reported : Bool) (number : ℕ) → IsConsolidatedFile reported (output_file media reported number)
+file_own media reported number = by_test (nat_lt number media) where
+  by_test : (b : Bool)
+      → IsConsolidatedFile reported (cond b (file.Medium (suc number)) (last_output reported (number - media)))
+  by_test true = tt
+  by_test false = last_own reported (number - media)
+
+-- it is one of a consolidation; only by events do workers take memory
+of_media : (handing : HandingOut) (text : List ℕ) (media : ℕ) (reported : Bool) (of : ExecutionFault)
+    → (AreRounds handing → WantsNoPlace {X = Progress} (Err of)) → (AreRounds handing → WantsNoRoom {X = Progress} (Err of))
+    → IsOfMedia reported (are_events handing) text (consolidation_fault media reported of)
+of_media Rounds text media reported cause.Memory place room = absurd (place tt refl)
+of_media Rounds text media reported cause.JobMemory place room = absurd (room tt refl)
+of_media (Events events) text media reported cause.Memory place room = refl
+of_media (Events events) text media reported cause.JobMemory place room = refl
+of_media handing text media reported (cause.Output number) place room = file_own media reported number
+of_media handing text media reported _ place room = tt
+
+-- it may come where nothing is due
+may_come : (media : ℕ) (reported : Bool) (of : ExecutionFault)
+    → IsDue (refusal_of (consolidation_fault media reported of)) None
+may_come media reported cause.Memory = tt
+may_come media reported _ = tt
+
+last_some : (reported : Bool) → 1 ≤ last_count reported
+last_some false = omega arith
+last_some true = omega arith
+
+last_before : (reported : Bool) (position : ℕ) → last_output reported position ≢ file.List
+    → position + 1 < last_count reported
+last_before false position other = absurd (other refl)
+last_before true zero other = omega arith
+last_before true (suc zero) other = omega arith
+last_before true (suc (suc position)) other = absurd (other refl)
+
+-- where it isn't the list that can't be written, the list wasn't begun
+before_list : (media : ℕ) (reported : Bool) (of : ExecutionFault) (i : ℕ) → i + 1 ≡ media + last_count reported
+    → consolidation_fault media reported of ≢ fault.Output file.List → IsBefore (Err of) i
+before_list media reported (cause.Output number) i last other = by_test (nat_lt number media) refl where
+  by_test : (b : Bool) → nat_lt number media ≡ b → number < i
+  by_test true is = let below : number < media = grind (arith, nat_tests, is) in
+      let some = last_some reported in omega (arith, below, some, last)
+  by_test false is =
+      let from : media ≤ number = grind (arith, nat_tests, is) in
+      let told = rw is at other in
+      let before = last_before reported (number - media) (λ e. told (rw e)) in
+      omega (arith, from, before, last)
+before_list media reported _ i last other = tt
+
+-- nor the report, where it is neither
+before_report : (media : ℕ) (of : ExecutionFault) → consolidation_fault media true of ≢ fault.Output file.List
+    → consolidation_fault media true of ≢ fault.Output file.Report → IsBefore (Err of) (media + 1)
+before_report media (cause.Output number) no_list no_report = by_test (nat_lt number media) refl where
+  first : (position : ℕ) → last_output true position ≢ file.List → last_output true position ≢ file.Report
+      → position ≡ 0
+  first zero list report = refl
+  first (suc zero) list report = absurd (report refl)
+  first (suc (suc position)) list report = absurd (list refl)
+
+  by_test : (b : Bool) → nat_lt number media ≡ b → number < media + 1
+  by_test true is = let below : number < media = grind (arith, nat_tests, is) in omega (arith, below)
+  by_test false is =
+      let from : media ≤ number = grind (arith, nat_tests, is) in
+      let list = rw is at no_list in
+      let report = rw is at no_report in
+      let sums = first (number - media) (λ e. list (rw e)) (λ e. report (rw e)) in
+      omega (arith, from, sums)
+before_report media _ no_list no_report = tt
 
 -- ---- names and plans
 
@@ -52,77 +165,6 @@ report_no_medium many number low high same =
 
 report_no_list : codes "consolidated.json" ≢ codes "consolidated.adl"
 report_no_list same = cc
-
--- ---- what a call answers, by how its execution ended
-
--- it is reported that all jobs are done, since they are
-pub reports_all : (board : Board) (ended : Result Progress ExecutionFault)
-    → IfOk ended (λ progress. progress.finished ≡ is_finished board) → OnOk ended (is_finished board ≡ true)
-    → IfOk ended (λ progress. progress.finished ≡ true)
-reports_all board (Ok progress) same all = same ∙ all
-reports_all board (Err of) same all = tt
-
-pub where_finished : (fault_for : ExecutionFault → Fault) (result : Result Progress Fault)
-    (ended : Result Progress ExecutionFault) (P Holds : Type 0)
-    → AnswersAs fault_for (λ answer progress. answer ≡ progress) result ended
-    → IfOk ended (λ progress. progress.finished ≡ true → Holds) → (Holds → P)
-    → IfOk result (λ answer. IsTrue answer.finished → P)
-where_finished fault_for (Ok answer) (Ok progress) P Holds answers holds so =
-    λ finished. so (holds (rw answers at finished))
-where_finished fault_for (Ok answer) (Err of) P Holds answers holds so = absurd answers
-where_finished fault_for (Err failure) ended P Holds answers holds so = tt
-
--- what is reported of it holds of what is answered
-pub answers_ok : {X Y : Type 0} (fault_for : ExecutionFault → Fault) (Reports : X → Progress → Type 0)
-    (Answers : Y → Progress → Type 0) (x : X) (y : Y) (ended : Result Progress ExecutionFault)
-    → ((progress : Progress) → Reports x progress → Answers y progress)
-    → AnswersAs fault_for Reports (Ok x) ended → AnswersAs fault_for Answers (Ok y) ended
-answers_ok fault_for Reports Answers x y (Ok progress) so answers = so progress answers
-answers_ok fault_for Reports Answers x y (Err of) so answers = answers
-
-pub answers_err : {X Y : Type 0} (fault_for : ExecutionFault → Fault) (Reports : X → Progress → Type 0)
-    (Answers : Y → Progress → Type 0) (failure : Fault) (ended : Result Progress ExecutionFault)
-    → AnswersAs fault_for Reports (Err failure) ended → AnswersAs fault_for Answers (Err failure) ended
-answers_err fault_for Reports Answers failure (Ok progress) answers = answers
-answers_err fault_for Reports Answers failure (Err of) answers = answers
-
-module _ {X : Type 0} (fault_for : ExecutionFault → Fault) (Reports : X → Progress → Type 0) where
-  pub on_finished : (result : Result X Fault) (ended : Result Progress ExecutionFault) (P : X → Type 0) (Holds : Type 0)
-      → AnswersAs fault_for Reports result ended → IfOk ended (λ progress. progress.finished ≡ true)
-      → IfOk ended (λ progress. progress.finished ≡ true → Holds)
-      → ((x : X) (progress : Progress) → Reports x progress → Holds → P x) → IfOk result P
-  on_finished (Ok x) (Ok progress) P Holds answers finished holds so = so x progress answers (holds finished)
-  on_finished (Ok x) (Err of) P Holds answers finished holds so = absurd answers
-  on_finished (Err failure) ended P Holds answers finished holds so = tt
-
-  pub answers_finished : (result : Result X Fault) (ended : Result Progress ExecutionFault)
-      → IfOk ended (λ progress. progress.finished ≡ true) → AnswersAs fault_for Reports result ended
-      → AnswersAs fault_for (λ _ (progress : Progress). progress.finished ≡ true) result ended
-  answers_finished (Ok x) (Ok progress) finished answers = finished
-  answers_finished (Ok x) (Err of) finished answers = answers
-  answers_finished (Err failure) ended finished answers =
-      answers_err {Y = X} fault_for Reports (λ _ (progress : Progress). progress.finished ≡ true) failure ended answers
-
-  pub if_err : (result : Result X Fault) (ended : Result Progress ExecutionFault) (P : Fault → Type 0)
-      → AnswersAs fault_for Reports result ended → ((of : ExecutionFault) → ended ≡ Err of → P (fault_for of))
-      → IfErr result P
-  if_err (Ok x) ended P answers holds = tt
-  if_err (Err failure) (Ok progress) P answers holds = absurd answers
-  if_err (Err failure) (Err of) P answers holds = rw answers (holds of refl)
-
-pub answers_for : {X : Type 0} (Reports : X → Progress → Type 0) (result : Result X Fault)
-    (ended : Result Progress ExecutionFault) (media many : ℕ) (reported asked : Bool) → media ≡ many
-    → reported ≡ asked → AnswersAs (consolidation_fault media reported) Reports result ended
-    → AnswersAs (consolidation_fault many asked) Reports result ended
-answers_for Reports result ended media many reported asked same matches answers = rw (← same, ← matches) answers
-
--- nothing was due where it began
-pub due_late : {X : Type 0} (media : ℕ) (reported : Bool) (Reports : X → Progress → Type 0) (result : Result X Fault)
-    (ended : Result Progress ExecutionFault) {due : Option Refusal} → due ≡ None
-    → AnswersAs (consolidation_fault media reported) Reports result ended → Answers refusal_of result due
-due_late media reported Reports (Ok x) ended none answers = none
-due_late media reported Reports (Err failure) (Ok progress) none answers = absurd answers
-due_late media reported Reports (Err failure) (Err of) none answers = rw (none, answers) (may_come media reported of)
 
 -- ---- the call of an execution whose pieces are handed out each in its turn
 
@@ -158,15 +200,6 @@ fresh plan is undone = record {
   idle = λ w. refl;
 }
 
--- where all jobs are done every output is whole
-pub whole_when : {plan : JobPlan} {Begins : Files → Type 0} {events : List BoardEvent} {board : Board} {s : SourceView}
-    {o : OutputView} {had : ℕ → Hand} {new : Snapshot} {untouched : Type 0} (ended : Result Progress ExecutionFault)
-    → Outcome Begins events (snapshot_of plan board 0 s o) had new untouched ended
-    → IfOk ended (λ progress. progress.finished ≡ true
-    → HoldJobs plan s.files new.output.files × HoldLast plan s.files new.output.files)
-whole_when (Ok progress) out = λ done. let all = finished_all out done in (all.1, all.2)
-whole_when (Err of) out = tt
-
 module _ {plan : MediaPlan} (names : AreNamedOutputs plan) where
   list_at : (length plan.runs ≤ (job_plan plan).outputs - 1)
       × ((job_plan plan).output ((job_plan plan).outputs - 1) ≡ codes "consolidated.adl")
@@ -191,15 +224,6 @@ module _ {plan : MediaPlan} (names : AreNamedOutputs plan) where
       IsSafe n = IsDurable n stored may_leave
 
   module _ {board : Board} {s : SourceView} {o : OutputView} {new : Snapshot} where
-    -- and durable
-    pub durable_when : (ended : Result Progress ExecutionFault)
-        → IsBounded (snapshot_of (job_plan plan) board 0 s o) new ended → IsTrue o.honest
-        → IfOk ended (λ progress. progress.finished ≡ true
-        → AreDurable (is_some plan.report) (length plan.runs) new.output.files new.output.may_leave)
-    durable_when (Ok progress) bounded right = λ finished.
-        all_durable new.output.files new.output.may_leave (bounded.durable right finished).outputs
-    durable_when (Err of) bounded right = tt
-
     -- a file that is none of a consolidation stays
     pub named_of : {ended : Result Progress ExecutionFault} → length plan.runs ≤ 32767
         → IsBounded (snapshot_of (job_plan plan) board 0 s o) new ended → IsTrue o.honest → (n : List ℕ)
@@ -218,115 +242,232 @@ module _ {plan : MediaPlan} (names : AreNamedOutputs plan) where
         subst (λ (m : List ℕ). new.output.files m ≡ o.files m) at
         (bounded.order right i last (names.last i last) before)
 
-    module _ {X : Type 0} (Reports : X → Progress → Type 0) where
+    module _ {of : ExecutionFault} (bounded : IsBounded (snapshot_of (job_plan plan) board 0 s o) new (Err of))
+        (right : IsTrue o.honest) where
       -- the list stays where another fault came before it
-      pub list_kept : (result : Result X Fault) (ended : Result Progress ExecutionFault)
-          → AnswersAs (consolidation_fault (length plan.runs) (is_some plan.report)) Reports result ended
-          → IsBounded (snapshot_of (job_plan plan) board 0 s o) new ended → IsTrue o.honest
-          → IfErr result (λ failure. failure ≢ fault.Output file.List
-          → new.output.files (codes "consolidated.adl") ≡ o.files (codes "consolidated.adl"))
-      list_kept (Ok x) ended answers bounded right = tt
-      list_kept (Err failure) (Ok progress) answers bounded right = absurd answers
-      list_kept (Err failure) (Err of) answers bounded right = λ other. let some = last_some (is_some plan.report) in
+      list_kept : consolidation_fault (length plan.runs) (is_some plan.report) of ≢ fault.Output file.List
+          → new.output.files (codes "consolidated.adl") ≡ o.files (codes "consolidated.adl")
+      list_kept other = let some = last_some (is_some plan.report) in
           stays_before ((job_plan plan).outputs - 1) bounded right list_last list_at.1
           (before_list (length plan.runs) (is_some plan.report) of ((job_plan plan).outputs - 1) (omega (arith, some))
-          (λ e. other (answers ∙ e)))
+          other)
 
       -- and the report, where another came before it
-      pub report_kept : (result : Result X Fault) (ended : Result Progress ExecutionFault)
-          → AnswersAs (consolidation_fault (length plan.runs) (is_some plan.report)) Reports result ended
-          → IsBounded (snapshot_of (job_plan plan) board 0 s o) new ended → IsTrue o.honest
-          → IfErr result (λ failure. failure ≢ fault.Output file.List → failure ≢ fault.Output file.Report
-          → new.output.files (codes "consolidated.json") ≡ o.files (codes "consolidated.json"))
-      report_kept (Ok x) ended answers bounded right = tt
-      report_kept (Err failure) (Ok progress) answers bounded right = absurd answers
-      report_kept (Err failure) (Err of) answers bounded right = λ no_list no_report.
-          by_report (is_some plan.report) refl (λ e. no_list (answers ∙ e)) (λ e. no_report (answers ∙ e))
-        where
-          by_report : (told : Bool) → is_some plan.report ≡ told
-              → consolidation_fault (length plan.runs) told of ≢ fault.Output file.List
-              → consolidation_fault (length plan.runs) told of ≢ fault.Output file.Report
-              → new.output.files (codes "consolidated.json") ≡ o.files (codes "consolidated.json")
-          by_report false none no_list no_report = bounded.output.others right (codes "consolidated.json")
-              (names.elsewhere (codes "consolidated.json") (record {
-                no_list = report_no_list;
-                no_medium = report_no_medium (length plan.runs);
-                no_report = rw none (λ is. absurd (false≢true is));
-              }))
-          by_report true some no_list no_report = let of_report = names.report some in let counted = of_report.0 in
-              stays_before (length plan.runs + 1) bounded right (omega arith, omega (arith, counted)) of_report.2
-              (before_report (length plan.runs) of no_list no_report)
-
-    -- the list stays too where jobs remain
-    pub list_before : (result : Result Progress Fault) (ended : Result Progress ExecutionFault)
-        → AnswersAs (consolidation_fault (length plan.runs) (is_some plan.report))
-        (λ answer progress. answer ≡ progress) result ended
-        → IsBounded (snapshot_of (job_plan plan) board 0 s o) new ended → IsTrue o.honest
-        → BeforeList result (new.output.files (codes "consolidated.adl") ≡ o.files (codes "consolidated.adl"))
-    list_before (Ok answer) (Ok progress) answers bounded right = λ unfinished.
-        stays_before ((job_plan plan).outputs - 1) bounded right list_last list_at.1
-        (rw answers at unfinished)
-    list_before (Ok answer) (Err of) answers bounded right = absurd answers
-    list_before (Err failure) ended answers bounded right =
-        list_kept (λ answer progress. answer ≡ progress) (Err failure) ended answers bounded right
+      report_kept : (told : Bool) → is_some plan.report ≡ told
+          → consolidation_fault (length plan.runs) told of ≢ fault.Output file.List
+          → consolidation_fault (length plan.runs) told of ≢ fault.Output file.Report
+          → new.output.files (codes "consolidated.json") ≡ o.files (codes "consolidated.json")
+      report_kept false none no_list no_report = bounded.output.others right (codes "consolidated.json")
+          (names.elsewhere (codes "consolidated.json") (record {
+            no_list = report_no_list;
+            no_medium = report_no_medium (length plan.runs);
+            no_report = rw none (λ is. absurd (false≢true is));
+          }))
+      report_kept true some no_list no_report = let of_report = names.report some in let counted = of_report.0 in
+          stays_before (length plan.runs + 1) bounded right (omega arith, omega (arith, counted)) of_report.2
+          (before_report (length plan.runs) of no_list no_report)
 
 -- ---- what it leaves of the stores
 
-module _ {S B : Type 0} (shelf : source.Ghosts S) (bench : output.Ghosts B) (plan : MediaPlan) where
-  -- where an output's device failed
-  is_end : (o o2 : B) (why : ExecutionFault)
-      → HasFailed (job_plan plan) (output_view bench o) (output_view bench o2) (Err why)
-      → IsEnd bench o o2 (consolidation_fault (length plan.runs) (is_some plan.report) why)
-  is_end o o2 cause.Mark failed = absurd (false≢true failed.has_marks)
-  is_end o o2 (cause.Output number) failed =
-      (failed.rose, rw (same_name (length plan.runs) (is_some plan.report) number) failed.failed.1)
-  is_end o o2 _ failed = tt
+-- where an output's device failed
+is_end : {B : Type 0} (bench : output.Ghosts B) (plan : MediaPlan) (o o2 : B) (why : ExecutionFault)
+    → HasFailed (job_plan plan) (output_view bench o) (output_view bench o2) (Err why)
+    → IsEnd bench o o2 (consolidation_fault (length plan.runs) (is_some plan.report) why)
+is_end bench plan o o2 cause.Mark failed = absurd (false≢true failed.has_marks)
+is_end bench plan o o2 (cause.Output number) failed =
+    (failed.rose, rw (same_name (length plan.runs) (is_some plan.report) number) failed.failed.1)
+is_end bench plan o o2 _ failed = tt
 
-  -- what a call leaves that an execution ends so
-  pub stores_ended : {X : Type 0} (Reports : X → Progress → Type 0) {first board : Board} {after : JobPlan} {s s2 : S}
-      {o o2 : B} (result : Result X Fault) (ended : Result Progress ExecutionFault)
-      → AnswersAs (consolidation_fault (length plan.runs) (is_some plan.report)) Reports result ended
-      → IsBounded (snapshot_of (job_plan plan) first 0 (source_view shelf s) (output_view bench o))
-      (snapshot_of after board 0 (source_view shelf s2) (output_view bench o2)) ended
-      → KeepsStores shelf bench {X = X} s s2 o o2 result
-  stores_ended Reports (Ok x) ended answers is = went_on is.source is.output
-  stores_ended Reports (Err of) (Ok progress) answers is = absurd answers
-  stores_ended Reports {o = o} {o2 = o2} (Err of) (Err why) answers is = rw answers (ended_by is.source is.output
-      (consolidation_fault (length plan.runs) (is_some plan.report) why) (is_end o o2 why is.failed))
+-- ---- a plan that is refused
 
--- ---- how it came out, of the sources as they were before
+-- 52 alone tells that a source's device failed
+tells_source : (of : ConsolidationFault) → ((number_of of == 22) || (number_of of == 52)) ≡ true → IsOfSource of
+tells_source (plan_fault.Pass (pass_fault.Device file)) e = tt
+tells_source (plan_fault.Runs run_fault.Memory) e = absurd (false≢true e)
+tells_source (plan_fault.Relink relink_fault.Memory) e = absurd (false≢true e)
+tells_source _ e = absurd (false≢true e)
 
--- of the list that was opened before
-pub listed_media : {S X Y : Type 0} (shelf : source.Ghosts S) (old mid : S) {leave : Leaving} {text : List ℕ}
-    {project : ListProject} {binding : Binding} {handle : ℕ} {asked : Option AskedReport} {events : ℕ → List BoardEvent}
-    {Reports : X → Progress → Type 0} {Answers : Y → Progress → Type 0} {s2 : SourceView} {o o2 : OutputView}
-    {result : Result X Fault} {answer : Result Y Fault} → shelf.stored mid ≡ shelf.stored old
-    → shelf.failures mid ≡ shelf.failures old → IsAccepted text (shelf.stored old) project binding
-    → ((fault_for : ExecutionFault → Fault) (ended : Result Progress ExecutionFault)
-    → AnswersAs fault_for Reports result ended → AnswersAs fault_for Answers answer ended)
-    → ConsolidatesMedia leave project binding handle asked events Reports (source_view shelf mid) s2 o o2 result
-    → ConsolidatesList leave text handle asked events Answers (source_view shelf old) s2 o o2 answer
-listed_media shelf old mid {project = project} {binding = binding} {asked = asked} same quiet accepted so run = record {
-  project = project;
-  binding = binding;
-  accepted = accepted;
-  run = record {
-    plan = run.plan;
-    planned = rw same at run.planned;
-    fits = rw same at run.fits;
-    apart = rw same at run.apart;
-    ended = run.ended;
-    answers = so (consolidation_fault (length run.plan.runs) (is_some asked)) run.ended run.answers;
-    foreign = run.foreign;
-    board = run.board;
-    came = outcome_opened shelf old mid
-        (λ f. AreBlank (jobs_over (work_of run.plan) f) (whole_output run.plan f)) same quiet (λ un. un) run.came;
-  };
-}
+source_told : (of : ConsolidationFault) → IsOfSource of
+    → ((number_of of == 22) || (number_of of == 52)) ≡ true
+source_told (plan_fault.Pass (pass_fault.Device file)) e = refl
+source_told _ e = absurd e
 
--- ---- a call that didn't begin
+no_output : (of : ConsolidationFault) → number_of of ≡ 62 → ⊥
+no_output (plan_fault.Pass pass_fault.Memory) e = omega (arith, e)
+no_output (plan_fault.Runs run_fault.Memory) e = omega (arith, e)
+no_output (plan_fault.Relink relink_fault.Memory) e = omega (arith, e)
+no_output _ e = omega (arith, e)
 
--- what comes in its turn before the first write isn't late
-pub turned_early : (refusal : Refusal) → turn_of refusal ≤ 3 → ¬ IsTrue refusal.late
-turned_early refusal early late =
-    let turn = subst (λ (b : Bool). (if b then 11 else stage_of refusal.number) ≤ 3) late early in omega (arith, turn)
+-- the fault that is told names the file where the device failed
+named_there : (sounds : List SoundFacts) (of : ConsolidationFault) (told : Fault) (P : List ℕ → Type 0)
+    → NamesOpened sounds of told → IsOfSource of → FailsAt sounds of P → HoldsOfSource told P
+named_there sounds (plan_fault.Pass (pass_fault.Device file)) (fault.Silence name) P names is failed =
+    subst P (sym (names failed.0 failed.1)) failed.2
+named_there sounds (plan_fault.Pass (pass_fault.Device file)) _ P names is failed = absurd names
+named_there sounds _ told P names is failed = absurd is
+
+module _ {S B Y : Type 0} (shelf : source.Ghosts S) (bench : output.Ghosts B) {b : B} where
+  -- a plan that is refused
+  pub not_planned : {old new : S} (sounds : List SoundFacts) (of : ConsolidationFault) (told : Fault)
+      → LeavesNow bench b → refusal_of told ≡ refusal_of_plan of → NamesOpened sounds of told
+      → OnlyReads {X = MediaPlan} shelf old new (Err of) IsOfSource (FailsAt sounds)
+      → KeepsStores shelf bench {X = Y} old new b b (Err told)
+  not_planned {new = new} sounds of told only_now same names reads =
+      let source : IsSource told → IsOfSource of = λ e. tells_source of (rw same at e) in
+      stopped_early only_now
+      (read_as (λ quiet e. quiet (rw same (source_told of e))) source
+      (λ failed e. named_there sounds of told (shelf.failed_at new) names (source e) (failed (source e))) reads)
+      (λ e. no_output of (rw same at e))
+
+  -- no memory was left for the board behind a plan
+  pub no_board : {old mid : S} → LeavesNow bench b → IsOpened shelf old mid
+      → KeepsStores shelf bench {X = Y} old mid b b (Err fault.BoardMemory)
+  no_board only_now read = opened_before read (not_begun only_now false≢true (λ e. omega (arith, e)))
+
+-- ---- what is made of it
+
+-- a report is asked for just where a choice of it is
+pub asked_some : {A B : Type 0} (f : A → B) (o : Option A) → is_some (option_map f o) ≡ is_some o
+asked_some f None = refl
+asked_some f (Some x) = refl
+
+says_all : (handing : HandingOut) (progress : Progress) → (AreRounds handing → IsAllDone progress)
+    → SaysBy handing progress progress
+says_all Rounds progress done = done tt
+says_all (Events events) progress done = refl
+
+module _ {S B : Type 0} (shelf : source.Ghosts S) (bench : output.Ghosts B) (handing : HandingOut) {leave : Leaving}
+    {project : ListProject} {binding : Binding} {handle : ℕ} {asked : Option AskedReport} (old : S) (before : B) where
+  -- nothing, where it was refused before its first write
+  pub refused : {new : S} (fault : Fault) → (refusal_of fault).late ≡ false
+      → (IsTrue (shelf.honest old) → (work : Work) → IsWorkOf leave project binding handle (shelf.stored old) work
+      → IsDue (refusal_of fault) (work_fault work))
+      → ((text : List ℕ) → IsOfMedia (is_some asked) (are_events handing) text fault)
+      → KeepsStores shelf bench {X = Copied} old new before before (Err fault)
+      → CopiesProject shelf bench handing leave project binding handle asked old new before before (Err fault)
+  refused fault early due own stores = record {
+    refusals = due;
+    own = own;
+    named = λ right n away. refl;
+    outcome = λ honest right text accepted late. absurd (false≢true (sym early ∙ late));
+    stores = stores;
+    all_done = λ rounds. tt;
+    finished = λ honest right text accepted. tt;
+    durable = λ right. tt;
+    list_last = λ right other. refl;
+    report_last = λ right no_list no_report. refl;
+  }
+
+  module _ (plan : MediaPlan) (counts : Written) (mid new : S) (after : B) (board : Board) (untouched : Type 0)
+      (planned : IsPlanOf leave project binding handle asked (shelf.honest old) (shelf.stored old) plan)
+      (there : (sources : Files) → binding_of project sources ≡ Ok binding → AreThere sources (sounds_of binding))
+      (fits : FitsSources plan)
+      (due : IsTrue (shelf.honest old) → (work : Work) → IsWorkOf leave project binding handle (shelf.stored old) work
+      → work_fault work ≡ None)
+      (reads : IsOpened shelf old mid) (value : counts ≡ written_of plan) (names : AreNamedOutputs plan)
+      (none : IsFresh (start_of plan (source_view shelf mid) (output_view bench before)) (λ _. Nothing)) where
+    abbrev Call : Result Progress ExecutionFault → Type 0
+    Call ended = IsMediaCall (events_by handing) plan board (source_view shelf mid) (source_view shelf new)
+        (output_view bench before) (output_view bench after) untouched ended
+
+    planned_now : IsTrue (shelf.honest old) → IsPlanOf leave project binding handle asked true (shelf.stored old) plan
+    planned_now honest = rw honest at planned
+
+    there_now : {text : List ℕ} → IsAccepted text (shelf.stored old) project binding
+        → AreThere (shelf.stored old) plan.sounds
+    there_now accepted = rw planned.planned.sounds (there (shelf.stored old) accepted.bound)
+
+    out_now : {ended : Result Progress ExecutionFault} {text : List ℕ} → Call ended → IsTrue (shelf.honest old)
+        → IsTrue (bench.honest before) → IsAccepted text (shelf.stored old) project binding
+        → Outcome (AreBlank (jobs_over (work_of plan) (shelf.stored old)) (whole_output plan (shelf.stored old)))
+        (events_by handing (work_of plan).count) (start_of plan (read_view shelf old) (output_view bench before))
+        (λ _. Nothing) (snapshot_of (job_plan plan) board 0 (read_view shelf new) (output_view bench after)) ⊤ ended
+    out_now {ended = ended} call honest right accepted = let fit = fits (shelf.stored old) (there_now accepted) in
+        let out : Outcome (AreBlank (jobs_over (work_of plan) (shelf.stored mid)) (whole_output plan (shelf.stored mid)))
+        (events_by handing (work_of plan).count) (start_of plan (read_view shelf mid) (output_view bench before))
+        (λ _. Nothing) (snapshot_of (job_plan plan) board 0 (read_view shelf new) (output_view bench after)) ⊤ ended
+        = outcome_plain (λ un. tt) (call.outcome (subst IsTrue (sym reads.honest_same) honest) right
+        (rw reads.same fit.0) (rw reads.same fit.1) none) in
+        rw (reads.same, reads.cause.left tt) at out
+
+    -- how its pieces came out
+    came : {ended : Result Progress ExecutionFault} (result : Result Copied Fault) → Call ended
+        → AnswersAs (consolidation_fault (length plan.runs) (is_some asked))
+        (λ (copied : Copied). SaysBy handing copied.progress) result ended → IsTrue (shelf.honest old)
+        → IsTrue (bench.honest before) → (text : List ℕ) → IsAccepted text (shelf.stored old) project binding
+        → ConsolidatesMedia leave project binding handle asked (events_by handing)
+        (λ fault_for. AnswersAs fault_for (λ (copied : Copied). SaysBy handing copied.progress) result)
+        (read_view shelf old) (read_view shelf new) (output_view bench before) (output_view bench after)
+    came {ended = ended} result call says honest right text accepted =
+        let fit = fits (shelf.stored old) (there_now accepted) in
+        record {
+          plan = plan;
+          planned = planned_now honest;
+          fits = fit.0;
+          apart = fit.1;
+          ended = ended;
+          answers = says;
+          foreign = call.bounded.output;
+          board = board;
+          came = out_now call honest right accepted;
+        }
+
+    named_now : {ended : Result Progress ExecutionFault} → Call ended → IsTrue (bench.honest before) → (n : List ℕ)
+        → IsElsewhere (is_some asked) 32767 n → bench.stored after n ≡ bench.stored before n
+    named_now call right n away = named_of names planned.planned.few call.bounded right n (rw planned.is_asked away)
+
+    -- its execution answered how far it came, and a plan whose outputs are whole is a consolidation
+    pub copied : {progress : Progress} → Call (Ok progress) → (AreRounds handing → IsAllDone progress)
+        → ((text : List ℕ) (leave : Leaving) (project : ListProject) (binding : Binding) (handle : ℕ)
+        (asked : Option AskedReport) (sources written : Files) → IsAccepted text sources project binding
+        → IsPlanOf leave project binding handle asked true sources plan → AreThere sources plan.sounds
+        → HoldJobs (job_plan plan) sources written → HoldLast (job_plan plan) sources written
+        → SoundsTheSame text sources written)
+        → ((leave : Leaving) (project : ListProject) (binding : Binding) (handle : ℕ) (asked : Option AskedReport)
+        (sources old written : Files) → IsPlanOf leave project binding handle asked true sources plan
+        → AreThere sources plan.sounds → HoldJobs (job_plan plan) sources written
+        → HoldLast (job_plan plan) sources written
+        → ((n : List ℕ) → IsForeign (job_plan plan) n → written n ≡ old n)
+        → IsConsolidated leave project binding handle asked sources old written counts)
+        → CopiesProject shelf bench handing leave project binding handle asked old new before after
+        (Ok (record { progress = progress; written = counts }))
+    copied {progress = progress} call all sounds made = record {
+      refusals = due;
+      own = λ text. tt;
+      named = named_now call;
+      outcome = λ honest right text accepted begun. came (Ok (record { progress = progress; written = counts })) call (says_all handing progress all) honest right text accepted;
+      stores = opened_before reads (went_on call.bounded.source call.bounded.output);
+      all_done = all;
+      finished = λ honest right text accepted done.
+          let whole = finished_all (out_now call honest right accepted) done in (
+            made leave project binding handle asked (shelf.stored old) (bench.stored before) (bench.stored after)
+                (planned_now honest) (there_now accepted) whole.1 whole.2 (call.bounded.output.others right),
+            sounds text leave project binding handle asked (shelf.stored old) (bench.stored after) accepted
+                (planned_now honest) (there_now accepted) whole.1 whole.2,
+          );
+      durable = λ right done. rw (← planned.is_asked, value) (all_durable names (bench.stored after)
+          (bench.may_leave after) (call.bounded.durable right done).outputs);
+      list_last = λ right unfinished. stays_before names ((job_plan plan).outputs - 1) call.bounded right
+          (list_last names) (list_at names).1 unfinished;
+      report_last = λ right. tt;
+    }
+
+    -- or why it ended
+    pub uncopied : {of : ExecutionFault} → Call (Err of) → (AreRounds handing → WantsNoPlace {X = Progress} (Err of))
+        → (AreRounds handing → WantsNoRoom {X = Progress} (Err of))
+        → CopiesProject shelf bench handing leave project binding handle asked old new before after
+        (Err (consolidation_fault (length plan.runs) (is_some asked) of))
+    uncopied {of = of} call place room = record {
+      refusals = λ honest work is. rw (due honest work is) (may_come (length plan.runs) (is_some asked) of);
+      own = λ text. of_media handing text (length plan.runs) (is_some asked) of place room;
+      named = named_now call;
+      outcome = λ honest right text accepted begun. came (Err (consolidation_fault (length plan.runs) (is_some asked) of)) call refl honest right text accepted;
+      stores = opened_before reads (rw (← planned.is_asked) (ended_by call.bounded.source call.bounded.output
+          (consolidation_fault (length plan.runs) (is_some plan.report) of)
+          (is_end bench plan before after of call.bounded.failed)));
+      all_done = λ rounds. tt;
+      finished = λ honest right text accepted. tt;
+      durable = λ right. tt;
+      list_last = λ right other. list_kept names call.bounded right (rw planned.is_asked other);
+      report_last = λ right. report_kept names call.bounded right (is_some asked) planned.is_asked;
+    }

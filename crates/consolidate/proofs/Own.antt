@@ -1,14 +1,16 @@
 -- Whose faults those of a call are.
-use Rattle.std.proofs.Common.{◌≡◌, ℕ, List, [], Ok, false}
+use Rattle.std.proofs.Common.{◌≡◌, ℕ, List, [], Ok, true, refl}
 use Rattle.work_terms.specs.Disk.{Files}
 use Rattle.list_terms.specs.Project.{ListProject}
 use Rattle.list_terms.specs.Lines.{cut_lines, lines_of}
 use Rattle.list_terms.specs.Text.{read_from, text_value}
+use Rattle.markfile.specs.declared.fault.MarkFault.{MarkFault}
+use Rattle.markfile.specs.declared.fault.MarkFault.TheVariants as marks
 use Rattle.opening.specs.Own as opening
 use Rattle.opening.specs.Own.{IsOfOpening}
 use Rattle.opening.specs.declared.fault.Fault as opened_fault
 use Rattle.opening.specs.declared.fault.Fault.TheVariants as opened
-use Rattle.consolidate.specs.Own.{IsFirst, IsOfConsolidation, IsOfConsolidationSchedule, IsOfProject, IsOfRendering, IsOfResuming}
+use Rattle.consolidate.specs.Own.{IsFirst, IsOfMarks, IsOfProject}
 use Rattle.consolidate.specs.declared.fault.Fault.{Fault}
 use Rattle.consolidate.specs.declared.fault.Fault.TheVariants as fault
 
@@ -34,19 +36,14 @@ comes_first Own of_opening text files (fault.Project of) own =
     opened_first text files of (λ any. of_opening any of (own any))
 comes_first Own of_opening text files _ own = tt
 
+-- of marks that are there it may be any
+pub of_marks : (of : MarkFault) → IsOfMarks true of
+of_marks marks.Memory = tt
+of_marks _ = refl
+
 -- a fault of the project is one of each call
 pub own_of : (Own : List ℕ → Fault → Type 0)
     → ((any : List ℕ) (of : opened_fault.Fault) → IsOfOpening any of → Own any (fault.Project of)) → {text : List ℕ}
     (of : Fault) → IsOfProject text of → Own text of
 own_of Own opens {text} (fault.Project of) own = opens text of own
 own_of Own opens _ own = absurd own
-
--- one of rendering a list is one of going on with it
-pub of_resuming : (text : List ℕ) (of : Fault) → IsOfRendering text of → IsOfResuming text of
-of_resuming text (fault.Marks of) own = tt
-of_resuming text _ own = own
-
--- one of a consolidation without a report is one of its schedule
-pub of_schedule : (text : List ℕ) (of : Fault) → IsOfConsolidation false text of → IsOfConsolidationSchedule text of
-of_schedule text fault.WorkerMemory own = tt
-of_schedule text _ own = own

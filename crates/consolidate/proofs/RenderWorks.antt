@@ -1,5 +1,5 @@
 -- What an execution of a marked rendering leaves.
-use Rattle.std.proofs.Common.{◌≡◌, ◌∙◌, ◌<◌, ◌==◌, ℕ, Bool, true, false, cond, None, Some, Result, Ok, Err, List, IsTrue, length, refl, sym, ap, subst, arith, true≢false, inl, inr, IfOk, All}
+use Rattle.std.proofs.Common.{◌≡◌, ◌∙◌, ◌<◌, ◌==◌, ℕ, suc, Bool, true, false, cond, Option, None, Some, Result, Ok, Err, List, [], ◌∷◌, map, replicate, IsTrue, length, refl, sym, ap, subst, arith, slice_index_or, true≢false, inl, inr, IfOk, IfSome, All}
 use Rattle.std.proofs.lemmas.Bool.{false≢true}
 use Rattle.std.proofs.lemmas.List.{length-map, length-replicate}
 use Rattle.work_terms.specs.Disk.{Files}
@@ -32,13 +32,17 @@ use Rattle.rendering.specs.Work.{RenderWork, done_before, heard, whole_of, work_
 use Rattle.rendering.specs.Clipping.{ClipsUnmarked}
 use Rattle.rendering.specs.Cut.{IsUniform}
 use Rattle.consolidate.specs.Fault.{name_of_output, refusal_of}
+use Rattle.consolidate.specs.Approaches.{AreRounds, are_events, events_by}
 use Rattle.consolidate.specs.Commands.{IsOutput, IsSource, KeepsStores}
 use Rattle.consolidate.specs.Outcomes.{AnswersAs, IsAllDone}
+use Rattle.consolidate.specs.Own.{IsOfWork}
 use Rattle.consolidate.specs.RenderOutcome.{in_rounds, rendering_fault}
-use Rattle.consolidate.specs.RenderWorks.{BeginsWork, DoesWork, GoesOnWithWork, IsPrepared, IsTakenUp, IsUnbegun, KeepsMarked, StandsAsMarked}
+use Rattle.consolidate.specs.RenderWorks.{Calls, ClipsWork, DoesWork, IsSoundWork, IsTakenUp, IsUnbegun, KeepsMarked, RunsOn, StandsAsMarked, WorksOn}
 use Rattle.consolidate.specs.declared.fault.Fault.{Fault}
 use Rattle.consolidate.specs.declared.fault.Fault.TheVariants as fault
 use Rattle.consolidate.specs.declared.fault.OutputFile.TheVariants as file
+use Rattle.consolidate.specs.declared.request.HandingOut.{HandingOut}
+use Rattle.consolidate.specs.declared.request.HandingOut.TheVariants.{Events, Rounds}
 use Rattle.consolidate.proofs.Listed.{none_left}
 use Rattle.consolidate.proofs.Stores.{IsEnd, IsUntouchedIn, LeavesNow, by_names, ended_by, idle, not_begun, outcome_plain, untouched, weaker, went_on}
 use Rattle.clipping.specs.declared.tally.Clips.{Clips}
@@ -201,25 +205,52 @@ module _ {S B : Type 0} {shelf : source.Ghosts S} {bench : output.Ghosts B} {m :
       untouched_by only_now false≢true false≢true (λ e. omega (arith, e)) left
   unbegun only_now _ un left = absurd un
 
--- ---- from its beginning, and with blocks that are marked
+-- ---- from its beginning, or on from blocks that are marked
+
+-- where no job is done all of them are open
+all_fresh : (done : List Bool) → ((k : ℕ) → k < length done → slice_index_or done k false ≡ false)
+    → map (λ d. cond d done_job fresh_job) done ≡ replicate (length done) fresh_job
+all_fresh [] none = refl
+all_fresh (d ∷ ds) none = rw (none 0 (omega arith), all_fresh ds (λ k lt. none (suc k) (omega (arith, lt)))) refl
 
 module _ {S B : Type 0} (shelf : source.Ghosts S) (bench : output.Ghosts B)
     (reads_now : (b : B) → IsTrue (bench.honest b) → bench.may_leave b (bench.stored b)) {x : MarkedWork}
-    {run : ExecutionView MarkedWork} {s0 s1 : S} {b0 b1 : B} {plan : JobPlan} {board : Board}
-    {result : Result Progress ExecutionFault} where
-  pub begins_work : (events : ℕ → List BoardEvent) {untouched : Type 0} → IsPrepared x run → IsMarkedWork x
-      → HasSoundJobs x
-      → Executed (events (work_of run.work.work).count)
-      (snapshot_of (plan_of run.work) run.board 0 (source_view shelf s0) (output_view bench b0)) (hands_at run)
-      (snapshot_of plan board 0 (source_view shelf s1) (output_view bench b1)) untouched result
-      → BeginsWork shelf bench events x s0 s1 b0 b1 (answered result)
-  begins_work events {untouched = untouched} p is sound call =
-      does shelf bench x s0 s1 b0 b1 (fresh_board (work_of x.work).count p.order) board result reads_now is sound
-      (length-replicate (length x.work.stretches) fresh_job)
-      (by_names plan_of (λ work next first had. Executed (events (work_of work.work).count)
+    {run : ExecutionView MarkedWork} (next : ExecutionView MarkedWork) (s0 s1 : S) (b0 b1 : B)
+    (result : Result Progress ExecutionFault) (p : IsTakenUp x run) (is : IsMarkedWork x) where
+  abbrev start : Board → Snapshot
+  start first = snapshot_of (plan_of x) first 0 (source_view shelf s0) (output_view bench b0)
+
+  abbrev left : Board
+  left = board_with p.done p.order
+
+  done_so : (first : Board) → run.board ≡ first → (k : ℕ) → k < (work_of x.work).count
+      → done_of first k ≡ done_before x.work k
+  done_so first same k lt = let there = subst (λ (n : ℕ). k < n) (sym p.count) lt in
+      ap (λ (b : Board). done_of b k) (sym same) ∙ p.agrees k there ∙ p.each k there
+
+  resting : StandsAsMarked x (shelf.stored s0) (bench.stored b0) (bench.may_leave b0)
+      → IsResting (start left) (λ _. Nothing)
+  resting st = let both = st (done_of left) (done_so left p.board) in
+      record { filled = both.1; marked = record { idle = λ w. refl; running = both.0 } }
+
+  known : Calls shelf bench Rounds (Some 0) run next s0 s1 b0 b1 result
+      → Resumed (in_rounds (work_of x.work).count) (start left) (λ _. Nothing)
+      (snapshot_of (plan_of x) next.board 0 (source_view shelf s1) (output_view bench b1)) result
+  known call = by_names plan_of (λ work after first had. Resumed (in_rounds (work_of work.work).count)
       (snapshot_of (plan_of work) first 0 (source_view shelf s0) (output_view bench b0)) had
-      (snapshot_of next board 0 (source_view shelf s1) (output_view bench b1)) untouched result)
-      p.work call.bounded.plan p.board p.idle call)
+      (snapshot_of after next.board 0 (source_view shelf s1) (output_view bench b1)) result)
+      p.work call.bounded.plan p.board p.idle call
+
+  pub works : (handing : HandingOut) (found : Option ℕ) → IsSoundWork found x
+      → Calls shelf bench handing found run next s0 s1 b0 b1 result
+      → WorksOn shelf bench handing found x s0 s1 b0 b1 (answered result)
+  works handing None sound call =
+      does shelf bench x s0 s1 b0 b1 (fresh_board count p.order) next.board result reads_now is sound.jobs
+      (length-replicate count fresh_job)
+      (by_names plan_of (λ work after first had. Executed (events_by handing (work_of work.work).count)
+      (snapshot_of (plan_of work) first 0 (source_view shelf s0) (output_view bench b0)) had
+      (snapshot_of after next.board 0 (source_view shelf s1) (output_view bench b1)) (s1 ≡ s0) result)
+      p.work call.bounded.plan same p.idle call)
       (λ b. fresh) (λ st. fresh) (λ st. record { fresh = fresh; unstarted = unstarted st })
       (λ c sets started. let left = sets (started_as (c marks_name) ∙ started) in
       record { marks = left.marks; there = left.there; ours = left.ours; sound = left.wave })
@@ -227,123 +258,118 @@ module _ {S B : Type 0} (shelf : source.Ghosts S) (bench : output.Ghosts B)
       (λ out. record {
         order = p.order;
         is_order = p.is_order;
-        came = record { board = board; came = outcome_plain (λ un. tt) out };
+        came = record { board = next.board; came = outcome_plain (λ un. tt) out };
       })
     where
-      fresh : IsFresh (snapshot_of (plan_of x) (fresh_board (work_of x.work).count p.order) 0 (source_view shelf s0)
-          (output_view bench b0)) (λ _. Nothing)
+      count : ℕ
+      count = (work_of x.work).count
+
+      same : run.board ≡ fresh_board count p.order
+      same = p.board ∙ rw (all_fresh p.done (λ k lt. p.each k lt ∙ sound.fresh refl k), p.count) refl
+
+      fresh : IsFresh (start (fresh_board count p.order)) (λ _. Nothing)
       fresh = record {
-        none = λ k lt. ap (λ (b : Board). done_of b k) (sym p.board)
-            ∙ p.undone k (omega (arith, lt, length-replicate (length x.work.stretches) fresh_job));
+        none = λ k lt. done_so (fresh_board count p.order) same k (rw length-replicate at lt) ∙ sound.fresh refl k;
         idle = λ w. refl;
       }
 
       unstarted : NoneStarted (bench.may_leave b0)
           → NoneStartedBy (Some (marks_of x (shelf.stored s0))) (bench.may_leave b0)
       unstarted none c at = started_as (c marks_name) ∙ none c at
+  works handing (Some found) sound call = does shelf bench x s0 s1 b0 b1 left next.board result reads_now is sound.jobs
+      (length-map p.done (λ (d : Bool). cond d done_job fresh_job) ∙ p.count) (known call) resting resting
+      (λ st. (resting st).marked)
+      (λ c left started. record { marks = left.marks; there = left.there; ours = left.ours; sound = left.wave })
+      (λ st un. absurd un)
+      (λ out. record {
+        order = p.order;
+        is_order = p.is_order;
+        done = p.done;
+        count = p.count;
+        each = p.each;
+        came = record { board = next.board; came = outcome_plain (λ un. un) out };
+      })
 
-  module _ (p : IsTakenUp x run) (is : IsMarkedWork x)
-      (call : Resumed (in_rounds (work_of run.work.work).count)
-      (snapshot_of (plan_of run.work) run.board 0 (source_view shelf s0) (output_view bench b0)) (hands_at run)
-      (snapshot_of plan board 0 (source_view shelf s1) (output_view bench b1)) result) where
-    abbrev first : Board
-    first = board_with p.done p.order
+  -- what was marked stands at each moment
+  pub keeps_work : (handing : HandingOut) (found : Option ℕ) → Calls shelf bench handing found run next s0 s1 b0 b1 result
+      → IfSome found (λ _. KeepsMarked shelf bench x s0 b0 b1)
+  keeps_work handing None call = tt
+  keeps_work handing (Some found) call = λ honest whole st marks there.
+      let marked = (resting st).marked in
+      let h = (known call).moments honest whole marked in
+      weaker (λ c kept. marked_stays x (shelf.stored s0) is (done_of left) (done_of next.board) (bench.may_leave b0)
+      (bench.stored b0) c marks marked.running (reads_now b0 whole) there kept)
+      (record { later = h.later; each = h.each; before = h.before })
 
-    abbrev start : Snapshot
-    start = snapshot_of (plan_of x) first 0 (source_view shelf s0) (output_view bench b0)
+  same_size : (handing : HandingOut) (found : Option ℕ) → Calls shelf bench handing found run next s0 s1 b0 b1 result
+      → length next.board.jobs ≡ length run.board.jobs
+  same_size handing None call = call.bounded.size
+  same_size handing (Some found) call = call.bounded.size
 
-    resting : StandsAsMarked x (shelf.stored s0) (bench.stored b0) (bench.may_leave b0)
-        → IsResting start (λ _. Nothing)
-    resting st = let both = st (done_of first) agrees in
-        record { filled = both.1; marked = record { idle = λ w. refl; running = both.0 } }
-      where
-        agrees : (k : ℕ) → k < (work_of x.work).count → done_of first k ≡ done_before x.work k
-        agrees k lt = let there = subst (λ (n : ℕ). k < n) (sym p.count) lt in
-            ap (λ (b : Board). done_of b k) (sym p.board) ∙ p.agrees k there ∙ p.each k there
+  -- what is clipped of a work whose open jobs are all done by rounds
+  pub clips_of : (handing : HandingOut) (found : Option ℕ) → IsTrue (is_finished next.board)
+      → RunsOn shelf bench handing found run next s0 s1 b0 b1 result → (clips : Clips)
+      → ((sources : Files) (marked : List Bool) → All (IsUniform marked) next.work.work.stretches
+      → ((k : ℕ) → k < (plan_of next.work).jobs.count → done_before next.work.work k ≡ false
+      → HasClips next.work sources k) → ClipsUnmarked marked next.work.work.planned.range
+      (heard next.work.work.planned next.work.work.sounds sources) clips)
+      → IsTrue (shelf.honest s0) → ClipsWork x (shelf.stored s0) clips
+  clips_of handing found finished r clips counts honest marked uniform =
+      subst (λ (w : RenderWork). ClipsUnmarked marked w.planned.range (heard w.planned w.sounds (shelf.stored s0)) clips)
+      same (counts (shelf.stored s0) marked (rw same uniform)
+      (λ k below off. noted k (rw same at below) (rw same at off)))
+    where
+      notes : KeepsNotes (λ (first : MarkedWork). run.work.work ≡ first.work)
+          (λ (first : MarkedWork). next.work.work ≡ first.work) (HasClips run.work (shelf.stored s0))
+          (HasClips next.work (shelf.stored s0)) (done_of run.board) (done_of next.board) (hands_at run)
+          (hands_at next)
+      notes = r.notes honest
 
-    known : Resumed (in_rounds (work_of x.work).count) start (λ _. Nothing)
-        (snapshot_of (plan_of x) board 0 (source_view shelf s1) (output_view bench b1)) result
-    known = by_names plan_of (λ work next first had. Resumed (in_rounds (work_of work.work).count)
-        (snapshot_of (plan_of work) first 0 (source_view shelf s0) (output_view bench b0)) had
-        (snapshot_of next board 0 (source_view shelf s1) (output_view bench b1)) result)
-        p.work call.bounded.plan p.board p.idle call
+      same : next.work.work ≡ x.work
+      same = notes.same x (ap (λ (w : MarkedWork). w.work) p.work)
 
-    pub goes_on_work : HasSoundJobs x → GoesOnWithWork shelf bench x s0 s1 b0 b1 (answered result)
-    goes_on_work sound = does shelf bench x s0 s1 b0 b1 first board result reads_now is sound
-        (length-map p.done (λ (d : Bool). cond d done_job fresh_job) ∙ p.count) known resting resting
-        (λ st. (resting st).marked)
-        (λ c left started. record { marks = left.marks; there = left.there; ours = left.ours; sound = left.wave })
-        (λ st un. absurd un)
-        (λ out. record {
-          order = p.order;
-          is_order = p.is_order;
-          done = p.done;
-          count = p.count;
-          each = p.each;
-          came = record { board = board; came = out };
-        })
+      noted : (k : ℕ) → k < length x.work.stretches → done_before x.work k ≡ false
+          → HasClips next.work (shelf.stored s0) k
+      noted k below off =
+          elim (notes.done (λ w. subst (IsNoted (HasClips run.work (shelf.stored s0))) (sym (p.idle w)) tt) k
+          (finished_done next.board finished k
+          (omega (
+            arith,
+            below,
+            same_size handing found r.called,
+            ap length (ap (λ (b : Board). b.jobs) p.board),
+            length-map p.done (λ (d : Bool). cond d done_job fresh_job),
+            p.count,
+          )))) [
+            | inl done ↦ absurd (true≢false (sym done ∙ done_so run.board refl k below ∙ off))
+            | inr note ↦ note
+          ]
 
-    -- what was marked stands at each moment
-    pub keeps_work : KeepsMarked shelf bench x s0 b0 b1
-    keeps_work honest whole st marks there =
-        let marked = (resting st).marked in
-        let h = known.moments honest whole marked in
-        weaker (λ c left. marked_stays x (shelf.stored s0) is (done_of first) (done_of board) (bench.may_leave b0)
-        (bench.stored b0) c marks marked.running (reads_now b0 whole) there left)
-        (record { later = h.later; each = h.each; before = h.before })
+-- its fault is one that it may tell: only by events do workers take memory
+pub own_by : (handing : HandingOut) (again : Bool) (text : List ℕ) (of : Fault)
+    → (AreRounds handing → IsOfWork again false text of) → IsOfWork again true text of
+    → IsOfWork again (are_events handing) text of
+own_by Rounds again text of rounds events = rounds tt
+own_by (Events given) again text of rounds events = events
 
 -- ---- or not begun at all
 
 module _ {S B : Type 0} (shelf : source.Ghosts S) (bench : output.Ghosts B) (only_now : (b : B) → LeavesNow bench b)
     (x : MarkedWork) (s : S) (b : B) where
-  pub not_prepared : (events : ℕ → List BoardEvent) (cause : Fault) → IsUnbegun cause
-      → BeginsWork shelf bench events x s s b b (Err cause)
-  not_prepared events cause un =
+  pub not_begun_work : (handing : HandingOut) (found : Option ℕ) (cause : Fault) → IsUnbegun cause
+      → WorksOn shelf bench handing found x s s b b (Err cause)
+  not_begun_work handing None cause un =
       unbegun only_now cause un (none_left (marks_of x (shelf.stored s)) (bench.may_leave b))
-
-  pub not_taken_up : (cause : Fault) → IsUnbegun cause → GoesOnWithWork shelf bench x s s b b (Err cause)
-  not_taken_up cause un = unbegun only_now cause un
+  not_begun_work handing (Some found) cause un = unbegun only_now cause un
       (λ st c d at other started. running_true (Some (marks_of x (shelf.stored s))) (done_before x.work)
       (bench.may_leave b) (st (done_before x.work) (λ k lt. refl)).0 c d at other)
 
-  pub not_taken_keeps : ((b : B) → IsTrue (bench.honest b) → bench.may_leave b (bench.stored b)) → IsMarkedWork x
-      → KeepsMarked shelf bench x s b b
-  not_taken_keeps reads_now is honest whole st marks there =
+  pub not_begun_keeps : (found : Option ℕ) → ((b : B) → IsTrue (bench.honest b) → bench.may_leave b (bench.stored b))
+      → IsMarkedWork x → IfSome found (λ _. KeepsMarked shelf bench x s b b)
+  not_begun_keeps None reads_now is = tt
+  not_begun_keeps (Some found) reads_now is = λ honest whole st marks there.
       let running = (st (done_before x.work) (λ k lt. refl)).0 in
       idle (λ c at. marked_stays x (shelf.stored s) is (done_before x.work) (done_before x.work) (bench.may_leave b)
       (bench.stored b) c marks running (reads_now b whole) there
       (running_leaves (Some (marks_of x (shelf.stored s))) (done_before x.work) (bench.may_leave b) c running
       (only_now b c at)))
-
--- ---- what is clipped
-
--- what a work that has noted its open jobs makes of it
-abbrev pub Counts : MarkedWork → Clips → Type 0
-Counts is clips = (sources : Files) (marked : List Bool) → All (IsUniform marked) is.work.stretches
-    → ((k : ℕ) → k < (plan_of is).jobs.count → done_before is.work k ≡ false → HasClips is sources k)
-    → ClipsUnmarked marked is.work.planned.range (heard is.work.planned is.work.sounds sources) clips
-
--- of a work whose open jobs are all done by a run
-pub clips_of : (x : MarkedWork) (run new : ExecutionView MarkedWork) (sources : Files) (marked : List Bool)
-    (clips : Clips) → run.work ≡ x → ((w : ℕ) → hands_at run w ≡ Nothing)
-    → length run.board.jobs ≡ length x.work.stretches
-    → ((k : ℕ) → k < length x.work.stretches → done_before x.work k ≡ false → done_of run.board k ≡ false)
-    → KeepsNotes (λ (first : MarkedWork). run.work.work ≡ first.work)
-    (λ (first : MarkedWork). new.work.work ≡ first.work) (HasClips run.work sources) (HasClips new.work sources)
-    (done_of run.board) (done_of new.board) (hands_at run) (hands_at new)
-    → is_finished new.board ≡ true → length new.board.jobs ≡ length run.board.jobs
-    → All (IsUniform marked) x.work.stretches → Counts new.work clips
-    → ClipsUnmarked marked x.work.planned.range (heard x.work.planned x.work.sounds sources) clips
-clips_of x run new sources marked clips is idle count undone notes finished size uniform counts =
-    subst (λ (w : RenderWork). ClipsUnmarked marked w.planned.range (heard w.planned w.sounds sources) clips) same
-    (counts sources marked (rw same uniform) (λ k below off. noted k (rw same at below) (rw same at off)))
-  where
-    same : new.work.work ≡ x.work
-    same = notes.same x (ap (λ (w : MarkedWork). w.work) is)
-
-    noted : (k : ℕ) → k < length x.work.stretches → done_before x.work k ≡ false → HasClips new.work sources k
-    noted k below off = elim (notes.done (λ w. subst (IsNoted (HasClips run.work sources)) (sym (idle w)) tt) k
-        (finished_done new.board finished k (subst (λ (n : ℕ). k < n) (sym (size ∙ count)) below))) [
-          | inl done ↦ absurd (true≢false (sym done ∙ undone k below off))
-          | inr note ↦ note
-        ]

@@ -280,49 +280,32 @@ done_as so quiet did = record {
   laws = rw quiet at did.laws;
 }
 
-module _ {events : List BoardEvent} {plan : JobPlan} {first : Board} {had : ℕ → Hand} {new : Snapshot}
-    {ended : Result Progress ExecutionFault} where
-  -- of sources that hold the same, and of outputs to which nothing was written since
-  outcome_as : {Begins Starts : Files → Type 0} {f : Files} {n : ℕ} {h h' : Bool} {p p' : List ℕ → Type 0}
-      {o u : OutputView} {untouched plain : Type 0} → (untouched → plain)
-      → ((laid : Files) → Begins laid → Starts laid) → o.failures ≡ u.failures
-      → ((stays : List ℕ → Type 0) → Writes stays u o)
-      → (NoneStartedBy (plan.marking f) u.may_leave → NoneStartedBy (plan.marking f) o.may_leave)
-      → Outcome Begins events (snapshot_of plan first 0 (source_of f h n p) o) had new untouched ended
-      → Outcome Starts events (snapshot_of plan first 0 (source_of f h' n p') u) had new plain ended
-  outcome_as un_so so quiet wrote none (NotLaidOut file un is same still writes laid) =
-      NotLaidOut file (un_so un) is same still (writes_then (wrote (Stays plan)) writes)
-      (λ unstarted. laid (none unstarted))
-  outcome_as un_so so quiet wrote none (Stopped stale count did stops writes runs) =
-      Stopped stale count (done_as so quiet did) stops (writes_then (wrote (Stays plan)) writes) runs
-  outcome_as un_so so quiet wrote none (NotFinished file stale count failures files did all is own rose runs) =
-      NotFinished file stale count failures files (done_as so quiet did) all is own rose runs
-  outcome_as un_so so quiet wrote none (Finished stale count files did all is own last durable runs) =
-      Finished stale count files (done_as so quiet did) all is own last durable runs
+-- of sources that hold the same, and of outputs to which nothing was written since
+pub outcome_as : {Begins Starts : Files → Type 0} {events : List BoardEvent} {plan after : JobPlan} {first board : Board}
+    {had : ℕ → Hand} {f g : Files} {n m : ℕ} {h h' k k' : Bool} {p p' q q' : List ℕ → Type 0} {o u e : OutputView}
+    {untouched plain : Type 0} {ended : Result Progress ExecutionFault} → (untouched → plain)
+    → ((laid : Files) → Begins laid → Starts laid) → o.failures ≡ u.failures
+    → ((stays : List ℕ → Type 0) → Writes stays u o)
+    → (NoneStartedBy (plan.marking f) u.may_leave → NoneStartedBy (plan.marking f) o.may_leave)
+    → Outcome Begins events (snapshot_of plan first 0 (source_of f h n p) o) had
+    (snapshot_of after board 0 (source_of g k m q) e) untouched ended
+    → Outcome Starts events (snapshot_of plan first 0 (source_of f h' n p') u) had
+    (snapshot_of after board 0 (source_of g k' m q') e) plain ended
+outcome_as un_so so quiet wrote none (NotLaidOut file un is same still writes laid) =
+    NotLaidOut file (un_so un) is same still (writes_then (wrote (Stays _)) writes) (λ unstarted. laid (none unstarted))
+outcome_as un_so so quiet wrote none (Stopped stale count did stops writes runs) =
+    Stopped stale count (done_as so quiet did) stops (writes_then (wrote (Stays _)) writes) runs
+outcome_as un_so so quiet wrote none (NotFinished file stale count failures files did all is own rose runs) =
+    NotFinished file stale count failures files (done_as so quiet did) all is own rose runs
+outcome_as un_so so quiet wrote none (Finished stale count files did all is own last durable runs) =
+    Finished stale count files (done_as so quiet did) all is own last durable runs
 
-  -- a wider word for what was left untouched
-  pub outcome_plain : {Begins : Files → Type 0} {f : Files} {n : ℕ} {h h' : Bool} {p p' : List ℕ → Type 0}
-      {o : OutputView} {untouched plain : Type 0} → (untouched → plain)
-      → Outcome Begins events (snapshot_of plan first 0 (source_of f h n p) o) had new untouched ended
-      → Outcome Begins events (snapshot_of plan first 0 (source_of f h' n p') o) had new plain ended
-  outcome_plain {o = o} so =
-      outcome_as so (λ laid begins. begins) refl (λ stays. writes_none stays o) (λ none. none)
-
-  -- the sources as they were opened: the same files, and as many failures
-  pub outcome_opened : {S : Type 0} (shelf : source.Ghosts S) (old mid : S) {o : OutputView} {untouched plain : Type 0}
-      (Begins : Files → Files → Type 0) → shelf.stored mid ≡ shelf.stored old
-      → shelf.failures mid ≡ shelf.failures old → (untouched → plain)
-      → Outcome (Begins (shelf.stored mid)) events (snapshot_of plan first 0 (source_view shelf mid) o) had new
-      untouched ended
-      → Outcome (Begins (shelf.stored old)) events (snapshot_of plan first 0 (source_view shelf old) o) had new plain
-      ended
-  outcome_opened shelf old mid Begins same quiet so out = outcome_plain so (rw (same, quiet) at out)
-
-  -- the outputs before marks were opened
-  pub outcome_before : {Begins Starts : Files → Type 0} {s : SourceView} {o u : OutputView} {untouched : Type 0}
-      → ((laid : Files) → Begins laid → Starts laid) → o.failures ≡ u.failures
-      → ((stays : List ℕ → Type 0) → Writes stays u o)
-      → (NoneStartedBy (plan.marking s.files) u.may_leave → NoneStartedBy (plan.marking s.files) o.may_leave)
-      → Outcome Begins events (snapshot_of plan first 0 s o) had new untouched ended
-      → Outcome Starts events (snapshot_of plan first 0 s u) had new untouched ended
-  outcome_before = outcome_as (λ un. un)
+-- a wider word for what was left untouched
+pub outcome_plain : {Begins : Files → Type 0} {events : List BoardEvent} {plan after : JobPlan} {first board : Board}
+    {had : ℕ → Hand} {f g : Files} {n m : ℕ} {h h' k k' : Bool} {p p' q q' : List ℕ → Type 0} {o e : OutputView}
+    {untouched plain : Type 0} {ended : Result Progress ExecutionFault} → (untouched → plain)
+    → Outcome Begins events (snapshot_of plan first 0 (source_of f h n p) o) had
+    (snapshot_of after board 0 (source_of g k m q) e) untouched ended
+    → Outcome Begins events (snapshot_of plan first 0 (source_of f h' n p') o) had
+    (snapshot_of after board 0 (source_of g k' m q') e) plain ended
+outcome_plain {o = o} so = outcome_as so (λ laid begins. begins) refl (λ stays. writes_none stays o) (λ none. none)

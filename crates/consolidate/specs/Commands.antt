@@ -3,7 +3,7 @@ use Rattle.std.specs.Prelude.{◌≡◌, ◌≢◌, ◌≤◌, ◌==◌, ◌||�
 use Rattle.devices.specs.declared.source.Shelf as source
 use Rattle.devices.specs.declared.bench.Bench as output
 use Rattle.devices.specs.Frame.{OnlyReads}
-use Rattle.devices.specs.Views.{output_view, source_view}
+use Rattle.devices.specs.Views.{output_view}
 use Rattle.job_terms.specs.Workers.{rounds}
 use Rattle.job_terms.specs.declared.BoardEvent.{BoardEvent}
 use Rattle.execution.specs.declared.fault.ExecutionFault.{ExecutionFault}
@@ -33,7 +33,7 @@ use Rattle.consolidation.specs.Consolidated.{AreDurable, IsElsewhere, IsWorkOf, 
 use Rattle.consolidation.specs.Work.{SoundsTheSame}
 use Rattle.consolidate.specs.Fault.{refusal_of}
 use Rattle.consolidate.specs.MediaOutcome.{ConsolidatesList}
-use Rattle.consolidate.specs.Outcomes.{HasBegun, AnswersAs}
+use Rattle.consolidate.specs.Outcomes.{HasBegun, AnswersAs, read_view}
 use Rattle.consolidate.specs.RenderOutcome.{RendersList, in_rounds, rendering_fault}
 use Rattle.consolidate.specs.Own.{IsFirst, IsOfConsolidation, IsOfProject, IsOfRendering}
 use Rattle.consolidate.specs.Marks.{AreBothDurable, HasAllMarks, IsLeftByRendering, IsLeftOf}
@@ -202,7 +202,7 @@ module _ {S B : Type 0} (shelf : source.Ghosts S) (bench : output.Ghosts B) wher
     pub answer : IsAnswer (λ _. ⊤) (IsRendered list values (shelf.stored shelf_old) (bench.stored bench_new))
         (λ _ progress. progress.finished ≡ true) list values ⊤ (NoneStarted (bench.may_leave bench_old)) ⊤
         (render_refusal list values (shelf.stored shelf_old)) IsOfRendering
-        (RendersList jobs in_rounds list values (source_view shelf shelf_old) (source_view shelf shelf_new)
+        (RendersList jobs in_rounds list values (read_view shelf shelf_old) (read_view shelf shelf_new)
         (output_view bench bench_old) (output_view bench bench_new)) shelf_old shelf_new bench_old bench_new result
     pub report : IfOk result (Reports list values)
 
@@ -218,8 +218,9 @@ module _ {S B : Type 0} (shelf : source.Ghosts S) (bench : output.Ghosts B) wher
     pub named : IsTrue (bench.honest bench_old) → (n : List ℕ) → IsElsewhere (is_some asked) 32767 n
         → bench.stored bench_new n ≡ bench.stored bench_old n
     pub outcome : IsTrue (shelf.honest shelf_old) → IsTrue (bench.honest bench_old) → HasBegun result
-        → ConsolidatesList leave list handle asked events Says (source_view shelf shelf_old)
-        (source_view shelf shelf_new) (output_view bench bench_old) (output_view bench bench_new) result
+        → ConsolidatesList leave list handle asked events (λ fault_for. AnswersAs fault_for Says result)
+        (read_view shelf shelf_old) (read_view shelf shelf_new) (output_view bench bench_old)
+        (output_view bench bench_new)
     pub stores : KeepsStores shelf_old shelf_new bench_old bench_new result
 
   -- the list was consolidated over these stores by what passes leave of it, with the report that is asked for,

@@ -1,14 +1,16 @@
+pub mod Approaches
 pub mod Asked
 pub mod Clipping
 pub mod Commands
 pub mod CompareFault
 pub mod Comparing
+pub mod Copied
 pub mod Fault
 pub mod Listed
+pub mod MadeSound
 pub mod Marks
 pub mod MediaOutcome
 pub mod Outcomes
-pub mod OfProject
 pub mod Own
 pub mod RenderOutcome
 pub mod RenderWorks

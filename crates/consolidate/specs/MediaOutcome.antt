@@ -21,7 +21,6 @@ use Rattle.provenance.specs.Asked.{AskedReport}
 use Rattle.consolidation.specs.Jobs.{work_of}
 use Rattle.consolidation.specs.Outputs.{job_plan, whole_output}
 use Rattle.consolidation.specs.Planned.{IsPlanOf, MediaPlan}
-use Rattle.consolidate.specs.Outcomes.{AnswersAs}
 use Rattle.consolidate.specs.declared.fault.Fault.{Fault}
 use Rattle.consolidate.specs.declared.fault.Fault.TheVariants as fault
 use Rattle.consolidate.specs.declared.fault.OutputFile.{OutputFile}
@@ -51,15 +50,16 @@ consolidation_fault media reported (execution.Output number) = fault.Output (out
 -- pieces, which lie apart and are parts of the media, are handed out each in its turn, and what comes last is the report,
 -- where one is asked for, and the list. No other file changed, nor what a crash leaves of it. What the call answers is how
 -- that ended.
-pub record ConsolidatesMedia {X : Type 0} (leave : Leaving) (project : ListProject) (binding : Binding) (handle : ℕ)
-    (asked : Option AskedReport) (events : ℕ → List BoardEvent) (Reports : X → Progress → Type 0)
-    (source_old source_new : SourceView) (output_old output_new : OutputView) (result : Result X Fault) : Type 0 where
+pub record ConsolidatesMedia (leave : Leaving) (project : ListProject) (binding : Binding) (handle : ℕ)
+    (asked : Option AskedReport) (events : ℕ → List BoardEvent)
+    (Answers : (ExecutionFault → Fault) → Result Progress ExecutionFault → Type 0) (source_old source_new : SourceView)
+    (output_old output_new : OutputView) : Type 0 where
   pub plan : MediaPlan
   pub planned : IsPlanOf leave project binding handle asked true source_old.files plan
   pub fits : SourcesFit (job_plan plan) source_old.files
   pub apart : AreApart (jobs_over (work_of plan) source_old.files)
   pub ended : Result Progress ExecutionFault
-  pub answers : AnswersAs (consolidation_fault (length plan.runs) (is_some asked)) Reports result ended
+  pub answers : Answers (consolidation_fault (length plan.runs) (is_some asked)) ended
   pub foreign : Writes (IsForeign (job_plan plan)) output_old output_new
   pub board : Board
   pub came : Outcome (AreBlank (jobs_over (work_of plan) source_old.files) (whole_output plan source_old.files))
@@ -68,11 +68,11 @@ pub record ConsolidatesMedia {X : Type 0} (leave : Leaving) (project : ListProje
       source_old output_old) (λ _. Nothing) (snapshot_of (job_plan plan) board 0 source_new output_new) ⊤ ended
 
 -- of the project of an accepted list
-pub record ConsolidatesList {X : Type 0} (leave : Leaving) (text : List ℕ) (handle : ℕ) (asked : Option AskedReport)
-    (events : ℕ → List BoardEvent) (Reports : X → Progress → Type 0) (source_old source_new : SourceView)
-    (output_old output_new : OutputView) (result : Result X Fault) : Type 0 where
+pub record ConsolidatesList (leave : Leaving) (text : List ℕ) (handle : ℕ) (asked : Option AskedReport)
+    (events : ℕ → List BoardEvent) (Answers : (ExecutionFault → Fault) → Result Progress ExecutionFault → Type 0)
+    (source_old source_new : SourceView) (output_old output_new : OutputView) : Type 0 where
   pub project : ListProject
   pub binding : Binding
   pub accepted : IsAccepted text source_old.files project binding
-  pub run : ConsolidatesMedia leave project binding handle asked events Reports source_old source_new output_old
-      output_new result
+  pub run : ConsolidatesMedia leave project binding handle asked events Answers source_old source_new output_old
+      output_new

@@ -1,5 +1,5 @@
 -- Which faults each call may tell.
-use Rattle.std.specs.Prelude.{◌≡◌, ℕ, ◌≤◌, Bool, IsTrue, false, ⊤, Result, IfErr}
+use Rattle.std.specs.Prelude.{ℕ, Bool, IsTrue, false, true, ⊤}
 use Rattle.std.specs.Prelude as bytes
 use Rattle.work_terms.specs.Disk.{Files}
 use Rattle.opening.specs.Own as opening
@@ -26,33 +26,33 @@ IsRenderedFile Rendering = ⊤
 IsRenderedFile Marks = ⊤
 IsRenderedFile _ = ⊥
 
--- no memory for new marks
-abbrev pub IsOfFresh : MarkFault → Type 0
-IsOfFresh marks.Memory = ⊤
-IsOfFresh _ = ⊥
+-- no memory for new marks, or any fault of those that are there
+abbrev pub IsOfMarks : (again : Bool) → MarkFault → Type 0
+IsOfMarks again marks.Memory = ⊤
+IsOfMarks again of = IsTrue again
 
--- or one of rendering it
+-- or one of rendering it, of going on with its marks, or of its schedule, whose workers take memory as they come
+abbrev pub IsOfWork : (again scheduled : Bool) → bytes.List ℕ → Fault → Type 0
+IsOfWork again scheduled text (fault.Project of) = IsOfOpening text of
+IsOfWork again scheduled text fault.Intervals = ⊤
+IsOfWork again scheduled text fault.RenderMemory = ⊤
+IsOfWork again scheduled text fault.EmptyRange = ⊤
+IsOfWork again scheduled text fault.BoardMemory = ⊤
+IsOfWork again scheduled text (fault.Marks of) = IsOfMarks again of
+IsOfWork again scheduled text fault.WorkerMemory = IsTrue scheduled
+IsOfWork again scheduled text fault.BlockMemory = IsTrue scheduled
+IsOfWork again scheduled text (fault.GivenUp job) = ⊤
+IsOfWork again scheduled text (fault.Output file) = IsRenderedFile file
+IsOfWork again scheduled text _ = ⊥
+
 abbrev pub IsOfRendering : bytes.List ℕ → Fault → Type 0
-IsOfRendering text (fault.Project of) = IsOfOpening text of
-IsOfRendering text fault.Intervals = ⊤
-IsOfRendering text fault.RenderMemory = ⊤
-IsOfRendering text fault.EmptyRange = ⊤
-IsOfRendering text fault.BoardMemory = ⊤
-IsOfRendering text (fault.Marks of) = IsOfFresh of
-IsOfRendering text (fault.GivenUp job) = ⊤
-IsOfRendering text (fault.Output file) = IsRenderedFile file
-IsOfRendering text _ = ⊥
+IsOfRendering = IsOfWork false false
 
--- or one of going on with its marks
 abbrev pub IsOfResuming : bytes.List ℕ → Fault → Type 0
-IsOfResuming text (fault.Marks of) = ⊤
-IsOfResuming text of = IsOfRendering text of
+IsOfResuming = IsOfWork true false
 
--- or one of the schedule of a rendering, whose workers take memory as they come
 abbrev pub IsOfRenderSchedule : bytes.List ℕ → Fault → Type 0
-IsOfRenderSchedule text fault.WorkerMemory = ⊤
-IsOfRenderSchedule text fault.BlockMemory = ⊤
-IsOfRenderSchedule text of = IsOfRendering text of
+IsOfRenderSchedule = IsOfWork false true
 
 abbrev pub IsConsolidatedFile : Bool → OutputFile → Type 0
 IsConsolidatedFile reported (Medium number) = ⊤
@@ -61,28 +61,22 @@ IsConsolidatedFile reported Report = IsTrue reported
 IsConsolidatedFile reported List = ⊤
 IsConsolidatedFile reported _ = ⊥
 
--- or one of consolidating it, with a report or without one
+-- or one of consolidating it, with a report or without one, or of the schedule of that
+abbrev pub IsOfMedia : (reported scheduled : Bool) → bytes.List ℕ → Fault → Type 0
+IsOfMedia reported scheduled text (fault.Project of) = IsOfOpening text of
+IsOfMedia reported scheduled text fault.Intervals = ⊤
+IsOfMedia reported scheduled text fault.PassMemory = ⊤
+IsOfMedia reported scheduled text (fault.Silence name) = ⊤
+IsOfMedia reported scheduled text (fault.Runs of) = ⊤
+IsOfMedia reported scheduled text (fault.Relink of) = ⊤
+IsOfMedia reported scheduled text fault.BoardMemory = ⊤
+IsOfMedia reported scheduled text fault.WorkerMemory = IsTrue scheduled
+IsOfMedia reported scheduled text (fault.GivenUp job) = ⊤
+IsOfMedia reported scheduled text (fault.Output file) = IsConsolidatedFile reported file
+IsOfMedia reported scheduled text _ = ⊥
+
 abbrev pub IsOfConsolidation : Bool → bytes.List ℕ → Fault → Type 0
-IsOfConsolidation reported text (fault.Project of) = IsOfOpening text of
-IsOfConsolidation reported text fault.Intervals = ⊤
-IsOfConsolidation reported text fault.PassMemory = ⊤
-IsOfConsolidation reported text (fault.Silence name) = ⊤
-IsOfConsolidation reported text (fault.Runs of) = ⊤
-IsOfConsolidation reported text (fault.Relink of) = ⊤
-IsOfConsolidation reported text fault.BoardMemory = ⊤
-IsOfConsolidation reported text (fault.GivenUp job) = ⊤
-IsOfConsolidation reported text (fault.Output file) = IsConsolidatedFile reported file
-IsOfConsolidation reported text _ = ⊥
+IsOfConsolidation reported = IsOfMedia reported false
 
--- or one of the schedule of a consolidation
 abbrev pub IsOfConsolidationSchedule : bytes.List ℕ → Fault → Type 0
-IsOfConsolidationSchedule text fault.WorkerMemory = ⊤
-IsOfConsolidationSchedule text of = IsOfConsolidation false text of
-
--- whatever the list is: where a call fails, its fault is one of rendering it
-abbrev pub FailsAtRendering : {X : Type 0} → Result X Fault → Type 0
-FailsAtRendering result = (text : bytes.List ℕ) → IfErr result (IsOfRendering text)
-
--- or one of the schedule of that
-abbrev pub FailsAtSchedule : {X : Type 0} → Result X Fault → Type 0
-FailsAtSchedule result = (text : bytes.List ℕ) → IfErr result (IsOfRenderSchedule text)
+IsOfConsolidationSchedule = IsOfMedia false true

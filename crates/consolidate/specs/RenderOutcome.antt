@@ -17,6 +17,7 @@ use Rattle.list_terms.specs.Heard.{IsAccepted}
 use Rattle.list_terms.specs.Project.{ListProject}
 use Rattle.markfile.specs.Opened.{opened_of}
 use Rattle.markfile.specs.declared.fault.MarkFault.{MarkFault}
+use Rattle.markfile.specs.declared.run.RunId.{RunId}
 use Rattle.rendering.specs.Maker.{HasSoundJobs, plan_of}
 use Rattle.rendering.specs.Marked.{MarkedWork, run_of}
 use Rattle.rendering.specs.Planned.{IsRenderingOf}
@@ -93,29 +94,35 @@ pub record GoesOnBound (jobs : JobLength) (text : List ℕ) (values : OptionValu
   pub came : IsResumedWork work source_old source_new output_old output_new ended
 
 -- the same by what the marks are read as: all blocks are jobs where none are started
-abbrev pub ResumesBound : JobLength → List ℕ → OptionValues → ListProject → Binding → Result (Option (List Bool)) MarkFault
-    → SourceView → SourceView → OutputView → OutputView → Result Progress ExecutionFault → Type 0
-ResumesBound jobs text values project binding (Ok None) source_old source_new output_old output_new ended =
-    RendersBound jobs in_rounds text values project binding source_old source_new output_old output_new ended
-ResumesBound jobs text values project binding (Ok (Some marked)) source_old source_new output_old output_new ended =
+abbrev pub WorksBound : JobLength → (ℕ → List BoardEvent) → List ℕ → OptionValues → ListProject → Binding
+    → Result (Option (List Bool)) MarkFault → SourceView → SourceView → OutputView → OutputView
+    → Result Progress ExecutionFault → Type 0
+WorksBound jobs events text values project binding (Ok None) source_old source_new output_old output_new ended =
+    RendersBound jobs events text values project binding source_old source_new output_old output_new ended
+WorksBound jobs events text values project binding (Ok (Some marked)) source_old source_new output_old output_new ended =
     GoesOnBound jobs text values project binding marked source_old source_new output_old output_new ended
-ResumesBound jobs text values project binding (Err fault) source_old source_new output_old output_new ended = ⊥
+WorksBound jobs events text values project binding (Err fault) source_old source_new output_old output_new ended = ⊥
 
--- of the project of an accepted list
-pub record RendersList (jobs : JobLength) (events : ℕ → List BoardEvent) (text : List ℕ) (values : OptionValues)
+-- of the project of an accepted list, by what its marks are read as
+pub record WorksList (jobs : JobLength) (events : ℕ → List BoardEvent)
+    (found : RunId → Result (Option (List Bool)) MarkFault) (text : List ℕ) (values : OptionValues)
     (source_old source_new : SourceView) (output_old output_new : OutputView) (ended : Result Progress ExecutionFault)
     : Type 0 where
   pub project : ListProject
   pub binding : Binding
   pub accepted : IsAccepted text source_old.files project binding
-  pub came : RendersBound jobs events text values project binding source_old source_new output_old output_new ended
+  pub came : WorksBound jobs events text values project binding (found (run_of text (range_of project values)))
+      source_old source_new output_old output_new ended
 
--- of the project of an accepted list, by the marks among the outputs
-pub record ResumesList (jobs : JobLength) (text : List ℕ) (values : OptionValues) (source_old source_new : SourceView)
-    (output_old output_new : OutputView) (ended : Result Progress ExecutionFault) : Type 0 where
-  pub project : ListProject
-  pub binding : Binding
-  pub accepted : IsAccepted text source_old.files project binding
-  pub came : ResumesBound jobs text values project binding
-      (opened_of (run_of text (range_of project values)) output_old.files) source_old source_new output_old output_new
-      ended
+-- of which nothing was begun
+abbrev pub RendersList : JobLength → (ℕ → List BoardEvent) → List ℕ → OptionValues → SourceView → SourceView → OutputView
+    → OutputView → Result Progress ExecutionFault → Type 0
+RendersList jobs events text values source_old source_new output_old output_new ended =
+    WorksList jobs events (λ _. Ok None) text values source_old source_new output_old output_new ended
+
+-- by the marks among the outputs
+abbrev pub ResumesList : JobLength → List ℕ → OptionValues → SourceView → SourceView → OutputView → OutputView
+    → Result Progress ExecutionFault → Type 0
+ResumesList jobs text values source_old source_new output_old output_new ended =
+    WorksList jobs in_rounds (λ run. opened_of run output_old.files) text values source_old source_new output_old
+    output_new ended

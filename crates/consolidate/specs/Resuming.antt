@@ -2,7 +2,7 @@
 use Rattle.std.specs.Prelude.{◌≡◌, ◌-◌, ℕ, ⊤, true, IsTrue, Option, Some, List, Result, Ok, IfOk}
 use Rattle.devices.specs.declared.source.Shelf as source
 use Rattle.devices.specs.declared.bench.Bench as output
-use Rattle.devices.specs.Views.{output_view, source_view}
+use Rattle.devices.specs.Views.{output_view}
 use Rattle.work_terms.specs.Disk.{Files, LeavesOnly}
 use Rattle.work_terms.specs.Refusals.{Refusal}
 use Rattle.list_terms.specs.Accepted.{OptionValues, first_fault, range_of}
@@ -16,6 +16,7 @@ use Rattle.rendering.specs.declared.job_length.JobLength.{JobLength}
 use Rattle.consolidate.specs.Commands.{IsAnswer, IsRenderedWith, render_refusal}
 use Rattle.consolidate.specs.Marks.{HoldsMarked, IsLeftByRendering, count_in, marks_refusal}
 use Rattle.consolidate.specs.Own.{IsOfResuming}
+use Rattle.consolidate.specs.Outcomes.{read_view}
 use Rattle.consolidate.specs.RenderOutcome.{ResumesList}
 use Rattle.consolidate.specs.declared.fault.Fault.{Fault}
 use Rattle.consolidate.specs.declared.resume_call.Resumed.{Resumed}
@@ -42,7 +43,7 @@ module _ {S B : Type 0} (shelf : source.Ghosts S) (bench : output.Ghosts B) wher
         (λ _ progress. progress.finished ≡ true) list values (IsLeft list values shelf_old bench_old)
         (IsLeft list values shelf_old bench_old) (IsTrue (bench.honest bench_old))
         (resume_refusal list values (shelf.stored shelf_old) (bench.stored bench_old)) IsOfResuming
-        (ResumesList jobs list values (source_view shelf shelf_old) (source_view shelf shelf_new)
+        (ResumesList jobs list values (read_view shelf shelf_old) (read_view shelf shelf_new)
         (output_view bench bench_old) (output_view bench bench_new)) shelf_old shelf_new bench_old bench_new result
     pub marked : IsTrue (bench.honest bench_old) → (project : ListProject) → text_value list ≡ Ok project
         → IfOk result (λ told. told.marked ≡ count_in (opened_of (run_of list (range_of project values))

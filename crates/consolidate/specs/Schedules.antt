@@ -2,7 +2,7 @@
 use Rattle.std.specs.Prelude.{◌≡◌, ◌≢◌, ℕ, ⊤, false, IsTrue, IfOk, Option, None, is_some, List, Result, Ok, Err, codes}
 use Rattle.devices.specs.declared.source.Shelf as source
 use Rattle.devices.specs.declared.bench.Bench as output
-use Rattle.devices.specs.Views.{output_view, source_view}
+use Rattle.devices.specs.Views.{output_view}
 use Rattle.work_terms.specs.Disk.{Files, IsDurable}
 use Rattle.job_terms.specs.declared.BoardEvent.{BoardEvent}
 use Rattle.job_terms.specs.declared.Progress.{Progress}
@@ -20,7 +20,7 @@ use Rattle.consolidation.specs.Consolidated.{AreDurable}
 use Rattle.consolidation.specs.Work.{SoundsTheSame}
 use Rattle.consolidation.specs.declared.written.Written.{Written}
 use Rattle.consolidate.specs.Commands.{IsAnswer, IsMediaAnswer, render_refusal}
-use Rattle.consolidate.specs.Outcomes.{IsAllDone}
+use Rattle.consolidate.specs.Outcomes.{IsAllDone, read_view}
 use Rattle.consolidate.specs.Own.{IsOfConsolidationSchedule, IsOfRenderSchedule}
 use Rattle.consolidate.specs.RenderOutcome.{RendersList}
 use Rattle.consolidate.specs.declared.fault.Fault.{Fault}
@@ -70,7 +70,7 @@ module _ {S B : Type 0} (shelf : source.Ghosts S) (bench : output.Ghosts B) wher
       (λ _. HasRendering list values (shelf.stored shelf_old) (bench.stored bench_new))
       (λ told progress. told ≡ progress) list values ⊤ (NoneStarted (bench.may_leave bench_old)) ⊤
       (render_refusal list values (shelf.stored shelf_old)) IsOfRenderSchedule
-      (RendersList jobs (λ _. events) list values (source_view shelf shelf_old) (source_view shelf shelf_new)
+      (RendersList jobs (λ _. events) list values (read_view shelf shelf_old) (read_view shelf shelf_new)
       (output_view bench bench_old) (output_view bench bench_new)) shelf_old shelf_new bench_old bench_new result
 
   -- the list was consolidated by these events over these stores by what passes leave of it, with this outcome

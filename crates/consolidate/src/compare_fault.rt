@@ -1,7 +1,10 @@
 // Why two lists aren't compared.
-ghost use Rattle.std.specs.Prelude.{◌≡◌};
+ghost use Rattle.std.specs.Prelude.{◌≡◌, ◌↔◌, ℕ, List, None};
+ghost use Rattle.work_terms.specs.Disk.{Files};
+ghost use Rattle.work_terms.specs.Refusals.{IsDue};
 ghost use Rattle.list_terms.specs.Heard.{sounds_of};
-ghost use Rattle.consolidate.specs.CompareFault.{IsOpened, IsOpenedOfTwo, IsReportedAs, IsReportedOfTwo, refusal_of};
+ghost use Rattle.comparison.specs.Fault.{IsSource};
+ghost use Rattle.consolidate.specs.CompareFault.{IsDevice, IsFirst, IsOfSums, IsOpened, IsOwn, IsReportedAs, refusal_of};
 
 use comparison::SideFault;
 use projectcheck::Checked;
@@ -52,9 +55,14 @@ impl ListFault {
     }
 
     /// A fault of the sums of a list.
-    fn of_sums(checked: Checked, fault: SideFault) -> ListFault
+    pub(crate) fn of_sums(checked: Checked, fault: SideFault) -> ListFault
         requires { IsOpened (sounds_of checked.bound) fault }
-        ensures { IsReportedAs (sounds_of checked.bound) fault result }
+        ensures sums { IsOfSums result }
+        ensures due { IsDue (refusal_of result) None }
+        ensures own { (text : List ℕ) → IsOwn text result }
+        ensures first { (text : List ℕ) (files : Files) → IsFirst text files result }
+        ensures device { IsSource fault ↔ IsDevice result }
+        ensures reported { IsReportedAs (sounds_of checked.bound) fault result }
     {
         match fault {
             SideFault::Intervals => ListFault::Intervals,
@@ -62,28 +70,6 @@ impl ListFault {
             SideFault::Source { file } => ListFault::Source {
                 name: checked.into_name(file),
             },
-        }
-    }
-}
-
-impl CompareFault {
-    /// A fault of comparing two lists that were opened.
-    pub(crate) fn of_sums(
-        first: Checked,
-        second: Checked,
-        fault: comparison::CompareFault,
-    ) -> CompareFault
-        requires { IsOpenedOfTwo (sounds_of first.bound) (sounds_of second.bound) fault }
-        ensures { IsReportedOfTwo (sounds_of first.bound) (sounds_of second.bound) fault result }
-    {
-        match fault {
-            comparison::CompareFault::EmptyRange => CompareFault::EmptyRange,
-            comparison::CompareFault::First(fault) => {
-                CompareFault::First(ListFault::of_sums(first, fault))
-            }
-            comparison::CompareFault::Second(fault) => {
-                CompareFault::Second(ListFault::of_sums(second, fault))
-            }
         }
     }
 }

@@ -1,30 +1,20 @@
 // Consolidates a list.
-ghost use Rattle.std.specs.Prelude.{◌≡◌, ◌*◌, None, option_map};
-ghost use Rattle.job_terms.specs.Workers.{rounds};
+ghost use Rattle.std.specs.Prelude.{None, option_map};
 ghost use Rattle.passes.specs.Left.{left_by};
 ghost use Rattle.passes.specs.Standard.{AreStandard};
 ghost use Rattle.sound_terms.specs.Passes.{standard_groups};
-ghost use Rattle.provenance.specs.Asked.{asked_of};
 ghost use Rattle.consolidate.specs.Asked.{asked_on};
 ghost use Rattle.consolidate.specs.Commands.{IsConsolidation};
-ghost use Rattle.consolidate.specs.MediaOutcome.{consolidation_fault};
-ghost use Rattle.consolidate.specs.OfProject.{ConsolidatesProject};
-ghost use Rattle.consolidate.specs.Outcomes.{AnswersAs};
 
 use crate::Fault;
 use crate::choice::{ConsolidateChoice, Keeping};
-use crate::media::execution_of;
-use crate::open_call::open;
+use crate::copy_call::{MediaRequest, copy_list};
 use crate::report::report_on;
-use consolidation::{Consolidation, MediaChoice, Sizes};
+use crate::request::HandingOut;
+use consolidation::Sizes;
 use devices::{Bench, Shelf, Unwatched, Watch};
-use execution::ExecutionFault;
-use job_terms::Progress;
 use list_terms::Notice;
-use opening::Opened;
 use passes::Pass;
-use projectcheck::Checked;
-use provenance::ReportOn;
 use std::alloc::Global;
 
 /// What was written: so many media, and a list of so many entries; how many bytes that took; and what the given list's
@@ -35,57 +25,6 @@ pub struct Written {
     pub entries: u32,
     pub sizes: Sizes,
     pub notices: Vec<Notice>,
-}
-
-/// What is reported of a consolidation whose execution ended so.
-fn answer_of(
-    written: consolidation::Written,
-    reported: bool,
-    ended: Result<Progress, ExecutionFault>,
-) -> Result<consolidation::Written, Fault>
-    ensures { AnswersAs (consolidation_fault written.media reported) (λ answer _. answer ≡ written) result ended }
-{
-    match ended {
-        Ok(_) => Ok(written),
-        Err(cause) => Err(Fault::of_media(written.media, reported, cause)),
-    }
-}
-
-/// What is kept of a list, and the report on it that is asked for, where one is.
-#[derive(Drop)]
-struct Reported<'a> {
-    keeping: Keeping,
-    report: Option<ReportOn<'a>>,
-}
-
-/// Consolidates an opened project.
-fn consolidate_checked<S: Shelf, B: Bench, W: Watch>(
-    alloc: Global,
-    checked: Checked,
-    reported: Reported<'_>,
-    shelf: &mut S,
-    bench: &mut B,
-    watch: &mut W,
-) -> Result<consolidation::Written, Fault>
-    ensures { ConsolidatesProject S.Shelf B.Bench
-        (left_by (λ pass. looking pass) (λ pass. gives pass) reported.entry.keeping.passes.items)
-        checked.project checked.bound reported.entry.keeping.handle (option_map asked_of reported.entry.report)
-        (λ count. rounds (3 * count)) shelf.old shelf.new bench.old bench.new result }
-{
-    let Reported { keeping, report } = reported;
-    let Keeping { handle, passes } = keeping;
-    let choice = MediaChoice { handle, report };
-    let consolidation = match Consolidation::plan(alloc, &checked, choice, passes, shelf, watch) {
-        Ok(consolidation) => consolidation,
-        Err(fault) => return Err(Fault::of_consolidation(checked, fault)),
-    };
-    let written = consolidation.outcome();
-    let mut execution = match execution_of(alloc, consolidation) {
-        Ok(execution) => execution,
-        Err(fault) => return Err(fault),
-    };
-    let ended = execution.execute(shelf, bench, watch);
-    answer_of(written, report.is_some(), ended)
 }
 
 /// Consolidates a list over the sources of a shelf. The passes go over the pieces of its entries, one after the other;
@@ -145,37 +84,20 @@ pub fn consolidate_watched<S: Shelf, B: Bench, W: Watch>(
         (option_map (asked_on list.now) choice.entry.report) shelf.old shelf.new bench.old bench.new result }
 {
     let ConsolidateChoice { keeping, report } = choice;
-    let report = report_on(list, report);
-    consolidate_reported(
-        alloc,
-        list,
-        Reported { keeping, report },
-        shelf,
-        bench,
-        watch,
-    )
-}
-
-/// The same with the report that is asked for with its list.
-fn consolidate_reported<S: Shelf, B: Bench, W: Watch>(
-    alloc: Global,
-    list: &[u8],
-    reported: Reported<'_>,
-    shelf: &mut S,
-    bench: &mut B,
-    watch: &mut W,
-) -> Result<Written, Fault>
-    ensures { IsConsolidation S.Shelf B.Bench
-        (left_by (λ pass. looking pass) (λ pass. gives pass) reported.entry.keeping.passes.items)
-        list.now reported.entry.keeping.handle (option_map asked_of reported.entry.report)
-        shelf.old shelf.new bench.old bench.new result }
-{
-    let Opened { checked, notices } = open(alloc, list, shelf)?;
-    let written = consolidate_checked(alloc, checked, reported, shelf, bench, watch)?;
-    Ok(Written {
-        media: written.media,
-        entries: written.entries,
-        sizes: written.sizes,
-        notices,
-    })
+    let request = MediaRequest {
+        keeping,
+        report: report_on(list, report),
+        handing: HandingOut::Rounds,
+    };
+    match copy_list(alloc, list, request, shelf, bench, watch) {
+        Ok(told) => {
+            return Ok(Written {
+                media: told.copied.written.media,
+                entries: told.copied.written.entries,
+                sizes: told.copied.written.sizes,
+                notices: told.notices,
+            });
+        }
+        Err(fault) => return Err(fault),
+    }
 }

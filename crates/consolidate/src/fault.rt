@@ -5,7 +5,7 @@ ghost use Rattle.consolidation.specs.Fault as consolidation;
 ghost use Rattle.list_terms.specs.Heard.{sounds_of};
 ghost use Rattle.rendering.specs.Fault as rendering;
 ghost use Rattle.consolidate.specs.Commands.{IsOutput, IsSource};
-ghost use Rattle.consolidate.specs.Own.{IsOfConsolidation, IsOfRendering, IsOfRenderSchedule};
+ghost use Rattle.consolidate.specs.Own.{IsOfMedia, IsOfWork};
 ghost use Rattle.consolidate.specs.Fault.{IsOpenedIn, NamesOpened, name_of_output, refusal_of};
 ghost use Rattle.consolidate.specs.MediaOutcome.{consolidation_fault, output_file};
 ghost use Rattle.consolidate.specs.RenderOutcome.{rendering_fault};
@@ -152,7 +152,7 @@ impl Fault {
     /// A fault of planning the rendering of a project.
     pub(crate) fn of_rendering(fault: RenderFault) -> Fault
         ensures refusal { refusal_of result ≡ rendering.refusal_of fault }
-        ensures own { (text : List ℕ) → IsOfRendering text result }
+        ensures own { (again scheduled : Bool) (text : List ℕ) → IsOfWork again scheduled text result }
         ensures no_device { (IsSource result → ⊥) × (IsOutput result → ⊥) }
     {
         match fault {
@@ -168,9 +168,9 @@ impl Fault {
         ensures reported { result ≡ rendering_fault cause }
         ensures late { (refusal_of result).late ≡ true }
         ensures due { IsDue (refusal_of result) None }
-        ensures scheduled { (text : List ℕ) → IsOfRenderSchedule text result }
-        ensures own { (text : List ℕ) → (cause ≡ execution.Memory → ⊥) → (cause ≡ execution.JobMemory → ⊥)
-            → IsOfRendering text result }
+        ensures scheduled { (again : Bool) (text : List ℕ) → IsOfWork again true text result }
+        ensures own { (again scheduled : Bool) (text : List ℕ) → (cause ≡ execution.Memory → ⊥)
+            → (cause ≡ execution.JobMemory → ⊥) → IsOfWork again scheduled text result }
     {
         match cause {
             ExecutionFault::Memory => Fault::WorkerMemory,
@@ -191,7 +191,7 @@ impl Fault {
     pub(crate) fn of_consolidation(checked: Checked, fault: ConsolidationFault) -> Fault
         requires { IsOpenedIn (sounds_of checked.bound) fault }
         ensures refusal { refusal_of result ≡ consolidation.refusal_of fault }
-        ensures own { (reported : Bool) (text : List ℕ) → IsOfConsolidation reported text result }
+        ensures own { (reported scheduled : Bool) (text : List ℕ) → IsOfMedia reported scheduled text result }
         ensures names { NamesOpened (sounds_of checked.bound) fault result }
     {
         match fault {

@@ -1,17 +1,17 @@
 // The jobs of a rendering whose blocks are marked.
-ghost use Rattle.std.specs.Prelude.{IfErr, IfOk, IfSome};
+ghost use Rattle.std.specs.Prelude.{◌≡◌, IfErr, IfOk};
 ghost use Rattle.consolidate.specs.Fault.{IsAlwaysDue};
-ghost use Rattle.consolidate.specs.Own.{FailsAtRendering, FailsAtSchedule};
-ghost use Rattle.consolidate.specs.RenderOutcome.{in_rounds};
-ghost use Rattle.consolidate.specs.RenderWorks.{BeginsWork, GoesOnWithWork, IsPrepared, IsSoundWork, IsTakenUp, IsUnbegun, KeepsMarked, WorksOff, WorksOn};
+ghost use Rattle.consolidate.specs.RenderWorks.{FailsBy, IsSoundWork, IsTakenUp, IsUnbegun, OpensMarks, RunsOn, WorksOff};
 
 use crate::Fault;
-use crate::request::Planned;
+use crate::handing::hand_out;
+use crate::request::{Approach, HandingOut, Planned};
 use clipping::Clips;
-use devices::{Bench, Shelf, Unwatched, Watch};
+use devices::{Bench, Shelf, Watch};
 use execution::{Execution, ExecutionFault};
-use job_terms::{BoardEvent, Progress};
-use rendering::RenderingWork;
+use job_terms::Progress;
+use markfile::MarkFault;
+use rendering::{JobLength, RenderingWork};
 use std::alloc::Global;
 
 /// How far the jobs of a rendering are, and what was clipped of those that were done just now.
@@ -21,29 +21,29 @@ pub(crate) struct Worked {
     pub clips: Clips,
 }
 
-/// An execution of this work, of which nothing is begun. Want of memory is the only error.
-fn prepared<'a>(alloc: Global, planned: Planned<'a>) -> Result<Execution<RenderingWork<'a>>, Fault>
-    ensures prepared { IfOk result (λ run. IsPrepared planned.entry.work run) }
-    ensures only_memory { IfErr result IsUnbegun }
+/// Opens the marks of a rendering that is gone on with, and cuts its other blocks into jobs of at most this length: so
+/// many blocks are marked, where any marks are started. Nothing is opened of one that is begun.
+pub(crate) fn open_marks<B: Bench>(
+    alloc: Global,
+    approach: Approach<'_>,
+    jobs: JobLength,
+    work: &mut RenderingWork<'_>,
+    bench: &mut B,
+) -> Result<Option<u32>, MarkFault>
+    requires { IsSoundWork None work.old }
+    ensures { OpensMarks B.Bench approach.entry jobs work.old work.new bench.old bench.new result }
 {
-    let Planned {
-        work,
-        checked,
-        order,
-    } = planned;
-    let jobs = match work.order(alloc, checked, order) {
-        Ok(jobs) => jobs,
-        Err(_) => return Err(Fault::BoardMemory),
-    };
-    match Execution::new(alloc, work, jobs) {
-        Ok(execution) => Ok(execution),
-        Err(ExecutionFault::JobMemory) => Err(Fault::RenderMemory),
-        Err(_) => Err(Fault::BoardMemory),
+    match approach {
+        Approach::Anew(_) => Ok(None),
+        Approach::Again => work.open(alloc, jobs, bench),
     }
 }
 
 /// An execution of this work, whose marked blocks are done. Want of memory is the only error.
-fn taken_up<'a>(alloc: Global, planned: Planned<'a>) -> Result<Execution<RenderingWork<'a>>, Fault>
+fn taken_up<'a>(
+    alloc: Global,
+    planned: Planned<'a, '_>,
+) -> Result<Execution<RenderingWork<'a>>, Fault>
     ensures taken_up { IfOk result (λ run. IsTakenUp planned.entry.work run) }
     ensures only_memory { IfErr result IsUnbegun }
 {
@@ -51,6 +51,7 @@ fn taken_up<'a>(alloc: Global, planned: Planned<'a>) -> Result<Execution<Renderi
         work,
         checked,
         order,
+        ..
     } = planned;
     let jobs = match work.order(alloc, checked, order) {
         Ok(jobs) => jobs,
@@ -67,106 +68,49 @@ fn taken_up<'a>(alloc: Global, planned: Planned<'a>) -> Result<Execution<Renderi
     }
 }
 
-/// Renders a planned work from its beginning, by rounds of one worker. Want of memory comes before the first write.
-pub(crate) fn render_anew<S: Shelf, B: Bench, W: Watch>(
-    alloc: Global,
-    planned: Planned<'_>,
-    shelf: &mut S,
-    bench: &mut B,
-    watch: &mut W,
-) -> Result<Worked, Fault>
-    requires { IsSoundWork planned.work }
-    ensures off { WorksOff S.Shelf planned.entry.work shelf.old
-        (BeginsWork S.Shelf B.Bench in_rounds planned.entry.work shelf.old shelf.new bench.old bench.new) result }
-    ensures own { FailsAtRendering result }
-    ensures due { IfErr result IsAlwaysDue }
-{
-    let mut execution = match prepared(alloc, planned) {
-        Ok(execution) => execution,
-        Err(fault) => return Err(fault),
-    };
-    match execution.execute(shelf, bench, watch) {
-        Ok(progress) => {
-            let clips = execution.work().clips();
-            return Ok(Worked { progress, clips });
-        }
-        Err(fault) => return Err(Fault::of_execution(fault)),
-    }
-}
-
-/// Renders a planned work by these events. A worker takes memory as it comes.
-pub(crate) fn render_by_events<S: Shelf, B: Bench>(
-    alloc: Global,
-    planned: Planned<'_>,
-    events: &[BoardEvent],
-    shelf: &mut S,
-    bench: &mut B,
-) -> Result<Progress, Fault>
-    requires { IsSoundWork planned.work }
-    ensures does { BeginsWork S.Shelf B.Bench (λ _. events.now) planned.entry.work shelf.old shelf.new bench.old
-        bench.new result }
-    ensures own { FailsAtSchedule result }
-    ensures due { IfErr result IsAlwaysDue }
-{
-    let mut execution = match prepared(alloc, planned) {
-        Ok(execution) => execution,
-        Err(fault) => return Err(fault),
-    };
-    match execution.execute_events(events, shelf, bench, &mut Unwatched) {
-        Ok(progress) => return Ok(progress),
-        Err(fault) => return Err(Fault::of_execution(fault)),
-    }
-}
-
-/// Goes on with a work some of whose blocks are marked, by rounds of one worker. Want of memory comes before the first
-/// write.
-fn go_on_marked<S: Shelf, B: Bench, W: Watch>(
-    alloc: Global,
-    planned: Planned<'_>,
-    shelf: &mut S,
-    bench: &mut B,
-    watch: &mut W,
-) -> Result<Worked, Fault>
-    requires { IsSoundWork planned.work }
-    ensures off { WorksOff S.Shelf planned.entry.work shelf.old
-        (GoesOnWithWork S.Shelf B.Bench planned.entry.work shelf.old shelf.new bench.old bench.new) result }
-    ensures keeps { KeepsMarked S.Shelf B.Bench planned.entry.work shelf.old bench.old bench.new }
-    ensures own { FailsAtRendering result }
-    ensures due { IfErr result IsAlwaysDue }
-{
-    let mut execution = match taken_up(alloc, planned) {
-        Ok(execution) => execution,
-        Err(fault) => return Err(fault),
-    };
-    match execution.resume(shelf, bench, watch) {
-        Ok(progress) => {
-            let clips = execution.work().clips();
-            return Ok(Worked { progress, clips });
-        }
-        Err(fault) => return Err(Fault::of_execution(fault)),
-    }
-}
-
-/// Goes on with a work where this many of its blocks were found to be marked, and renders it from its beginning where no
-/// marks were.
-pub(crate) fn work_on<S: Shelf, B: Bench, W: Watch>(
-    alloc: Global,
-    planned: Planned<'_>,
+/// Does its open jobs: on from the blocks that were found to be marked, and else from the beginning.
+fn run<S: Shelf, B: Bench, W: Watch>(
+    execution: &mut Execution<RenderingWork<'_>>,
+    handing: HandingOut<'_>,
     found: Option<u32>,
     shelf: &mut S,
     bench: &mut B,
     watch: &mut W,
-) -> Result<Worked, Fault>
-    requires { IsSoundWork planned.work }
-    ensures off { WorksOff S.Shelf planned.entry.work shelf.old
-        (WorksOn S.Shelf B.Bench planned.entry.work found shelf.old shelf.new bench.old bench.new) result }
-    ensures keeps { IfSome found
-        (λ _. KeepsMarked S.Shelf B.Bench planned.entry.work shelf.old bench.old bench.new) }
-    ensures own { FailsAtRendering result }
-    ensures due { IfErr result IsAlwaysDue }
+) -> Result<Progress, ExecutionFault>
+    ensures { RunsOn S.Shelf B.Bench handing.entry found execution.old execution.new shelf.old shelf.new bench.old
+        bench.new result }
 {
     match found {
-        None => render_anew(alloc, planned, shelf, bench, watch),
-        Some(_) => go_on_marked(alloc, planned, shelf, bench, watch),
+        None => hand_out(execution, handing, shelf, bench, watch),
+        Some(_) => execution.resume(shelf, bench, watch),
+    }
+}
+
+/// Does a planned work. In rounds want of memory comes before the first write; by events a worker takes memory as it
+/// comes.
+pub(crate) fn work_off<S: Shelf, B: Bench, W: Watch>(
+    alloc: Global,
+    planned: Planned<'_, '_>,
+    shelf: &mut S,
+    bench: &mut B,
+    watch: &mut W,
+) -> Result<Worked, Fault>
+    requires { IsSoundWork planned.found planned.work }
+    ensures off { WorksOff S.Shelf B.Bench planned.entry shelf.old shelf.new bench.old bench.new result }
+    ensures own { FailsBy planned.entry.approach result }
+    ensures due { IfErr result IsAlwaysDue }
+{
+    let handing = planned.approach.handing();
+    let found = planned.found;
+    let mut execution = match taken_up(alloc, planned) {
+        Ok(execution) => execution,
+        Err(fault) => return Err(fault),
+    };
+    match run(&mut execution, handing, found, shelf, bench, watch) {
+        Ok(progress) => {
+            let clips = execution.work().clips();
+            return Ok(Worked { progress, clips });
+        }
+        Err(fault) => return Err(Fault::of_execution(fault)),
     }
 }

@@ -1,27 +1,18 @@
 // Renders a list to one sound file.
 ghost use Rattle.std.specs.Prelude.{IfOk, IsTrue, []};
-ghost use Rattle.work_terms.specs.Refusals.{Answers};
 ghost use Rattle.list_terms.specs.Steps.{ok_map};
-ghost use Rattle.rendering.specs.Rendering.{HasRange, HaveChannels, values_of};
+ghost use Rattle.rendering.specs.Rendering.{HaveChannels, values_of};
 ghost use Rattle.rendering.specs.declared.job_length.JobLength.TheVariants.{OneBlock};
-ghost use Rattle.consolidate.specs.Clipping.{ClipsList, IsClipping};
+ghost use Rattle.consolidate.specs.Clipping.{ClipsList};
 ghost use Rattle.consolidate.specs.Commands.{IsRendering};
-ghost use Rattle.consolidate.specs.Fault.{refusal_of};
-ghost use Rattle.consolidate.specs.Own.{FailsAtRendering};
-ghost use Rattle.consolidate.specs.RenderOutcome.{in_rounds};
-ghost use Rattle.consolidate.specs.Outcomes.{IsAllDone};
-ghost use Rattle.consolidate.specs.Listed.{BeginsListed, fault_of_range, mix_in, range_in};
 
 use crate::Fault;
 use crate::choice::{Clipping, RenderChoice};
-use crate::marks::render_anew;
-use crate::open_call::open;
-use crate::request::{Listed, Planned};
+use crate::made::make_list;
+use crate::request::{Approach, HandingOut, RenderRequest};
 use devices::{Bench, Shelf, Unwatched, Watch};
-use job_terms::Progress;
 use list_terms::Notice;
-use opening::Opened;
-use rendering::{JobLength, Options, RenderingWork};
+use rendering::{JobLength, Options};
 use std::alloc::Global;
 
 /// What was rendered: so many frames of so many channels, and what the list's user should know of.
@@ -37,64 +28,6 @@ pub struct Rendered {
 pub struct RenderedSound {
     pub rendered: Rendered,
     pub clipping: Clipping,
-}
-
-/// The same of an opened project.
-#[derive(Clone, Copy)]
-struct Made {
-    progress: Progress,
-    rendered: rendering::Rendered,
-    clipping: Clipping,
-}
-
-/// Renders an opened project.
-fn render_checked<S: Shelf, B: Bench, W: Watch>(
-    alloc: Global,
-    listed: Listed<'_>,
-    shelf: &mut S,
-    bench: &mut B,
-    watch: &mut W,
-) -> Result<Made, Fault>
-    ensures does { BeginsListed S.Shelf B.Bench in_rounds listed.entry shelf.old shelf.new bench.old bench.new
-        (ok_map (λ made. made.progress) result) }
-    ensures finished { IfOk result (λ made. IsAllDone made.progress) }
-    ensures report { IfOk result (λ made. HasRange made.rendered (range_in listed.entry)) }
-    ensures clips { IsTrue (S.honest shelf.old) → IfOk result (λ made. IsClipping [] (range_in listed.entry)
-        (mix_in listed.entry (S.stored shelf.old)) made.clipping) }
-    ensures refusals { Answers refusal_of result (fault_of_range listed.entry) }
-    ensures own { FailsAtRendering result }
-{
-    let Listed {
-        list,
-        checked,
-        choice,
-    } = listed;
-    let work = match RenderingWork::plan(alloc, checked, &choice.options, list, choice.jobs) {
-        Ok(work) => work,
-        Err(fault) => return Err(Fault::of_rendering(fault)),
-    };
-    let rendered = work.rendered();
-    let start = work.start();
-    let planned = Planned {
-        work,
-        checked,
-        order: choice.options.order,
-    };
-    match render_anew(alloc, planned, shelf, bench, watch) {
-        Ok(worked) => {
-            let clipping = Clipping {
-                clips: worked.clips,
-                start,
-                channels: rendered.channels,
-            };
-            return Ok(Made {
-                progress: worked.progress,
-                rendered,
-                clipping,
-            });
-        }
-        Err(fault) => return Err(fault),
-    }
 }
 
 /// Renders a list over the sources of a shelf to the file `render.wav` of a bench: Broadcast Wave (EBU Tech 3285) whose
@@ -145,20 +78,23 @@ pub fn render_watched<S: Shelf, B: Bench, W: Watch>(
     ensures clips { IsTrue (S.honest shelf.old) → IfOk result (λ made.
         ClipsList list.now (values_of choice.now.options) (S.stored shelf.old) (λ _. []) made.clipping) }
 {
-    let Opened { checked, notices } = open(alloc, list, shelf)?;
-    let listed = Listed {
+    let request = RenderRequest {
         list,
-        checked: &checked,
-        choice,
+        choice: *choice,
+        approach: Approach::Anew(HandingOut::Rounds),
     };
-    let made = render_checked(alloc, listed, shelf, bench, watch)?;
-    let rendered = Rendered {
-        frames: made.rendered.frames,
-        channels: u32::from(made.rendered.channels),
-        notices,
-    };
-    Ok(RenderedSound {
-        rendered,
-        clipping: made.clipping,
-    })
+    match make_list(alloc, &request, shelf, bench, watch) {
+        Ok(list) => {
+            let rendered = Rendered {
+                frames: list.made.rendered.frames,
+                channels: u32::from(list.made.rendered.channels),
+                notices: list.notices,
+            };
+            return Ok(RenderedSound {
+                rendered,
+                clipping: list.made.clipping,
+            });
+        }
+        Err(fault) => return Err(fault),
+    }
 }

@@ -1,48 +1,46 @@
-use Rattle.std.proofs.Common.{Ok, Err, rules}
-use Rattle.list_terms.specs.Heard.{project_fault, sounds_of}
+use Rattle.std.proofs.Common.{◌≡◌, ◌↔◌, ◌<◌, ◌≤◌, ◌∙◌, ℕ, List, Ok, Err, Result, IsErrOf, arith, refl, rules, subst, sym}
+use Rattle.sound_terms.specs.Sounds.{SoundFacts}
+use Rattle.work_terms.specs.Refusals.{Refusal}
+use Rattle.list_terms.specs.Project.{ListProject}
+use Rattle.comparison.specs.Fault.{FailsAt}
 use Rattle.comparison.specs.Range.{compared_in}
-use Rattle.consolidate.specs.CompareFault.{IsFirst, IsOwn}
+use Rattle.comparison.specs.declared.fault.CompareFault as of_sums
+use Rattle.comparison.specs.declared.fault.CompareFault.TheVariants as sums
+use Rattle.comparison.specs.declared.fault.SideFault.{SideFault}
+use Rattle.comparison.specs.declared.fault.SideFault.TheVariants as side
+use Rattle.comparison.specs.declared.projects.Comparison.{Comparison}
+use Rattle.comparison.specs.declared.range.Selection.{Selection}
+use Rattle.consolidate.specs.CompareFault.{HoldsOfDevice, IsReportedAs}
+use Rattle.consolidate.specs.declared.compare_fault.ListFault.{ListFault}
+use Rattle.consolidate.specs.declared.compare_fault.ListFault.TheVariants.{Source}
 use Rattle.consolidate.proofs.Listed.{same_spelt}
-use Rattle.consolidate.proofs.Reported.{answers_first, answers_range, answers_second, empty_alike, first_of_sums, first_read, for_first, for_second, no_fault, own_of_sums, second_read, some_compared}
 use Rattle.consolidate.proofs.Stores.{read_as, read_behind}
 use Rattle.consolidate.proofs.compare_call.compare.Goals as goal
 
-pub returns-in-Err-compare_projects : goal.returns-in-Err-compare_projects
-returns-in-Err-compare_projects g c =
-    let one = c.in-Ok.ensures in
-    let two = c.in-Ok-open_list.ensures in
-    let refused = c.in-Err-compare_projects.ensures in
-    let sounds = sounds_of c.in-Ok.opened.checked.bound in
-    let others = sounds_of c.in-Ok-open_list.opened.checked.bound in
-    let files = g.S.Shelf.stored c.args.first_shelf.now in
-    let stored = g.T.Shelf.stored c.args.second_shelf.now in
-    let text = c.args.first_list.now in
-    let other = c.args.second_list.now in
-    let chosen = c.args.selection.now in
-    let fault = c.in-Err-compare_projects.fault in
-    let told = c.of_sums.result in
-    let is = c.of_sums.ensures in
-    record {
-      compared = λ honest sure. tt;
-      first_refusals = λ honest.
-          answers_first sounds others (project_fault text files) (one.refusals honest) fault told is;
-      second_refusals = λ sure.
-          answers_second sounds others (project_fault other stored) (two.refusals sure) fault told is;
-      range = λ project next spelt next_spelt.
-          answers_range sounds others (compared_in chosen project.events next.events) fault told is
-          (empty_alike chosen (Err fault) (same_spelt one.spelt spelt) (same_spelt two.spelt next_spelt) refused.empty);
-      bad_first_text = λ refusal bad. absurd (no_fault one.spelt bad);
-      bad_second_text = λ refusal bad. absurd (no_fault two.spelt bad);
-      first_own = for_first sounds others (IsOwn text) (own_of_sums text) fault told is;
-      second_own = for_second sounds others (IsOwn other) (own_of_sums other) fault told is;
-      first_in_turn = λ honest. for_first sounds others (IsFirst text files) (first_of_sums text files) fault told is;
-      second_in_turn = λ sure.
-          for_second sounds others (IsFirst other stored) (first_of_sums other stored) fault told is;
-      first_read = read_behind one.only_reads (first_read sounds others g.S.Shelf _
-          c.compare_projects.new.first_shelf fault told is refused.first_read);
-      second_read = read_behind two.only_reads (second_read sounds others g.T.Shelf _
-          c.compare_projects.new.second_shelf fault told is refused.second_read);
-    }
+-- a text that spells a project has no fault
+no_fault : {project : ListProject} {refusal : Refusal} {read : Result ListProject Refusal} → read ≡ Ok project
+    → read ≡ Err refusal → ⊥
+no_fault good bad = let wrong = sym good ∙ bad in cc
+
+-- what is empty of two projects is so of the same ones
+empty_alike : (selection : Selection) {p project n next : ListProject} (result : Result Comparison of_sums.CompareFault)
+    → p ≡ project → n ≡ next → IsErrOf result sums.EmptyRange
+    ↔ ((compared_in selection p.events n.events).to ≤ (compared_in selection p.events n.events).from)
+    → IsErrOf result sums.EmptyRange
+    ↔ ((compared_in selection project.events next.events).to ≤ (compared_in selection project.events next.events).from)
+empty_alike selection result same next_same empty = rw (← same, ← next_same) empty
+
+-- where an empty range isn't told there was something to compare
+some_sums : {Empty : Type 0} {from to : ℕ} → Empty ↔ (to ≤ from) → ¬ Empty → from < to
+some_sums {from = from} {to = to} empty told =
+    let some : ¬ (to ≤ from) = λ below. told (empty.1 below) in omega (arith, some)
+
+-- the fault that is reported names the file where the device failed
+holds_there : (sounds : List SoundFacts) (failed : List ℕ → Type 0) (fault : SideFault) (reported : ListFault)
+    → IsReportedAs sounds fault reported → FailsAt sounds fault failed → HoldsOfDevice reported failed
+holds_there sounds failed (side.Source file) (Source name) is fails = subst failed (sym (is fails.0 fails.1)) fails.2
+holds_there sounds failed (side.Source file) _ is fails = absurd is
+holds_there sounds failed _ reported is fails = absurd fails
 
 pub returns-in-Err-open_list : goal.returns-in-Err-open_list
 returns-in-Err-open_list g c =
@@ -61,6 +59,76 @@ returns-in-Err-open_list g c =
       second_in_turn = refused.in_turn;
       first_read = read_as (λ quiet. tt) (λ device. device) (λ failed device. absurd device) one.only_reads;
       second_read = refused.only_reads;
+    }
+
+pub returns-in-Err-EmptyRange : goal.returns-in-Err-EmptyRange
+returns-in-Err-EmptyRange g c =
+    let one = c.in-Ok.ensures in
+    let two = c.in-Ok-open_list.ensures in
+    let refused = c.in-Err-EmptyRange.ensures in
+    let is = c.in-Err-EmptyRange.field-0-is in
+    record {
+      compared = λ honest sure. tt;
+      first_refusals = one.refusals;
+      second_refusals = two.refusals;
+      range = λ project next spelt next_spelt. (empty_alike c.args.selection.now _ (same_spelt one.spelt spelt)
+          (same_spelt two.spelt next_spelt) (rw is at refused.empty)).0 refl;
+      bad_first_text = λ refusal bad. absurd (no_fault one.spelt bad);
+      bad_second_text = λ refusal bad. absurd (no_fault two.spelt bad);
+      first_own = tt;
+      second_own = tt;
+      first_in_turn = λ honest. tt;
+      second_in_turn = λ sure. tt;
+      first_read = read_behind one.only_reads (rw is at refused.first_read);
+      second_read = read_behind two.only_reads (rw is at refused.second_read);
+    }
+
+pub returns-in-Err-First : goal.returns-in-Err-First
+returns-in-Err-First g c =
+    let one = c.in-Ok.ensures in
+    let two = c.in-Ok-open_list.ensures in
+    let refused = c.in-Err-First.ensures in
+    let is = c.in-Err-First.field-0-is in
+    let told = c.of_sums.ensures in
+    record {
+      compared = λ honest sure. tt;
+      first_refusals = λ honest. rw (one.refusals honest) told.due;
+      second_refusals = λ sure of. two.refusals sure;
+      range = λ project next spelt next_spelt of. some_sums (empty_alike c.args.selection.now _
+          (same_spelt one.spelt spelt) (same_spelt two.spelt next_spelt) (rw is at refused.empty)) (λ wrong. absurd (cc));
+      bad_first_text = λ refusal bad. absurd (no_fault one.spelt bad);
+      bad_second_text = λ refusal bad. absurd (no_fault two.spelt bad);
+      first_own = told.own c.args.first_list.now;
+      second_own = tt;
+      first_in_turn = λ honest. told.first c.args.first_list.now (g.S.Shelf.stored c.args.first_shelf.now);
+      second_in_turn = λ sure. tt;
+      first_read = read_behind one.only_reads (read_as (λ quiet e. quiet (told.device.0 e)) told.device.1
+          (λ failed e. holds_there _ _ _ _ told.reported (failed (told.device.1 e))) (rw is at refused.first_read));
+      second_read = read_behind two.only_reads (rw is at refused.second_read);
+    }
+
+pub returns-in-Err-Second : goal.returns-in-Err-Second
+returns-in-Err-Second g c =
+    let one = c.in-Ok.ensures in
+    let two = c.in-Ok-open_list.ensures in
+    let refused = c.in-Err-Second.ensures in
+    let is = c.in-Err-Second.field-0-is in
+    let told = c.of_sums-in-Err-Second.ensures in
+    record {
+      compared = λ honest sure. tt;
+      first_refusals = one.refusals;
+      second_refusals = λ sure. rw (two.refusals sure) told.due;
+      range = λ project next spelt next_spelt of. some_sums (empty_alike c.args.selection.now _
+          (same_spelt one.spelt spelt) (same_spelt two.spelt next_spelt) (rw is at refused.empty)) (λ wrong. absurd (cc));
+      bad_first_text = λ refusal bad. absurd (no_fault one.spelt bad);
+      bad_second_text = λ refusal bad. absurd (no_fault two.spelt bad);
+      first_own = tt;
+      second_own = told.own c.args.second_list.now;
+      first_in_turn = λ honest. tt;
+      second_in_turn = λ sure. told.first c.args.second_list.now (g.T.Shelf.stored c.args.second_shelf.now);
+      first_read = read_behind one.only_reads (rw is at refused.first_read);
+      second_read = read_behind two.only_reads (read_as (λ quiet e. quiet (told.device.0 e)) told.device.1
+          (λ failed e. holds_there _ _ _ _ told.reported (failed (told.device.1 e))) (rw is at refused.second_read));
     }
 
 pub returns-in-Ok-compare_projects : goal.returns-in-Ok-compare_projects
@@ -91,10 +159,8 @@ returns-in-Ok-compare_projects g c =
       };
       first_refusals = first.refusals;
       second_refusals = second.refusals;
-      range = λ project next spelt next_spelt.
-          some_compared (compared_in c.args.selection.now project.events next.events) comparison
-          (empty_alike c.args.selection.now (Ok comparison) (same_spelt first.spelt spelt)
-          (same_spelt second.spelt next_spelt) told.empty);
+      range = λ project next spelt next_spelt. some_sums (empty_alike c.args.selection.now (Ok comparison)
+          (same_spelt first.spelt spelt) (same_spelt second.spelt next_spelt) told.empty) (λ wrong. absurd (cc));
       bad_first_text = λ refusal bad. absurd (no_fault first.spelt bad);
       bad_second_text = λ refusal bad. absurd (no_fault second.spelt bad);
       first_own = tt;

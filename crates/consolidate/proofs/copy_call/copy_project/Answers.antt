@@ -1,0 +1,47 @@
+use Rattle.std.proofs.Common.{◌∙◌, length, refl, sym}
+use Rattle.list_terms.specs.Heard.{sounds_of}
+use Rattle.provenance.specs.Asked.{asked_of}
+use Rattle.consolidate.specs.Approaches.{events_by}
+use Rattle.consolidate.proofs.MediaCalls.{asked_some, called, copied, fresh, no_board, not_planned, refused, uncopied}
+use Rattle.consolidate.specs.declared.fault.Fault.TheVariants as fault
+use Rattle.consolidate.proofs.copy_call.copy_project.Goals as goal
+
+pub returns-in-Err : goal.returns-in-Err
+returns-in-Err g c = let is = c.of_consolidation.ensures.refusal in
+    refused g.S.Shelf g.B.Bench c.args.request.handing c.args.shelf.now c.args.bench.now c.of_consolidation.result (rw is)
+    (λ honest work is_work. rw is (c.in-Err.ensures.refusals honest work is_work))
+    (λ text. c.of_consolidation.ensures.own _ _ text)
+    (not_planned g.S.Shelf g.B.Bench (sounds_of c.args.checked.bound) c.in-Err.fault c.of_consolidation.result
+    (g.met.B.Bench.only_now c.args.bench.now) is c.of_consolidation.ensures.names c.in-Err.ensures.only_reads)
+
+pub returns-in-Err-execution_of : goal.returns-in-Err-execution_of
+returns-in-Err-execution_of g c = rw c.in-Err-execution_of.ensures.memory
+    (refused g.S.Shelf g.B.Bench c.args.request.handing c.args.shelf.now c.args.bench.now fault.BoardMemory refl
+    (λ honest work is_work. rw (c.in-Ok.ensures.refusals honest work is_work) tt) (λ text. tt)
+    (no_board g.S.Shelf g.B.Bench (g.met.B.Bench.only_now c.args.bench.now) c.in-Ok.ensures.only_reads))
+
+pub returns-in-Ok-hand_out : goal.returns-in-Ok-hand_out
+returns-in-Ok-hand_out g c =
+    let planned = c.in-Ok.ensures in
+    let whole = c.outcome-written.ensures in
+    let run = c.in-Ok-execution_of.ensures in
+    let told = c.in-Ok-hand_out.ensures in
+    copied g.S.Shelf g.B.Bench c.args.request.handing c.args.shelf.now c.args.bench.now c.in-Ok.consolidation
+    c.outcome-written.result c.plan.new.shelf c.hand_out.new.shelf c.hand_out.new.bench c.hand_out.new.execution.board _
+    planned.planned planned.there planned.fits planned.refusals
+    planned.only_reads whole.value whole.names (fresh c.in-Ok.consolidation run.board run.undone)
+    (called (events_by c.args.request.handing) run.work run.board run.idle told.executed)
+    (λ rounds. told.reported rounds ∙ told.finished rounds run.rest (run.idle 1)) whole.same_sound whole.consolidated
+
+pub returns-in-Err-hand_out : goal.returns-in-Err-hand_out
+returns-in-Err-hand_out g c =
+    let planned = c.in-Ok.ensures in
+    let whole = c.outcome-written.ensures in
+    let run = c.in-Ok-execution_of.ensures in
+    let told = c.in-Err-hand_out.ensures in
+    rw (c.of_media.ensures, whole.value, c.is_some.ensures, ← asked_some asked_of c.args.request.report)
+    (uncopied g.S.Shelf g.B.Bench c.args.request.handing c.args.shelf.now c.args.bench.now c.in-Ok.consolidation
+    c.outcome-written.result c.plan.new.shelf c.hand_out.new.shelf c.hand_out.new.bench c.hand_out.new.execution.board _
+    planned.planned planned.there planned.fits planned.refusals
+    planned.only_reads whole.value whole.names (fresh c.in-Ok.consolidation run.board run.undone)
+    (called (events_by c.args.request.handing) run.work run.board run.idle told.executed) told.memory told.job_memory)
