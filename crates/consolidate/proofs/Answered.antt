@@ -1,51 +1,228 @@
--- What a call answers of a list, by what came of its project.
-use Rattle.std.proofs.Common.{◌≡◌, ◌∙◌, ℕ, ℤ, Bool, true, true≢false, Option, None, Some, Result, Ok, Err, List, IsTrue, IsOkAnd, refl, sym, is_some}
+-- What a call answers of a list, by what came of its project: which fault it may tell, and which refusal is due.
+use Rattle.std.proofs.Common.{◌≡◌, ℕ, List, [], Ok, true, refl, ◌∙◌, ◌≤◌, Bool, false, Option, None, Some, arith, sym, IfSome, Result, Err, cond, nat_le, nat_lt, length, ℤ, true≢false, IsTrue, IsOkAnd, is_some}
+use Rattle.std.proofs.lemmas.Bool.{false≢true}
+use Rattle.std.proofs.lemmas.Bool.Decides.{nat_tests}
+use Rattle.work_terms.specs.Disk.{Files, LeavesOnly}
+use Rattle.work_terms.specs.Refusals.{ComesInTurn, IsDue, Refusal, Nowhere, is_excused, turn_of}
+use Rattle.list_terms.specs.Project.{ListProject}
+use Rattle.list_terms.specs.Lines.{cut_lines, lines_of}
+use Rattle.list_terms.specs.Text.{read_from, text_value}
+use Rattle.list_terms.specs.Binding.{Binding}
+use Rattle.list_terms.specs.Accepted.{OptionValues, first_fault, range_of}
+use Rattle.list_terms.specs.Heard.{IsAccepted, project_fault}
+use Rattle.markfile.specs.declared.fault.MarkFault.{MarkFault}
+use Rattle.markfile.specs.declared.fault.MarkFault.TheVariants as marks
+use Rattle.markfile.specs.Opened.{opened_of}
+use Rattle.markfile.specs.Format.{marks_name}
+use Rattle.markfile.specs.Started.{is_started}
+use Rattle.opening.specs.Own as opening
+use Rattle.opening.specs.Own.{IsOfOpening}
+use Rattle.opening.specs.declared.fault.Fault as opened_fault
+use Rattle.opening.specs.declared.fault.Fault.TheVariants as opened
+use Rattle.sound_terms.specs.Render.{Range, ReadsBack, rendering_of}
+use Rattle.consolidation.specs.Consolidated.{Work, refused_if, work_fault}
+use Rattle.rendering.specs.Fault as rendering
+use Rattle.rendering.specs.Marked.{IsFoundAs, run_of, HoldsMarked as HoldsMarkedOf, IsLeftByRun, IsResumable}
+use Rattle.rendering.specs.Rendering.{empty_fault, render_fault}
+use Rattle.rendering.specs.declared.fault.RenderFault.{RenderFault}
+use Rattle.rendering.specs.declared.fault.RenderFault.TheVariants.{Intervals}
+use Rattle.rendering.specs.declared.job_length.JobLength.{JobLength}
 use Rattle.devices.specs.declared.source.Shelf as source
 use Rattle.devices.specs.declared.bench.Bench as output
 use Rattle.devices.specs.Views.{OutputView, SourceView, output_view}
-use Rattle.work_terms.specs.Disk.{LeavesOnly}
-use Rattle.work_terms.specs.Refusals.{Refusal}
-use Rattle.sound_terms.specs.Render.{Range, ReadsBack, rendering_of}
 use Rattle.adlread.specs.Spells.{Spells}
 use Rattle.job_terms.specs.declared.BoardEvent.{BoardEvent}
 use Rattle.job_terms.specs.declared.Progress.{Progress}
-use Rattle.list_terms.specs.Accepted.{OptionValues, range_of}
-use Rattle.list_terms.specs.Binding.{Binding}
-use Rattle.list_terms.specs.Heard.{IsAccepted, project_fault}
-use Rattle.list_terms.specs.Project.{ListProject}
-use Rattle.list_terms.specs.Text.{text_value}
-use Rattle.markfile.specs.Format.{marks_name}
-use Rattle.markfile.specs.Started.{is_started}
-use Rattle.markfile.specs.declared.fault.MarkFault.{MarkFault}
 use Rattle.execution.specs.declared.fault.ExecutionFault.{ExecutionFault}
-use Rattle.rendering.specs.Marked.{HoldsMarked as HoldsMarkedOf, IsLeftByRun, IsResumable}
-use Rattle.rendering.specs.declared.job_length.JobLength.{JobLength}
 use Rattle.passes.specs.Left.{Leaving}
 use Rattle.provenance.specs.Asked.{AskedReport}
-use Rattle.consolidate.specs.Approaches.{AreRounds, IfAgain, IsFinishedBy, IsOwnOf, SaysBy, StartsBy, are_events, events_by, found_by, handing_of}
+use Rattle.consolidate.specs.Own.{IsFirst, IsOfMarks, IsOfProject, IsOfMedia}
+use Rattle.consolidate.specs.declared.fault.Fault.{Fault}
+use Rattle.consolidate.specs.declared.fault.Fault.TheVariants as fault
+use Rattle.consolidate.specs.Approaches.{due_by, found_by, is_again, AreRounds, IfAgain, IsFinishedBy, IsOwnOf, SaysBy, StartsBy, are_events, events_by, handing_of}
+use Rattle.consolidate.specs.Commands.{range_refusal, render_refusal, OpensList, RefusesByWork, all_notices}
+use Rattle.consolidate.specs.Fault.{refusal_of, refusal_of_marks}
+use Rattle.consolidate.specs.Marks.{fault_in, marks_refusal, HoldsMarked, IsLeftByRendering, IsLeftOf, list_marking}
+use Rattle.consolidate.specs.declared.request.Approach.{Approach}
+use Rattle.consolidate.specs.declared.request.Approach.TheVariants.{Again, Anew}
 use Rattle.consolidate.specs.Clipping.{ClipsList, IsClipping}
-use Rattle.consolidate.specs.Commands.{OpensList, RefusesByWork, all_notices}
 use Rattle.consolidate.specs.Copied.{CopiesList, CopiesProject}
-use Rattle.consolidate.specs.Fault.{refusal_of}
 use Rattle.consolidate.specs.Listed.{DoesListed, IsLeftListed, KeepsListed, Listed, MakesListed, WorksListed, marks_in, mix_in, range_in}
 use Rattle.consolidate.specs.MadeSound.{AnswersRequest, IsLeftFor, values_for}
-use Rattle.consolidate.specs.Marks.{HoldsMarked, IsLeftByRendering, IsLeftOf, list_marking}
 use Rattle.consolidate.specs.MediaOutcome.{ConsolidatesList}
 use Rattle.consolidate.specs.Outcomes.{AnswersAs, HasBegun, IsAllDone, read_view}
-use Rattle.consolidate.specs.Own.{IsOfMedia}
 use Rattle.consolidate.specs.RenderOutcome.{WorksBound, WorksList}
 use Rattle.consolidate.specs.declared.choice.Clipping as clipped
 use Rattle.consolidate.specs.declared.copy_call.Copied.{Copied}
 use Rattle.consolidate.specs.declared.copy_call.CopiedList.{CopiedList}
-use Rattle.consolidate.specs.declared.fault.Fault.{Fault}
 use Rattle.consolidate.specs.declared.made.MadeList.{MadeList}
 use Rattle.consolidate.specs.declared.request.HandingOut.{HandingOut}
 use Rattle.consolidate.specs.declared.request.HandingOut.TheVariants.{Events, Rounds}
 use Rattle.consolidate.specs.declared.request.RenderRequest.{RenderRequest}
-use Rattle.consolidate.proofs.Due.{accepted_due, none_due, one_accepted, opening_due, opening_due_of_work}
-use Rattle.consolidate.proofs.Listed.{again_as, for_each, left_by, none_left, same_spelt, starts_as}
-use Rattle.consolidate.proofs.Own.{comes_first, own_of}
+use Rattle.consolidate.proofs.RenderWorks.{none_due, one_accepted, again_as, for_each, left_by, none_left, same_spelt, starts_as}
 use Rattle.consolidate.proofs.Stores.{IsOpened, LeavesNow, idle, opened_before, stopped_early, weaker}
+
+-- the empty text is no list
+no_project : (project : ListProject) → text_value [] ≡ Ok project → ⊥
+unfolding text_value read_from lines_of cut_lines
+no_project project is = absurd (cc)
+
+-- a fault that any text may have tells no file
+opened_first : (text : List ℕ) (files : Files) (of : opened_fault.Fault) → ((any : List ℕ) → IsOfOpening any of)
+    → opening.IsFirst text files of
+opened_first text files (opened.Media index name media) own = absurd (no_project (own []).0 (own []).1)
+opened_first text files _ own = tt
+
+-- so a fault that tells no file of a list comes behind no fault of one
+abbrev pub ComesFirst : (List ℕ → Fault → Type 0) → Type 0
+ComesFirst Own = (text : List ℕ) (files : Files) (told : Fault) → ((any : List ℕ) → Own any told)
+    → IsFirst text files told
+
+pub comes_first : (Own : List ℕ → Fault → Type 0)
+    → ((any : List ℕ) (of : opened_fault.Fault) → Own any (fault.Project of) → IsOfOpening any of) → ComesFirst Own
+comes_first Own of_opening text files (fault.Project of) own =
+    opened_first text files of (λ any. of_opening any of (own any))
+comes_first Own of_opening text files _ own = tt
+
+-- of marks that are there it may be any
+pub of_marks : (of : MarkFault) → IsOfMarks true of
+of_marks marks.Memory = tt
+of_marks _ = refl
+
+-- a fault of the project is one of each call
+pub own_of : (Own : List ℕ → Fault → Type 0)
+    → ((any : List ℕ) (of : opened_fault.Fault) → IsOfOpening any of → Own any (fault.Project of)) → {text : List ℕ}
+    (of : Fault) → IsOfProject text of → Own text of
+own_of Own opens {text} (fault.Project of) own = opens text of own
+own_of Own opens _ own = absurd own
+
+-- nothing of it comes before this turn
+abbrev pub IsFrom : ℕ → Option Refusal → Type 0
+IsFrom last due = IfSome due (λ d. last ≤ turn_of d)
+
+-- what comes no later than this turn may come in its place
+pub in_place : (last : ℕ) (refusal : Refusal) (due : Option Refusal) → turn_of refusal ≤ last → IsFrom last due
+    → ComesInTurn refusal due
+in_place last refusal None turn late = tt
+in_place last refusal (Some due) turn late = omega (arith, turn, late)
+
+-- what may come where the project is opened may come in place of what comes later
+pub due_behind : (last : ℕ) (refusal : Refusal) (first later : Option Refusal) → turn_of refusal ≤ last
+    → IsFrom last later → IsDue refusal first → IsDue refusal (first_fault first later)
+due_behind last refusal (Some due) later turn late is_due = is_due
+due_behind last refusal None later turn late is_due = by_excuse (is_excused refusal.number) later refl late is_due
+  where
+    by_excuse : (excused : Bool) (later : Option Refusal) → is_excused refusal.number ≡ excused → IsFrom last later
+        → IsDue refusal None → IsDue refusal later
+    by_excuse true later is late due = rw is (in_place last refusal later turn late)
+    by_excuse false later is late due = let none = rw is at due in absurd (cc)
+
+-- ---- 58 of a rendering
+
+empty_turn : (range : Range) → IsFrom 3 (empty_fault range)
+empty_turn range = by_test (nat_le range.to range.from) where
+  by_test : (empty : Bool)
+      → IsFrom 3 (cond empty (Some (record { number = 58; location = Nowhere; late = false })) None)
+  by_test true = omega arith
+  by_test false = tt
+
+range_turn : (values : OptionValues) (text : Result ListProject Refusal) → IsFrom 3 (range_refusal values text)
+range_turn values (Err refusal) = tt
+range_turn values (Ok project) = empty_turn (range_of project values)
+
+-- what is due of rendering an accepted list is due of its range
+pub range_due : {text : List ℕ} (values : OptionValues) {files : Files} {project : ListProject} {binding : Binding}
+    → IsAccepted text files project binding → render_refusal text values files ≡ render_fault project values
+range_due values accepted = rw (none_due accepted, accepted.spelt) refl
+
+-- ---- 53 and 55 of a consolidation
+
+refused_turn : (faulty : Bool) (number : ℕ) → 53 ≤ number → IsFrom 3 (refused_if faulty number)
+refused_turn true number low = grind (arith, nat_tests, low)
+refused_turn false number low = tt
+
+work_turn : (work : Work) → IsFrom 3 (work_fault work)
+work_turn work = first_turn (refused_if (nat_lt 32767 (length work.runs)) 53)
+    (refused_turn (nat_lt 32767 (length work.runs)) 53 (omega arith))
+  where
+    first_turn : (first : Option Refusal) → IsFrom 3 first
+        → IsFrom 3 (first_fault first (refused_if (nat_lt 32767 (length work.groups)) 55))
+    first_turn None turn = refused_turn (nat_lt 32767 (length work.groups)) 55 (omega arith)
+    first_turn (Some due) turn = turn
+
+-- a refusal of the opening is due of a consolidation
+pub opening_due_of_work : (refusal : Refusal) {text : List ℕ} {files : Files} {project : ListProject}
+    {binding : Binding} (work : Work) → turn_of refusal ≤ 3 → IsAccepted text files project binding
+    → IsDue refusal (project_fault text files) → IsDue refusal (work_fault work)
+opening_due_of_work refusal work turn accepted due =
+    due_behind 3 refusal None (work_fault work) turn (work_turn work) (rw (none_due accepted) at due)
+
+-- ---- 67 to 69, and 62, of marks
+
+-- marks come behind all else
+marks_turn : (last : ℕ) → last ≤ 10 → (due : Result (Option (List Bool)) MarkFault) → IsFrom last (fault_in due)
+marks_turn last low (Ok found) = tt
+marks_turn last low (Err marks.OtherRun) = omega (arith, low)
+marks_turn last low (Err _) = omega (arith, low)
+
+marks_late : (text : List ℕ) (values : OptionValues) (outputs : Files) (read : Result ListProject Refusal)
+    → IsFrom 3 (marks_refusal text values outputs read)
+marks_late text values outputs (Err refusal) = tt
+marks_late text values outputs (Ok project) =
+    marks_turn 3 (omega arith) (opened_of (run_of text (range_of project values)) outputs)
+
+-- a refusal of the opening is due of a rendering, and of going on with it
+rendering_due : (refusal : Refusal) (text : List ℕ) (values : OptionValues) (files : Files) → turn_of refusal ≤ 3
+    → IsDue refusal (project_fault text files) → IsDue refusal (render_refusal text values files)
+rendering_due refusal text values files turn due = due_behind 3 refusal (project_fault text files)
+    (range_refusal values (text_value text)) turn (range_turn values (text_value text)) due
+
+pub opening_due : (approach : Approach) (refusal : Refusal) (text : List ℕ) (values : OptionValues) (files outputs : Files)
+    → turn_of refusal ≤ 3 → IsDue refusal (project_fault text files) → IsDue refusal (due_by approach
+    (render_refusal text values files) (marks_refusal text values outputs (text_value text)))
+opening_due (Anew handing) refusal text values files outputs turn due = rendering_due refusal text values files turn due
+opening_due Again refusal text values files outputs turn due = due_behind 3 refusal (render_refusal text values files)
+    (marks_refusal text values outputs (text_value text)) turn (marks_late text values outputs (text_value text))
+    (rendering_due refusal text values files turn due)
+
+-- of an accepted list that of its range, and then of its marks
+pub accepted_due : (approach : Approach) {text : List ℕ} (values : OptionValues) {files : Files} (outputs : Files)
+    {project : ListProject} {binding : Binding} → IsAccepted text files project binding
+    → due_by approach (render_refusal text values files) (marks_refusal text values outputs (text_value text))
+    ≡ due_by approach (render_fault project values)
+    (fault_in (found_by approach (run_of text (range_of project values)) outputs))
+accepted_due (Anew handing) values outputs accepted = range_due values accepted
+accepted_due Again values outputs accepted = rw (range_due values accepted, accepted.spelt)
+
+plan_turn : (of : RenderFault) → turn_of (rendering.refusal_of of) ≤ 10
+plan_turn Intervals = omega arith
+plan_turn _ = omega arith
+
+-- a plan is refused before marks are opened
+pub plan_due : (approach : Approach) (of : RenderFault) (told : Fault) (first : Option Refusal)
+    (due : Result (Option (List Bool)) MarkFault) → refusal_of told ≡ rendering.refusal_of of
+    → IsDue (rendering.refusal_of of) first → IsDue (refusal_of told) (due_by approach first (fault_in due))
+plan_due (Anew handing) of told first due same is = rw same is
+plan_due Again of told first due same is = rw same (due_behind 10 (rendering.refusal_of of) first (fault_in due)
+    (plan_turn of) (marks_turn 10 (omega arith) due) is)
+
+module _ {first : Option Refusal} (none : first ≡ None) where
+  -- nothing is due of marks that are found
+  pub found_due : (approach : Approach) (found : Option ℕ) (due : Result (Option (List Bool)) MarkFault)
+      → IsFoundAs (Ok found) due → due_by approach first (fault_in due) ≡ None
+  found_due (Anew handing) found due is = none
+  found_due Again None due is = rw (none, is)
+  found_due Again (Some count) due is = rw (none, is.1)
+
+  -- what the marks are refused for is due
+  pub open_due : (approach : Approach) (of : MarkFault) (due : Result (Option (List Bool)) MarkFault)
+      → is_again approach ≡ true → IsFoundAs (Err of) due
+      → IsDue (refusal_of_marks of) (due_by approach first (fault_in due))
+  open_due (Anew handing) of due again is = absurd (false≢true again)
+  open_due Again marks.OtherRun due again is = rw (none, is) refl
+  open_due Again marks.BadMarks due again is = rw (none, is) refl
+  open_due Again of due again is = rw none
+      (in_place 10 (refusal_of_marks of) (fault_in due) (omega arith) (marks_turn 10 (omega arith) due))
 
 -- ---- of a rendering
 

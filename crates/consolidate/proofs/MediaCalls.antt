@@ -10,6 +10,7 @@ use Rattle.work_terms.specs.Refusals.{IsDue}
 use Rattle.devices.specs.declared.source.Shelf as source
 use Rattle.devices.specs.declared.bench.Bench as output
 use Rattle.devices.specs.Frame.{OnlyReads}
+use Rattle.devices.specs.ViewLaws.{writes_none}
 use Rattle.devices.specs.Views.{OutputView, SourceView, output_view, source_view}
 use Rattle.job_terms.specs.declared.BoardEvent.{BoardEvent}
 use Rattle.job_terms.specs.declared.Progress.{Progress}
@@ -60,7 +61,7 @@ use Rattle.consolidate.specs.declared.fault.Fault.TheVariants as fault
 use Rattle.consolidate.specs.declared.fault.OutputFile.TheVariants as file
 use Rattle.consolidate.specs.declared.request.HandingOut.{HandingOut}
 use Rattle.consolidate.specs.declared.request.HandingOut.TheVariants.{Events, Rounds}
-use Rattle.consolidate.proofs.Stores.{IsEnd, IsOpened, LeavesNow, by_names, ended_by, not_begun, opened_before, outcome_plain, read_as, stopped_early, went_on}
+use Rattle.consolidate.proofs.Stores.{IsEnd, IsOpened, LeavesNow, by_names, ended_by, not_begun, opened_before, outcome_as, read_as, stopped_early, went_on}
 
 -- ---- which fault stands for one of its execution
 
@@ -370,6 +371,12 @@ module _ {S B : Type 0} (shelf : source.Ghosts S) (bench : output.Ghosts B) (han
     Call ended = IsMediaCall (events_by handing) plan board (source_view shelf mid) (source_view shelf new)
         (output_view bench before) (output_view bench after) untouched ended
 
+    -- this holds where the plan is of the sources, and its outputs are whole
+    abbrev WhenWhole : Type 0 → Type 0
+    WhenWhole P = IsPlanOf leave project binding handle asked true (shelf.stored old) plan
+        → AreThere (shelf.stored old) plan.sounds → HoldJobs (job_plan plan) (shelf.stored old) (bench.stored after)
+        → HoldLast (job_plan plan) (shelf.stored old) (bench.stored after) → P
+
     planned_now : IsTrue (shelf.honest old) → IsPlanOf leave project binding handle asked true (shelf.stored old) plan
     planned_now honest = rw honest at planned
 
@@ -386,7 +393,7 @@ module _ {S B : Type 0} (shelf : source.Ghosts S) (bench : output.Ghosts B) (han
         let out : Outcome (AreBlank (jobs_over (work_of plan) (shelf.stored mid)) (whole_output plan (shelf.stored mid)))
         (events_by handing (work_of plan).count) (start_of plan (read_view shelf mid) (output_view bench before))
         (λ _. Nothing) (snapshot_of (job_plan plan) board 0 (read_view shelf new) (output_view bench after)) ⊤ ended
-        = outcome_plain (λ un. tt) (call.outcome (subst IsTrue (sym reads.honest_same) honest) right
+        = outcome_as (λ un. tt) (λ laid is. is) refl (λ stays. writes_none stays _) (λ none. none) (call.outcome (subst IsTrue (sym reads.honest_same) honest) right
         (rw reads.same fit.0) (rw reads.same fit.1) none) in
         rw (reads.same, reads.cause.left tt) at out
 
@@ -418,17 +425,11 @@ module _ {S B : Type 0} (shelf : source.Ghosts S) (bench : output.Ghosts B) (han
 
     -- its execution answered how far it came, and a plan whose outputs are whole is a consolidation
     pub copied : {progress : Progress} → Call (Ok progress) → (AreRounds handing → IsAllDone progress)
-        → ((text : List ℕ) (leave : Leaving) (project : ListProject) (binding : Binding) (handle : ℕ)
-        (asked : Option AskedReport) (sources written : Files) → IsAccepted text sources project binding
-        → IsPlanOf leave project binding handle asked true sources plan → AreThere sources plan.sounds
-        → HoldJobs (job_plan plan) sources written → HoldLast (job_plan plan) sources written
-        → SoundsTheSame text sources written)
-        → ((leave : Leaving) (project : ListProject) (binding : Binding) (handle : ℕ) (asked : Option AskedReport)
-        (sources old written : Files) → IsPlanOf leave project binding handle asked true sources plan
-        → AreThere sources plan.sounds → HoldJobs (job_plan plan) sources written
-        → HoldLast (job_plan plan) sources written
-        → ((n : List ℕ) → IsForeign (job_plan plan) n → written n ≡ old n)
-        → IsConsolidated leave project binding handle asked sources old written counts)
+        → ((text : List ℕ) → IsAccepted text (shelf.stored old) project binding
+        → WhenWhole (SoundsTheSame text (shelf.stored old) (bench.stored after)))
+        → WhenWhole (((n : List ℕ) → IsForeign (job_plan plan) n → bench.stored after n ≡ bench.stored before n)
+        → IsConsolidated leave project binding handle asked (shelf.stored old) (bench.stored before)
+        (bench.stored after) counts)
         → CopiesProject shelf bench handing leave project binding handle asked old new before after
         (Ok (record { progress = progress; written = counts }))
     copied {progress = progress} call all sounds made = record {
@@ -440,10 +441,8 @@ module _ {S B : Type 0} (shelf : source.Ghosts S) (bench : output.Ghosts B) (han
       all_done = all;
       finished = λ honest right text accepted done.
           let whole = finished_all (out_now call honest right accepted) done in (
-            made leave project binding handle asked (shelf.stored old) (bench.stored before) (bench.stored after)
-                (planned_now honest) (there_now accepted) whole.1 whole.2 (call.bounded.output.others right),
-            sounds text leave project binding handle asked (shelf.stored old) (bench.stored after) accepted
-                (planned_now honest) (there_now accepted) whole.1 whole.2,
+            made (planned_now honest) (there_now accepted) whole.1 whole.2 (call.bounded.output.others right),
+            sounds text accepted (planned_now honest) (there_now accepted) whole.1 whole.2,
           );
       durable = λ right done. rw (← planned.is_asked, value) (all_durable names (bench.stored after)
           (bench.may_leave after) (call.bounded.durable right done).outputs);

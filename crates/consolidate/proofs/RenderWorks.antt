@@ -1,51 +1,220 @@
--- What an execution of a marked rendering leaves.
-use Rattle.std.proofs.Common.{◌≡◌, ◌∙◌, ◌<◌, ◌==◌, ℕ, suc, Bool, true, false, cond, Option, None, Some, Result, Ok, Err, List, [], ◌∷◌, map, replicate, IsTrue, length, refl, sym, ap, subst, arith, slice_index_or, true≢false, inl, inr, IfOk, IfSome, All}
+-- What an execution of a marked rendering leaves, of the list that it was planned of, and behind marks that were opened.
+use Rattle.std.proofs.Common.{◌≡◌, ◌∙◌, ℕ, Bool, true, false, true≢false, Result, Ok, Option, None, Some, List, take, sym, ap, subst, option_map, length, unwrap_or, ◌<◌, ◌==◌, suc, cond, Err, [], ◌∷◌, map, replicate, IsTrue, refl, arith, slice_index_or, inl, inr, IfOk, IfSome, All}
 use Rattle.std.proofs.lemmas.Bool.{false≢true}
 use Rattle.std.proofs.lemmas.List.{length-map, length-replicate}
+use Rattle.sound_terms.specs.Render.{Range}
 use Rattle.work_terms.specs.Disk.{Files}
+use Rattle.work_terms.specs.Refusals.{Refusal}
+use Rattle.list_terms.specs.Accepted.{OptionValues}
+use Rattle.list_terms.specs.Binding.{Binding}
+use Rattle.list_terms.specs.Heard.{IsAccepted, project_fault}
+use Rattle.list_terms.specs.Project.{ListProject}
+use Rattle.markfile.specs.Format.{marks_name, sound_name}
+use Rattle.markfile.specs.Opened.{front_fault, opened_of, told}
+use Rattle.markfile.specs.Started.{NoneStarted, is_started}
+use Rattle.markfile.specs.declared.fault.MarkFault.{MarkFault}
+use Rattle.markfile.specs.declared.run.RunId.{RunId}
+use Rattle.execution.specs.Marking.{AreTrueMarks, HoldsIn, Marking, NoneStartedBy, done_of, AreLeftBy}
+use Rattle.execution.specs.BoardLaws.{finished_done}
+use Rattle.execution.specs.Boards.{board_with, fresh_board}
+use Rattle.execution.specs.EventRun.{Snapshot, snapshot_of}
+use Rattle.execution.specs.MarkingLaws.{running_leaves, running_true}
+use Rattle.execution.specs.OutcomeLaws.{finished_all, leaves_marks}
+use Rattle.execution.specs.Outcome.{Executed, HasFailed, HasFinished, IsBounded, IsCall, IsFresh, IsResting, Outcome, Resumed}
+use Rattle.execution.specs.Plan.{IsForeign}
+use Rattle.execution.specs.View.{ExecutionView, hands_at}
+use Rattle.execution.specs.declared.fault.ExecutionFault.{ExecutionFault}
+use Rattle.execution.specs.declared.fault.ExecutionFault.TheVariants as execution
+use Rattle.execution.specs.Noted.{IsNoted, KeepsNotes}
+use Rattle.rendering.specs.Fault as rendering
+use Rattle.rendering.specs.declared.fault.RenderFault.{RenderFault}
+use Rattle.rendering.specs.Maker.{IsReopened, marks_of, HasClips, HasSoundJobs, IsMarkedWork, plan_of}
+use Rattle.rendering.specs.Marked.{HoldsMarked, IsFoundAs, IsLeftByRun, MarkedWork, run_of, IsOther, IsResumable, full_marks}
+use Rattle.rendering.specs.Work.{whole_of, RenderWork, done_before, heard, work_of}
+use Rattle.rendering.specs.MakerLaws.{finished_marks, full_of, left_by_run, marked_stays, some_job, started_as, run_leaves}
+use Rattle.rendering.specs.Clipping.{ClipsUnmarked, marked_in as found_marks}
+use Rattle.rendering.specs.Cut.{IsUniform}
+use Rattle.rendering.specs.ClippingLaws.{clips_same, fresh_uniform}
 use Rattle.devices.specs.declared.source.Shelf as source
 use Rattle.devices.specs.declared.bench.Bench as output
+use Rattle.devices.specs.ViewLaws.{writes_none}
 use Rattle.devices.specs.Views.{OutputView, SourceView, output_view, source_view}
 use Rattle.job_terms.specs.declared.BoardEvent.{BoardEvent}
 use Rattle.job_terms.specs.declared.Progress.{Progress}
 use Rattle.job_terms.specs.Board.{Board, done_job, fresh_job, is_finished}
 use Rattle.job_terms.specs.Workers.{Hand, Nothing}
-use Rattle.markfile.specs.Format.{marks_name, sound_name}
-use Rattle.markfile.specs.Started.{NoneStarted}
-use Rattle.markfile.specs.declared.run.RunId.{RunId}
-use Rattle.execution.specs.BoardLaws.{finished_done}
-use Rattle.execution.specs.Boards.{board_with, fresh_board}
-use Rattle.execution.specs.EventRun.{Snapshot, snapshot_of}
-use Rattle.execution.specs.Marking.{Marking, NoneStartedBy, done_of}
-use Rattle.execution.specs.MarkingLaws.{running_leaves, running_true}
-use Rattle.execution.specs.OutcomeLaws.{finished_all, leaves_marks}
-use Rattle.execution.specs.Outcome.{Executed, HasFailed, HasFinished, IsBounded, IsCall, IsFresh, IsResting, Outcome, Resumed}
-use Rattle.execution.specs.Plan.{IsForeign, JobPlan}
-use Rattle.execution.specs.View.{ExecutionView, hands_at}
-use Rattle.execution.specs.declared.fault.ExecutionFault.{ExecutionFault}
-use Rattle.execution.specs.declared.fault.ExecutionFault.TheVariants as execution
-use Rattle.execution.specs.Noted.{IsNoted, KeepsNotes}
-use Rattle.rendering.specs.Maker.{HasClips, HasSoundJobs, IsMarkedWork, marks_of, plan_of}
-use Rattle.rendering.specs.MakerLaws.{finished_marks, full_of, left_by_run, marked_stays, some_job, started_as}
-use Rattle.rendering.specs.Marked.{IsLeftByRun, IsOther, IsResumable, MarkedWork, full_marks}
-use Rattle.rendering.specs.Work.{RenderWork, done_before, heard, whole_of, work_of}
-use Rattle.rendering.specs.Clipping.{ClipsUnmarked}
-use Rattle.rendering.specs.Cut.{IsUniform}
+use Rattle.clipping.specs.declared.tally.Clips.{Clips}
+use Rattle.consolidate.specs.Approaches.{IfAgain, StartsBy, found_by, AreRounds, are_events, events_by, handing_of}
+use Rattle.consolidate.specs.Listed.{IsMarkedIn, IsPlannedAs, Listed, marking_in, DoesListed, IsLeftListed, KeepsListed, WorksListed, marks_in, mix_in, range_in}
+use Rattle.consolidate.specs.Marks.{count_in, file_marking, list_marking}
+use Rattle.consolidate.specs.declared.request.Approach.{Approach}
+use Rattle.consolidate.specs.declared.request.Approach.TheVariants.{Again, Anew}
 use Rattle.consolidate.specs.Fault.{name_of_output, refusal_of}
-use Rattle.consolidate.specs.Approaches.{AreRounds, are_events, events_by}
 use Rattle.consolidate.specs.Commands.{IsOutput, IsSource, KeepsStores}
-use Rattle.consolidate.specs.Outcomes.{AnswersAs, IsAllDone}
+use Rattle.consolidate.specs.Outcomes.{AnswersAs, IsAllDone, read_view}
 use Rattle.consolidate.specs.Own.{IsOfWork}
-use Rattle.consolidate.specs.RenderOutcome.{in_rounds, rendering_fault}
-use Rattle.consolidate.specs.RenderWorks.{Calls, ClipsWork, DoesWork, IsSoundWork, IsTakenUp, IsUnbegun, KeepsMarked, RunsOn, StandsAsMarked, WorksOn}
+use Rattle.consolidate.specs.RenderOutcome.{in_rounds, rendering_fault, IsWorkedOff}
+use Rattle.consolidate.specs.RenderWorks.{Calls, ClipsWork, DoesWork, IsSoundWork, IsTakenUp, IsUnbegun, KeepsMarked, RunsOn, StandsAsMarked, WorksOn, OpensMarks}
 use Rattle.consolidate.specs.declared.fault.Fault.{Fault}
 use Rattle.consolidate.specs.declared.fault.Fault.TheVariants as fault
 use Rattle.consolidate.specs.declared.fault.OutputFile.TheVariants as file
 use Rattle.consolidate.specs.declared.request.HandingOut.{HandingOut}
 use Rattle.consolidate.specs.declared.request.HandingOut.TheVariants.{Events, Rounds}
-use Rattle.consolidate.proofs.Listed.{none_left}
-use Rattle.consolidate.proofs.Stores.{IsEnd, IsUntouchedIn, LeavesNow, by_names, ended_by, idle, not_begun, outcome_plain, untouched, weaker, went_on}
-use Rattle.clipping.specs.declared.tally.Clips.{Clips}
+use Rattle.consolidate.proofs.Stores.{IsEnd, IsUntouchedIn, LeavesNow, by_names, ended_by, idle, not_begun, outcome_as, untouched, weaker, went_on, behind_open, joined}
+
+module _ {text : List ℕ} {files : Files} {project : ListProject} {binding : Binding}
+    (accepted : IsAccepted text files project binding) where
+  -- nothing is due of an accepted list
+  pub none_due : project_fault text files ≡ None
+  none_due = rw (accepted.spelt, accepted.bound) accepted.checked
+
+  -- a text is accepted over the files as one project with one binding
+  pub one_accepted : {p : ListProject} {b : Binding} → IsAccepted text files p b → (project ≡ p) × (binding ≡ b)
+  one_accepted {p = p} {b = b} other =
+      let projects : Ok project ≡ Ok p = sym accepted.spelt ∙ other.spelt in
+      let same : project ≡ p = cc in
+      let bindings : Ok binding ≡ Ok b = sym accepted.bound ∙ (rw same other.bound) in
+      (same, cc)
+
+-- where no marks are started
+pub none_left : (m : Marking) (outcomes : Files → Type 0)
+    → ((c : Files) → outcomes c → is_started (c m.marks) ≡ false) → IsLeftByRun m outcomes
+none_left m outcomes none c d at other started = absurd (true≢false (sym started ∙ none c at))
+
+-- a text is read as one project
+pub same_spelt : {p q : ListProject} {read : Result ListProject Refusal} → read ≡ Ok p → read ≡ Ok q → p ≡ q
+same_spelt one other = let both = sym one ∙ other in cc
+
+-- a plan of what is asked for
+pub marked_in : (listed : Listed) {marked : MarkedWork} → IsPlannedAs listed marked.work
+    → marked.run ≡ run_of listed.request.list.now marked.work.planned.range → IsMarkedIn listed marked
+marked_in listed of run = record {
+  range = of.range;
+  whole = of.whole;
+  reads_back = of.reads_back;
+  run = run ∙ ap (λ (r : Range). run_of listed.request.list.now r) of.range;
+}
+
+-- the marks of a plan that is cut anew are those of the same list
+pub reopened : (listed : Listed) {was is : MarkedWork} → IsMarkedIn listed was → IsReopened was is
+    → IsMarkedIn listed is
+reopened listed of back = record {
+  range = rw back.planned of.range;
+  whole = λ sources. rw (back.planned, back.sounds) (of.whole sources);
+  reads_back = of.reads_back;
+  run = back.run ∙ of.run;
+}
+
+-- the same marks, with other jobs
+abbrev with_jobs : Marking → ℕ → (ℕ → ℕ) → (ℕ → ℕ) → Marking
+with_jobs m jobs from end = record m { jobs = jobs; from = from; end = end }
+
+module _ (m : Marking) {jobs jobs' : ℕ} {from from' end end' : ℕ → ℕ} where
+  holds_so : {marked : ℕ → Bool} {file : Option (List ℕ)} → HoldsIn (with_jobs m jobs from end) marked file
+      → HoldsIn (with_jobs m jobs' from' end') marked file
+  holds_so held = record {
+    bytes = held.bytes;
+    there = held.there;
+    holds = record { size = held.holds.size; same = held.holds.same };
+  }
+
+  true_so : {c d : Files} → AreTrueMarks (with_jobs m jobs from end) c d
+      → AreTrueMarks (with_jobs m jobs' from' end') c d
+  true_so t = record {
+    marks = t.marks;
+    there = t.there;
+    ours = record { front = t.ours.front; size = t.ours.size };
+    sound = holds_so t.sound;
+  }
+
+module _ (listed : Listed) {marked : MarkedWork} (of : IsMarkedIn listed marked) (sources : Files) where
+  abbrev its_file : Marking
+  its_file = file_marking marked.work.planned.range (whole_of marked.work sources) marked.run
+
+  same_file : its_file ≡ marking_in listed sources
+  same_file = rw (of.whole sources, of.range, of.run)
+
+  -- marks that are true of the plan's file are true of the list's
+  pub true_of_list : (c d : Files) → AreTrueMarks (marks_of marked sources) c d
+      → AreTrueMarks (marking_in listed sources) c d
+  true_of_list c d t = subst (λ (m : Marking). AreTrueMarks m c d) same_file (true_so its_file t)
+
+  -- and back
+  pub true_of_plan : (c d : Files) → AreTrueMarks (marking_in listed sources) c d
+      → AreTrueMarks (marks_of marked sources) c d
+  true_of_plan c d t = true_so its_file (subst (λ (m : Marking). AreTrueMarks m c d) (sym same_file) t)
+
+  -- and so of the blocks that are marked
+  pub holds_list : (told : List ℕ) (c : Files) → HoldsMarked (marks_of marked sources) told c
+      → HoldsMarked (marking_in listed sources) told c
+  holds_list told c held = subst (λ (m : Marking). HoldsMarked m told c) same_file (holds_so its_file held)
+
+-- what holds of the marks of an accepted list over the sources as they were opened holds of those of each project that
+-- it is accepted as
+pub for_each : {text : List ℕ} {project p : ListProject} {binding b : Binding} (values : OptionValues)
+    {sources opened : Files} → opened ≡ sources → IsAccepted text sources project binding → (P : Marking → Type 0)
+    → P (list_marking text values opened project binding) → IsAccepted text sources p b
+    → P (list_marking text values sources p b)
+for_each values same accepted P is other =
+    let one = one_accepted accepted other in rw (← one.1, ← one.0, ← same) is
+
+-- ---- what is found
+
+-- marks as they are read are true of whatever a crash leaves
+pub left_holds : (m : Marking) {outcomes : Files → Type 0} (files : Files) {told : List ℕ} → IsLeftByRun m outcomes
+    → outcomes files → files m.marks ≡ Some told → is_started (Some told) ≡ true → (c : Files) → outcomes c
+    → HoldsMarked m told c
+left_holds m files {told} left now there started c at =
+    let is = left files c now at (ap is_started there ∙ started) in
+    let file : Some is.marks ≡ Some told = sym is.there ∙ there in
+    let same : is.marks ≡ told = cc in
+    rw same at is.sound
+
+told_some : (is : List ℕ) (of : Option MarkFault) → told is of ≡ Ok None → ⊥
+told_some is None e = cc
+told_some is (Some of) e = cc
+
+-- marks that are started are found
+pub started_found : (run : RunId) (files : Files) (is : List ℕ) → files marks_name ≡ Some is
+    → is_started (Some is) ≡ true → opened_of run files ≡ Ok None → ⊥
+started_found run files is there started none =
+    told_some is (front_fault run (take 44 is) (length is) (option_map length (files sound_name)))
+    (rw (there, started) at none)
+
+-- so many as are counted
+pub counted : (found : Option ℕ) (due : Result (Option (List Bool)) MarkFault) → IsFoundAs (Ok found) due
+    → unwrap_or found 0 ≡ count_in due
+counted None due is = sym (ap count_in is)
+counted (Some count) due is = is.2 ∙ sym (ap count_in is.1)
+
+-- ---- of one that is begun, or gone on with
+
+-- what holds of any one holds of one that is gone on with
+pub if_again : (approach : Approach) {P : Type 0} → P → IfAgain approach P
+if_again (Anew handing) p = tt
+if_again Again p = p
+
+pub again_as : (approach : Approach) {P Q : Type 0} → (P → Q) → IfAgain approach P → IfAgain approach Q
+again_as (Anew handing) so p = tt
+again_as Again so p = so p
+
+pub starts_as : (approach : Approach) (outcomes : Files → Type 0) {P Q : Type 0} → (P → Q)
+    → StartsBy approach outcomes P → StartsBy approach outcomes Q
+starts_as (Anew handing) outcomes so none = none
+starts_as Again outcomes so p = so p
+
+-- what holds where no marks are started holds of all that it starts from
+pub left_by : (approach : Approach) {outcomes : Files → Type 0} {P : Type 0} → (NoneStarted outcomes → P)
+    → StartsBy approach outcomes P → P
+left_by (Anew handing) so none = so none
+left_by Again so left = left
+
+-- where blocks are marked it is gone on with
+pub marked_again : (approach : Approach) (run : RunId) (outputs : Files) (outcomes : Files → Type 0) {marked : List Bool}
+    {P : Type 0} → found_by approach run outputs ≡ Ok (Some marked)
+    → (IfAgain approach P → P) × (StartsBy approach outcomes P → P)
+marked_again (Anew handing) run outputs outcomes is = absurd (cc)
+marked_again Again run outputs outcomes is = (λ p. p, λ p. p)
 
 -- what is answered
 abbrev pub answered : Result Progress ExecutionFault → Result Progress Fault
@@ -258,7 +427,7 @@ module _ {S B : Type 0} (shelf : source.Ghosts S) (bench : output.Ghosts B)
       (λ out. record {
         order = p.order;
         is_order = p.is_order;
-        came = record { board = next.board; came = outcome_plain (λ un. tt) out };
+        came = record { board = next.board; came = outcome_as (λ un. tt) (λ laid is. is) refl (λ stays. writes_none stays _) (λ none. none) out };
       })
     where
       count : ℕ
@@ -287,7 +456,7 @@ module _ {S B : Type 0} (shelf : source.Ghosts S) (bench : output.Ghosts B)
         done = p.done;
         count = p.count;
         each = p.each;
-        came = record { board = next.board; came = outcome_plain (λ un. un) out };
+        came = record { board = next.board; came = outcome_as (λ un. un) (λ laid is. is) refl (λ stays. writes_none stays _) (λ none. none) out };
       })
 
   -- what was marked stands at each moment
@@ -373,3 +542,191 @@ module _ {S B : Type 0} (shelf : source.Ghosts S) (bench : output.Ghosts B) (onl
       (bench.stored b) c marks running (reads_now b whole) there
       (running_leaves (Some (marks_of x (shelf.stored s))) (done_before x.work) (bench.may_leave b) c running
       (only_now b c at)))
+
+-- a plan that is refused
+pub unplanned : {S B : Type 0} (shelf : source.Ghosts S) (bench : output.Ghosts B) {m : Marking} {run : RunId}
+    {began started : Type 0} {Came : Result Progress ExecutionFault → Type 0} (s : S) (b : B)
+    → ((b : B) → LeavesNow bench b) → (of : RenderFault) (told : Fault) → refusal_of told ≡ rendering.refusal_of of
+    → (¬ IsSource told) × (¬ IsOutput told) → (started → IsLeftByRun m (bench.may_leave b))
+    → DoesWork shelf bench m run began started Came s s b b (Err told)
+unplanned shelf bench s b only_now of told same quiet left =
+    untouched_by only_now (λ late. true≢false (sym (rw same at late))) quiet.0 quiet.1 left
+
+-- what is found of the marks of a plan is found of those of the list
+pub found_in : (listed : Listed) (was : MarkedWork) (outputs : Files) (found : Result (Option ℕ) MarkFault)
+    → IsPlannedAs listed was.work → was.run ≡ run_of listed.request.list.now was.work.planned.range
+    → IsFoundAs found (found_by listed.request.approach was.run outputs) → IsFoundAs found (marks_in listed outputs)
+found_in listed was outputs found planned run is =
+    subst (λ (r : RunId). IsFoundAs found (found_by listed.request.approach r outputs))
+    (marked_in listed {marked = was} planned run).run is
+
+-- ---- behind marks that were opened
+
+module _ {S B : Type 0} (shelf : source.Ghosts S) (bench : output.Ghosts B) (listed : Listed)
+    (was x : MarkedWork) (b0 mid : B) (planned : IsPlannedAs listed was.work)
+    (run : was.run ≡ run_of listed.request.list.now was.work.planned.range) (s0 s1 : S) (b1 : B) where
+  abbrev approach : Approach
+  approach = listed.request.approach
+
+  abbrev Opened : Option ℕ → Type 0
+  Opened found = OpensMarks bench approach listed.request.choice.jobs was x b0 mid (Ok found)
+
+  abbrev Left : Type 0
+  Left = IsLeftListed shelf bench listed s0 b0
+
+  of_was : IsMarkedIn listed was
+  of_was = marked_in listed planned run
+
+  of_now : {found : Option ℕ} → Opened found → IsMarkedIn listed x
+  of_now opens = reopened listed of_was opens.back
+
+  found_now : {found : Option ℕ} → Opened found → IfAgain approach (IsTrue (bench.honest b0))
+      → IsFoundAs (Ok found) (marks_in listed (bench.stored b0))
+  found_now {found = found} opens right =
+      found_in listed was (bench.stored b0) (Ok found) planned run (opens.found_as right)
+
+  -- how its jobs came out, as of the outputs before
+  worked_before : {found : Option ℕ} {Begins Starts : Files → Type 0} {untouched : Type 0} {first : Board}
+      {events : List BoardEvent} {ended : Result Progress ExecutionFault} → Opened found
+      → ((laid : Files) → Begins laid → Starts laid)
+      → IsWorkedOff Begins untouched x first events (read_view shelf s0) (read_view shelf s1) (output_view bench mid)
+      (output_view bench b1) ended
+      → IsWorkedOff Starts untouched x first events (read_view shelf s0) (read_view shelf s1) (output_view bench b0)
+      (output_view bench b1) ended
+  worked_before opens so r = record {
+    board = r.board;
+    came = outcome_as (λ un. un) so (opens.only_reads.cause.left tt)
+        (λ stays. record {
+          same_honest = opens.only_reads.honest_same;
+          later = opens.only_reads.cause.later;
+          keeps = opens.only_reads.keeps;
+          others = λ h n s. rw opens.untouched.reads;
+          durable = λ h n s was c at. rw opens.untouched.reads (was c (opens.untouched.crash c at));
+        })
+        (λ unstarted c at. unstarted c (opens.untouched.crash c at)) r.came;
+  }
+
+  -- what a call leaves of the list that it was planned of, as of the outputs before
+  after_open : {found : Option ℕ} {result : Result Progress Fault} {began started : Type 0}
+      {Came : Result Progress ExecutionFault → Type 0} → Opened found
+      → DoesWork shelf bench (marks_of x (shelf.stored s0)) x.run began started Came s0 s1 mid b1 result
+      → (IsTrue (bench.honest b0) → IfAgain approach Left → began)
+      → (IsTrue (bench.honest b0) → StartsBy approach (bench.may_leave b0) Left → started)
+      → ((ended : Result Progress ExecutionFault) → IsTrue (bench.honest b0) → Came ended
+      → WorksListed listed (bench.stored b0) (read_view shelf s0) (read_view shelf s1) (output_view bench b0)
+      (output_view bench b1) ended)
+      → DoesListed shelf bench listed s0 s1 b0 b1 result
+  after_open opens did begins starts came = record {
+    finished = λ honest right b.
+        rw ((of_now opens).whole (shelf.stored s0)) at (did.finished honest (on right) (begins right b));
+    marked = λ honest right b. rw (of_now opens).run at (did.marked honest (on right) (begins right b));
+    durable = λ right. did.durable (on right);
+    left = λ honest right st c d at other started. true_of_list listed (of_now opens) (shelf.stored s0) c d
+        (did.left honest (on right) (starts right st) c d at other started);
+    any_moment = λ honest right st. joined
+        (weaker (λ c at. left_by approach (none_left (marking_in listed (shelf.stored s0)) (bench.may_leave b0)) st
+        c c at at) opens.untouched.moments)
+        (weaker (λ c left started. true_of_list listed (of_now opens) (shelf.stored s0) c c (left started))
+        (did.any_moment honest (on right) (starts right st)));
+    named = λ right n other. rw (← opens.untouched.reads) (did.named (on right) n other);
+    outcome = λ honest right b begun. let out = did.outcome honest (on right) (begins right b) begun in
+        (out.0, out.1, came out.0 right out.2);
+    stores = behind_open opens.untouched opens.only_reads did.stores;
+  }
+    where
+      on : IsTrue (bench.honest b0) → IsTrue (bench.honest mid)
+      on right = subst IsTrue (sym opens.only_reads.honest_same) right
+
+  -- what stands of the marks that are found
+  stands : {n : ℕ} → Opened (Some n) → IsTrue (bench.honest b0) → Left
+      → StandsAsMarked x (shelf.stored s0) (bench.stored mid) (bench.may_leave mid)
+  stands opens right left done agrees = (
+    opens.running right (shelf.stored s0) was_left done agrees,
+    opens.filled right (shelf.stored s0) was_left done agrees,
+  )
+    where
+      was_left : AreLeftBy (Some (marks_of was (shelf.stored s0))) (bench.may_leave b0)
+      was_left = run_leaves (marks_of was (shelf.stored s0)) (bench.may_leave b0)
+          (λ c d at other started. true_of_plan listed of_was (shelf.stored s0) c d (left c d at other started))
+
+  -- whatever was found: all jobs are done, or those that aren't marked
+  gone_on : (found : Option ℕ) (result : Result Progress Fault) → Opened found
+      → WorksOn shelf bench (handing_of approach) found x s0 s1 mid b1 result
+      → DoesListed shelf bench listed s0 s1 b0 b1 result
+  gone_on None result opens did = after_open opens did (λ right b. tt)
+      (λ right st c at. sym (started_as (c marks_name))
+      ∙ opens.unstarted right (shelf.stored s0) (starts_as approach _ (λ left. tt) st) refl c at)
+      (λ ended right came. rw (found_now opens (if_again approach right)) (record {
+        work = x;
+        renders = rw (opens.unchanged refl) planned;
+        sound = opens.back.jobs;
+        run = (of_now opens).run;
+        came = record {
+          order = came.order;
+          is_order = came.is_order;
+          came = worked_before opens (λ laid is. is) came.came;
+        };
+      }))
+  gone_on (Some n) result opens did = after_open opens did
+      (λ right b. let cuts = opens.cut (if_again approach right) in
+      stands opens right ((marked_again approach _ _ (bench.may_leave b0) cuts.1).0 b))
+      (λ right st. let cuts = opens.cut (if_again approach right) in
+      stands opens right ((marked_again approach _ _ (bench.may_leave b0) cuts.1).1 st))
+      (λ ended right came. let cuts = opens.cut (if_again approach right) in rw (rw of_was.run at cuts.1) (record {
+        work = x;
+        is_for = of_now opens;
+        cut = cuts.2;
+        sound = opens.back.jobs;
+        came = record {
+          order = came.order;
+          is_order = came.is_order;
+          done = came.done;
+          count = came.count;
+          each = came.each;
+          came = worked_before opens (λ laid is. is ∙ opens.untouched.reads) came.came;
+        };
+      }))
+
+  -- what was marked stands at each moment
+  kept : (by : Approach) (found : Option ℕ) → approach ≡ by → Opened found
+      → ((b : B) → IsTrue (bench.honest b) → bench.may_leave b (bench.stored b))
+      → IfSome found (λ _. KeepsMarked shelf bench x s0 mid b1)
+      → IfAgain by (KeepsListed shelf bench listed s0 b0 b1)
+  kept (Anew handing) found is opens reads_now keeps = tt
+  kept Again None is opens reads_now keeps = λ honest right left marks there started.
+      absurd (started_found was.run (bench.stored b0) marks there started ((rw is at opens.found_as) right))
+  kept Again (Some n) is opens reads_now keeps = λ honest right left marks there started. joined
+      (weaker (left_holds (marking_in listed (shelf.stored s0)) (bench.stored b0) left (reads_now b0 right) there started)
+      opens.untouched.moments)
+      (weaker (holds_list listed (of_now opens) (shelf.stored s0) marks)
+      (keeps honest (rw opens.only_reads.honest_same right) (stands opens right left) marks
+      (rw opens.untouched.reads there)))
+
+  -- all that is left of the list, and what is found of its marks
+  pub listed_now : (found : Option ℕ) (result : Result Progress Fault) → Opened found
+      → ((b : B) → IsTrue (bench.honest b) → bench.may_leave b (bench.stored b))
+      → WorksOn shelf bench (handing_of approach) found x s0 s1 mid b1 result
+      → IfSome found (λ _. KeepsMarked shelf bench x s0 mid b1)
+      → DoesListed shelf bench listed s0 s1 b0 b1 result × IfAgain approach (KeepsListed shelf bench listed s0 b0 b1)
+      × (IfAgain approach (IsTrue (bench.honest b0)) → IsFoundAs (Ok found) (marks_in listed (bench.stored b0)))
+  listed_now found result opens reads_now did keeps =
+      (gone_on found result opens did, kept approach found refl opens reads_now keeps, found_now opens)
+
+  -- what was clipped of the blocks that weren't marked
+  pub clipped : (found : Option ℕ) (sources : Files) (clips : Clips) → Opened found
+      → IfAgain approach (IsTrue (bench.honest b0)) → ClipsWork x sources clips
+      → ClipsUnmarked (found_marks (marks_in listed (bench.stored b0))) (range_in listed) (mix_in listed sources) clips
+  clipped found sources clips opens right counts = by_found found opens where
+    so : {found : Option ℕ} (marks : List Bool) → Opened found → found_marks (marks_in listed (bench.stored b0)) ≡ marks
+        → All (IsUniform marks) x.work.stretches
+        → ClipsUnmarked (found_marks (marks_in listed (bench.stored b0))) (range_in listed) (mix_in listed sources) clips
+    so marks opens is uniform = rw is (rw planned.range at (clips_same marks was.work.planned.range
+        (heard was.work.planned was.work.sounds sources) (mix_in listed sources) clips (planned.heard_as sources)
+        (rw (opens.back.planned, opens.back.sounds) at (counts marks uniform))))
+
+    by_found : (found : Option ℕ) → Opened found
+        → ClipsUnmarked (found_marks (marks_in listed (bench.stored b0))) (range_in listed) (mix_in listed sources) clips
+    by_found None opens = so [] opens (ap found_marks (found_now opens right))
+        (rw (opens.unchanged refl) (fresh_uniform was.work planned.fresh))
+    by_found (Some n) opens = let cuts = opens.cut right in
+        so cuts.0 opens (ap found_marks (rw of_was.run at cuts.1)) cuts.2.uniform

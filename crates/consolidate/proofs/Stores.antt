@@ -299,13 +299,3 @@ outcome_as un_so so quiet wrote none (NotFinished file stale count failures file
     NotFinished file stale count failures files (done_as so quiet did) all is own rose runs
 outcome_as un_so so quiet wrote none (Finished stale count files did all is own last durable runs) =
     Finished stale count files (done_as so quiet did) all is own last durable runs
-
--- a wider word for what was left untouched
-pub outcome_plain : {Begins : Files → Type 0} {events : List BoardEvent} {plan after : JobPlan} {first board : Board}
-    {had : ℕ → Hand} {f g : Files} {n m : ℕ} {h h' k k' : Bool} {p p' q q' : List ℕ → Type 0} {o e : OutputView}
-    {untouched plain : Type 0} {ended : Result Progress ExecutionFault} → (untouched → plain)
-    → Outcome Begins events (snapshot_of plan first 0 (source_of f h n p) o) had
-    (snapshot_of after board 0 (source_of g k m q) e) untouched ended
-    → Outcome Begins events (snapshot_of plan first 0 (source_of f h' n p') o) had
-    (snapshot_of after board 0 (source_of g k' m q') e) plain ended
-outcome_plain {o = o} so = outcome_as so (λ laid begins. begins) refl (λ stays. writes_none stays o) (λ none. none)

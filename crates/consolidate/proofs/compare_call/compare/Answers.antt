@@ -13,7 +13,7 @@ use Rattle.comparison.specs.declared.range.Selection.{Selection}
 use Rattle.consolidate.specs.CompareFault.{HoldsOfDevice, IsReportedAs}
 use Rattle.consolidate.specs.declared.compare_fault.ListFault.{ListFault}
 use Rattle.consolidate.specs.declared.compare_fault.ListFault.TheVariants.{Source}
-use Rattle.consolidate.proofs.Listed.{same_spelt}
+use Rattle.consolidate.proofs.RenderWorks.{same_spelt}
 use Rattle.consolidate.proofs.Stores.{read_as, read_behind}
 use Rattle.consolidate.proofs.compare_call.compare.Goals as goal
 

@@ -1,4 +1,4 @@
-use Rattle.std.proofs.Common.{◌∙◌, length, refl, sym}
+use Rattle.std.proofs.Common.{◌∙◌, refl}
 use Rattle.list_terms.specs.Heard.{sounds_of}
 use Rattle.provenance.specs.Asked.{asked_of}
 use Rattle.consolidate.specs.Approaches.{events_by}
@@ -31,7 +31,8 @@ returns-in-Ok-hand_out g c =
     planned.planned planned.there planned.fits planned.refusals
     planned.only_reads whole.value whole.names (fresh c.in-Ok.consolidation run.board run.undone)
     (called (events_by c.args.request.handing) run.work run.board run.idle told.executed)
-    (λ rounds. told.reported rounds ∙ told.finished rounds run.rest (run.idle 1)) whole.same_sound whole.consolidated
+    (λ rounds. told.reported rounds ∙ told.finished rounds run.rest (run.idle 1)) (λ text. whole.same_sound text _ _ _ _ _ _ _)
+    (whole.consolidated _ _ _ _ _ _ _ _)
 
 pub returns-in-Err-hand_out : goal.returns-in-Err-hand_out
 returns-in-Err-hand_out g c =

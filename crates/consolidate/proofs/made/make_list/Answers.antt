@@ -1,5 +1,4 @@
 use Rattle.std.proofs.lemmas.Result.{err_from_is_err_and}
-use Rattle.markfile.specs.Started.{is_started}
 use Rattle.rendering.specs.Clipping.{marked_in}
 use Rattle.rendering.specs.Marked.{run_of}
 use Rattle.consolidate.specs.Approaches.{found_by}
@@ -7,7 +6,7 @@ use Rattle.consolidate.specs.Listed.{listed_of}
 use Rattle.consolidate.specs.MadeSound.{values_for}
 use Rattle.consolidate.specs.Marks.{list_marking}
 use Rattle.consolidate.proofs.Answered.{answered, clips_list, failed, keeps_list, not_opened}
-use Rattle.consolidate.proofs.Listed.{if_again, left_holds, same_spelt}
+use Rattle.consolidate.proofs.RenderWorks.{if_again, left_holds, same_spelt}
 use Rattle.consolidate.proofs.Stores.{idle}
 use Rattle.consolidate.proofs.made.make_list.Goals as goal
 

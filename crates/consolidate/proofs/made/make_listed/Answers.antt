@@ -1,11 +1,9 @@
-use Rattle.std.proofs.Common.{◌∙◌, None, Ok, Err, ap, rules, refl}
+use Rattle.std.proofs.Common.{true≢false, sym, ◌∙◌, Ok, Err, ap, rules, refl}
 use Rattle.sound_terms.specs.Render.{Range}
 use Rattle.consolidate.specs.Listed.{fault_of_range, listed_of, marking_in, marks_in}
-use Rattle.consolidate.proofs.Due.{found_due, open_due, plan_due}
-use Rattle.consolidate.proofs.Listed.{counted, if_again, left_by, left_holds, none_left}
-use Rattle.consolidate.proofs.Own.{of_marks}
-use Rattle.consolidate.proofs.RenderProjects.{clipped, found_in, gone_on, kept, unopened, unplanned}
-use Rattle.consolidate.proofs.Stores.{idle, weaker}
+use Rattle.consolidate.proofs.Answered.{found_due, open_due, plan_due, of_marks}
+use Rattle.consolidate.proofs.RenderWorks.{clipped, counted, found_in, if_again, left_by, left_holds, listed_now, none_left, refused, unplanned}
+use Rattle.consolidate.proofs.Stores.{idle, not_opened, weaker}
 use Rattle.consolidate.proofs.made.make_listed.Goals as goal
 
 pub returns-in-Err : goal.returns-in-Err
@@ -13,7 +11,7 @@ returns-in-Err g c =
     let approach = c.args.request.now.approach in
     let listed = listed_of c.args.request.now c.args.checked.now.project c.args.checked.now.bound in
     record {
-      does = unplanned g.S.Shelf g.B.Bench c.args.shelf.now g.met.B.Bench.only_now c.args.bench.now c.in-Err.fault
+      does = unplanned g.S.Shelf g.B.Bench c.args.shelf.now c.args.bench.now g.met.B.Bench.only_now c.in-Err.fault
           c.of_rendering.result c.of_rendering.ensures.refusal c.of_rendering.ensures.no_device
           (left_by approach (none_left (marking_in listed (g.S.Shelf.stored c.args.shelf.now))
           (g.B.Bench.may_leave c.args.bench.now)));
@@ -39,8 +37,8 @@ returns-in-Err-open_marks g c =
     let left_now = left_by approach (none_left (marking_in listed (g.S.Shelf.stored c.args.shelf.now))
     (g.B.Bench.may_leave c.args.bench.now)) in
     record {
-      does = unopened g.S.Shelf g.B.Bench c.args.shelf.now c.args.bench.now c.open_marks.new.bench
-          c.in-Err-open_marks.fault opens.untouched opens.only_reads left_now;
+      does = refused (λ late. true≢false (sym late)) opens.untouched left_now
+          (not_opened opens.untouched opens.only_reads);
       finished = λ rounds. tt;
       report = tt;
       marked = λ right. tt;
@@ -72,14 +70,15 @@ returns-in-Ok-work_off g c =
     let opens = c.in-Ok-open_marks.ensures in
     let found = c.in-Ok-open_marks.found in
     let off = c.in-Ok-work_off.ensures.off in
+    let now = listed_now g.S.Shelf g.B.Bench listed c.in-Ok.work c.open_marks.new.work c.args.bench.now
+    c.open_marks.new.bench planned run c.args.shelf.now c.work_off.new.shelf c.work_off.new.bench found
+    (Ok c.in-Ok-work_off.worked.progress) opens g.met.B.Bench.reads_now off.does off.keeps in
     record {
-      does = gone_on g.S.Shelf g.B.Bench listed c.in-Ok.work c.open_marks.new.work c.args.bench.now c.open_marks.new.bench planned run c.args.shelf.now c.work_off.new.shelf
-          c.work_off.new.bench found (Ok c.in-Ok-work_off.worked.progress) opens off.does;
+      does = now.0;
       finished = off.finished;
       report = search rules;
       marked = λ right. c.unwrap_or.ensures ∙ counted found (marks_in listed (g.B.Bench.stored c.args.bench.now))
-          (found_in listed c.in-Ok.work (g.B.Bench.stored c.args.bench.now) (Ok found) planned run
-          (opens.found_as right));
+          (now.2 right);
       clips = λ rounds honest right. record {
         clips = clipped g.S.Shelf g.B.Bench listed c.in-Ok.work c.open_marks.new.work c.args.bench.now c.open_marks.new.bench planned run c.args.shelf.now c.work_off.new.shelf
             c.work_off.new.bench found (g.S.Shelf.stored c.args.shelf.now) c.in-Ok-work_off.worked.clips opens right
@@ -87,12 +86,10 @@ returns-in-Ok-work_off g c =
         start = c.start-start.ensures ∙ ap (λ (r : Range). r.from) planned.range;
         channels = c.rendered-rendered.ensures.channels ∙ ap (λ (r : Range). r.channels) planned.range;
       };
-      keeps = kept g.S.Shelf g.B.Bench listed c.in-Ok.work c.open_marks.new.work c.args.bench.now c.open_marks.new.bench planned run c.args.shelf.now c.work_off.new.shelf
-          c.work_off.new.bench approach found refl opens g.met.B.Bench.reads_now off.keeps;
+      keeps = now.1;
       refusals = λ right. found_due c.in-Ok.ensures.refusals approach found
           (marks_in listed (g.B.Bench.stored c.args.bench.now))
-          (found_in listed c.in-Ok.work (g.B.Bench.stored c.args.bench.now) (Ok found) planned run
-          (opens.found_as right));
+          (now.2 right);
       own = λ text. tt;
     }
 
@@ -105,18 +102,18 @@ returns-in-Err-work_off g c =
     let opens = c.in-Ok-open_marks.ensures in
     let found = c.in-Ok-open_marks.found in
     let off = c.in-Err-work_off.ensures.off in
+    let now = listed_now g.S.Shelf g.B.Bench listed c.in-Ok.work c.open_marks.new.work c.args.bench.now
+    c.open_marks.new.bench planned run c.args.shelf.now c.work_off.new.shelf c.work_off.new.bench found
+    (Err c.in-Err-work_off.fault) opens g.met.B.Bench.reads_now off.does off.keeps in
     record {
-      does = gone_on g.S.Shelf g.B.Bench listed c.in-Ok.work c.open_marks.new.work c.args.bench.now c.open_marks.new.bench planned run c.args.shelf.now c.work_off.new.shelf
-          c.work_off.new.bench found (Err c.in-Err-work_off.fault) opens off.does;
+      does = now.0;
       finished = λ rounds. tt;
       report = tt;
       marked = λ right. tt;
       clips = λ rounds honest right. tt;
-      keeps = kept g.S.Shelf g.B.Bench listed c.in-Ok.work c.open_marks.new.work c.args.bench.now c.open_marks.new.bench planned run c.args.shelf.now c.work_off.new.shelf
-          c.work_off.new.bench approach found refl opens g.met.B.Bench.reads_now off.keeps;
+      keeps = now.1;
       refusals = λ right. rw (found_due c.in-Ok.ensures.refusals approach found
           (marks_in listed (g.B.Bench.stored c.args.bench.now))
-          (found_in listed c.in-Ok.work (g.B.Bench.stored c.args.bench.now) (Ok found) planned run
-          (opens.found_as right))) c.in-Err-work_off.ensures.due;
+          (now.2 right)) c.in-Err-work_off.ensures.due;
       own = c.in-Err-work_off.ensures.own;
     }
