@@ -1,5 +1,5 @@
 -- What a consolidation leaves, however far it came.
-use Rattle.std.proofs.Common.{◌≡◌, ◌≢◌, ◌∙◌, ◌+◌, ◌-◌, ◌<◌, ◌≤◌, ◌==◌, ◌||◌, ℕ, zero, suc, Bool, true, false, IsTrue, Option, None, Some, Result, Ok, Err, List, codes, length, refl, sym, ap, subst, arith, is_some, option_map, get_or, cond, nat_lt}
+use Rattle.std.proofs.Common.{◌≡◌, ◌↔◌, ◌≢◌, ◌∙◌, ◌+◌, ◌-◌, ◌<◌, ◌≤◌, ◌==◌, ◌||◌, ℕ, zero, suc, Bool, true, false, IsTrue, Option, None, Some, Result, Ok, Err, List, codes, length, refl, sym, ap, subst, arith, is_some, option_map, get_or, cond, nat_lt}
 use Rattle.std.specs.Prelude.{⊤}
 use Rattle.std.specs.List.{range_with_len}
 use Rattle.std.proofs.lemmas.Bool.{false≢true}
@@ -49,7 +49,7 @@ use Rattle.consolidation.specs.declared.fault.ConsolidationFault.{ConsolidationF
 use Rattle.consolidation.specs.declared.fault.ConsolidationFault.TheVariants as plan_fault
 use Rattle.consolidation.specs.declared.written.Written.{Written}
 use Rattle.consolidate.specs.Approaches.{AreRounds, SaysBy, are_events, events_by}
-use Rattle.consolidate.specs.Commands.{KeepsStores, HoldsOfSource, IsSource}
+use Rattle.consolidate.specs.Commands.{IsOutput, KeepsStores, HoldsOfSource, IsSource}
 use Rattle.consolidate.specs.Copied.{CopiesProject}
 use Rattle.consolidate.specs.Fault.{name_of_output, refusal_of, NamesOpened}
 use Rattle.consolidate.specs.MediaOutcome.{ConsolidatesMedia, consolidation_fault, last_output, output_file}
@@ -281,24 +281,6 @@ is_end bench plan o o2 _ failed = tt
 
 -- ---- a plan that is refused
 
--- 52 alone tells that a source's device failed
-tells_source : (of : ConsolidationFault) → ((number_of of == 22) || (number_of of == 52)) ≡ true → IsOfSource of
-tells_source (plan_fault.Pass (pass_fault.Device file)) e = tt
-tells_source (plan_fault.Runs run_fault.Memory) e = absurd (false≢true e)
-tells_source (plan_fault.Relink relink_fault.Memory) e = absurd (false≢true e)
-tells_source _ e = absurd (false≢true e)
-
-source_told : (of : ConsolidationFault) → IsOfSource of
-    → ((number_of of == 22) || (number_of of == 52)) ≡ true
-source_told (plan_fault.Pass (pass_fault.Device file)) e = refl
-source_told _ e = absurd e
-
-no_output : (of : ConsolidationFault) → number_of of ≡ 62 → ⊥
-no_output (plan_fault.Pass pass_fault.Memory) e = omega (arith, e)
-no_output (plan_fault.Runs run_fault.Memory) e = omega (arith, e)
-no_output (plan_fault.Relink relink_fault.Memory) e = omega (arith, e)
-no_output _ e = omega (arith, e)
-
 -- the fault that is told names the file where the device failed
 named_there : (sounds : List SoundFacts) (of : ConsolidationFault) (told : Fault) (P : List ℕ → Type 0)
     → NamesOpened sounds of told → IsOfSource of → FailsAt sounds of P → HoldsOfSource told P
@@ -310,15 +292,13 @@ named_there sounds _ told P names is failed = absurd is
 module _ {S B Y : Type 0} (shelf : source.Ghosts S) (bench : output.Ghosts B) {b : B} where
   -- a plan that is refused
   pub not_planned : {old new : S} (sounds : List SoundFacts) (of : ConsolidationFault) (told : Fault)
-      → LeavesNow bench b → refusal_of told ≡ refusal_of_plan of → NamesOpened sounds of told
+      → LeavesNow bench b → NamesOpened sounds of told → (IsSource told ↔ IsOfSource of) × (¬ IsOutput told)
       → OnlyReads {X = MediaPlan} shelf old new (Err of) IsOfSource (FailsAt sounds)
       → KeepsStores shelf bench {X = Y} old new b b (Err told)
-  not_planned {new = new} sounds of told only_now same names reads =
-      let source : IsSource told → IsOfSource of = λ e. tells_source of (rw same at e) in
-      stopped_early only_now
-      (read_as (λ quiet e. quiet (rw same (source_told of e))) source
-      (λ failed e. named_there sounds of told (shelf.failed_at new) names (source e) (failed (source e))) reads)
-      (λ e. no_output of (rw same at e))
+  not_planned {new = new} sounds of told only_now names device reads = stopped_early only_now
+      (read_as (λ quiet e. quiet (device.0.1 e)) device.0.0
+      (λ failed e. named_there sounds of told (shelf.failed_at new) names (device.0.0 e) (failed (device.0.0 e))) reads)
+      device.1
 
   -- no memory was left for the board behind a plan
   pub no_board : {old mid : S} → LeavesNow bench b → IsOpened shelf old mid

@@ -231,30 +231,7 @@ if_ok : (ended : Result Progress ExecutionFault) {P : Progress → Type 0}
 if_ok (Ok progress) each = each progress refl
 if_ok (Err cause) each = tt
 
--- ---- the two files, however it came out
-
-module _ (x : MarkedWork) {Begins : Files → Type 0} {events : List BoardEvent} {first : Board} {s : SourceView}
-    {o : OutputView} {had : ℕ → Hand} {new : Snapshot} {untouched : Type 0} where
-  -- where all is done
-  rendered_all : {progress : Progress} → IsMarkedWork x
-      → Outcome Begins events (snapshot_of (plan_of x) first 0 s o) had new untouched (Ok progress)
-      → progress.finished ≡ true → new.output.may_leave new.output.files
-      → length new.board.jobs ≡ length x.work.stretches
-      → (new.output.files sound_name ≡ Some (whole_of x.work s.files))
-      × (new.output.files marks_name ≡ Some (full_marks x.run))
-  rendered_all is out done now size = let all = finished_all out done in (
-    all.1 0 (some_job x.work is.work),
-    full_of x.run (new.output.files marks_name) (finished_marks x s.files is (done_of new.board) new.output.may_leave
-        all.3 (λ k lt. finished_done new.board all.0 k (omega (arith, lt, size))) new.output.files now),
-  )
-
-  -- and in any case
-  left_all : (result : Result Progress ExecutionFault)
-      → (untouched → NoneStartedBy (Some (marks_of x s.files)) o.may_leave)
-      → Outcome Begins events (snapshot_of (plan_of x) first 0 s o) had new untouched result
-      → IsLeftByRun (marks_of x s.files) new.output.may_leave
-  left_all result none out = left_by_run (marks_of x s.files) new.output.may_leave
-      (leaves_marks Begins events (snapshot_of (plan_of x) first 0 s o) had new untouched result out none)
+-- ---- the files of the work
 
 foreign : (x : MarkedWork) (n : List ℕ) → IsOther n → IsForeign (plan_of x) n
 foreign x n other = record {
@@ -318,7 +295,8 @@ module _ {S B : Type 0} (shelf : source.Ghosts S) (bench : output.Ghosts B) (x :
               sound = d.outputs.jobs 0 (some_job x.work is.work);
               marks = d.marks (λ _. None) (marks_of x (λ _. None)) refl;
             });
-        left = λ honest whole st. left_all x result (none st) (out honest whole (from st));
+        left = λ honest whole st. left_by_run m (bench.may_leave b1) (leaves_marks Begins events old (λ _. Nothing) new
+            untouched result (out honest whole (from st)) (none st));
         any_moment = λ honest whole st. let h = call.moments honest whole (on st) in
             weaker leaves (record { later = h.later; each = h.each; before = h.before });
         named = λ whole n other. call.bounded.output.others whole n (foreign x n other);
@@ -333,9 +311,12 @@ module _ {S B : Type 0} (shelf : source.Ghosts S) (bench : output.Ghosts B) (x :
       all : IsTrue (shelf.honest s0) → IsTrue (bench.honest b0) → begun → (p : Progress) → result ≡ Ok p → IsAllDone p
           → (bench.stored b1 sound_name ≡ Some (whole_of x.work (shelf.stored s0)))
           × (bench.stored b1 marks_name ≡ Some (full_marks x.run))
-      all honest whole b p e done = rendered_all x is
-          (rw e at (out honest whole b)) done (reads_now b1 (rw call.bounded.output.same_honest whole))
-          (call.bounded.size ∙ size)
+      all honest whole b p e done = let ends = finished_all (rw e at (out honest whole b)) done in (
+        ends.1 0 (some_job x.work is.work),
+        full_of x.run (bench.stored b1 marks_name) (finished_marks x (shelf.stored s0) is (done_of board)
+            (bench.may_leave b1) ends.3 (λ k lt. finished_done board ends.0 k (omega (arith, lt, size, call.bounded.size)))
+            (bench.stored b1) (reads_now b1 (rw call.bounded.output.same_honest whole))),
+      )
 
 -- ---- a call that ends before the first write
 
@@ -488,19 +469,13 @@ module _ {S B : Type 0} (shelf : source.Ghosts S) (bench : output.Ghosts B)
       same (counts (shelf.stored s0) marked (rw same uniform)
       (λ k below off. noted k (rw same at below) (rw same at off)))
     where
-      notes : KeepsNotes (λ (first : MarkedWork). run.work.work ≡ first.work)
-          (λ (first : MarkedWork). next.work.work ≡ first.work) (HasClips run.work (shelf.stored s0))
-          (HasClips next.work (shelf.stored s0)) (done_of run.board) (done_of next.board) (hands_at run)
-          (hands_at next)
-      notes = r.notes honest
-
       same : next.work.work ≡ x.work
-      same = notes.same x (ap (λ (w : MarkedWork). w.work) p.work)
+      same = (r.notes honest).same x (ap (λ (w : MarkedWork). w.work) p.work)
 
       noted : (k : ℕ) → k < length x.work.stretches → done_before x.work k ≡ false
           → HasClips next.work (shelf.stored s0) k
       noted k below off =
-          elim (notes.done (λ w. subst (IsNoted (HasClips run.work (shelf.stored s0))) (sym (p.idle w)) tt) k
+          elim ((r.notes honest).done (λ w. subst (IsNoted (HasClips run.work (shelf.stored s0))) (sym (p.idle w)) tt) k
           (finished_done next.board finished k
           (omega (
             arith,

@@ -1,5 +1,5 @@
 // Why a call is refused.
-ghost use Rattle.std.specs.Prelude.{◌≡◌, Bool, List, Some, ℕ, None, false, true};
+ghost use Rattle.std.specs.Prelude.{◌≡◌, ◌↔◌, Bool, List, Some, ℕ, None, false, true};
 ghost use Rattle.work_terms.specs.Refusals.{IsDue};
 ghost use Rattle.consolidation.specs.Fault as consolidation;
 ghost use Rattle.list_terms.specs.Heard.{sounds_of};
@@ -193,6 +193,7 @@ impl Fault {
         ensures refusal { refusal_of result ≡ consolidation.refusal_of fault }
         ensures own { (reported scheduled : Bool) (text : List ℕ) → IsOfMedia reported scheduled text result }
         ensures names { NamesOpened (sounds_of checked.bound) fault result }
+        ensures device { (IsSource result ↔ consolidation.IsSource fault) × (IsOutput result → ⊥) }
     {
         match fault {
             ConsolidationFault::Intervals => Fault::Intervals,

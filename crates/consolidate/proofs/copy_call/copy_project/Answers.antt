@@ -12,7 +12,8 @@ returns-in-Err g c = let is = c.of_consolidation.ensures.refusal in
     (λ honest work is_work. rw is (c.in-Err.ensures.refusals honest work is_work))
     (λ text. c.of_consolidation.ensures.own _ _ text)
     (not_planned g.S.Shelf g.B.Bench (sounds_of c.args.checked.bound) c.in-Err.fault c.of_consolidation.result
-    (g.met.B.Bench.only_now c.args.bench.now) is c.of_consolidation.ensures.names c.in-Err.ensures.only_reads)
+    (g.met.B.Bench.only_now c.args.bench.now) c.of_consolidation.ensures.names c.of_consolidation.ensures.device
+    c.in-Err.ensures.only_reads)
 
 pub returns-in-Err-execution_of : goal.returns-in-Err-execution_of
 returns-in-Err-execution_of g c = rw c.in-Err-execution_of.ensures.memory
