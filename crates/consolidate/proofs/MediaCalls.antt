@@ -1,5 +1,5 @@
 -- What a consolidation leaves, however far it came.
-use Rattle.std.proofs.Common.{◌≡◌, ◌↔◌, ◌≢◌, ◌∙◌, ◌+◌, ◌-◌, ◌<◌, ◌≤◌, ◌==◌, ◌||◌, ℕ, zero, suc, Bool, true, false, IsTrue, Option, None, Some, Result, Ok, Err, List, codes, length, refl, sym, ap, subst, arith, is_some, option_map, get_or, cond, nat_lt}
+use Rattle.std.proofs.Common.{◌≡◌, ◌↔◌, ◌≢◌, ◌∙◌, ◌+◌, ◌-◌, ◌<◌, ◌≤◌, ℕ, zero, suc, Bool, true, false, IsTrue, Option, None, Some, Result, Ok, Err, List, codes, length, refl, sym, ap, subst, arith, is_some, option_map, get_or, cond, nat_lt}
 use Rattle.std.specs.Prelude.{⊤}
 use Rattle.std.specs.List.{range_with_len}
 use Rattle.std.proofs.lemmas.Bool.{false≢true}
@@ -24,10 +24,7 @@ use Rattle.list_terms.specs.Renewed.{media_name}
 use Rattle.sound_terms.specs.Sounds.{SoundFacts}
 use Rattle.passes.specs.Left.{Leaving}
 use Rattle.passes.specs.declared.fault.PassFault.TheVariants as pass_fault
-use Rattle.mediaset.specs.declared.fault.RunFault.TheVariants as run_fault
-use Rattle.relink.specs.declared.fault.RelinkFault.TheVariants as relink_fault
 use Rattle.execution.specs.Boards.{fresh_board}
-use Rattle.execution.specs.Ends.{WantsNoPlace, WantsNoRoom}
 use Rattle.execution.specs.EventRun.{Snapshot, snapshot_of}
 use Rattle.execution.specs.Marking.{done_of}
 use Rattle.execution.specs.Outcome.{Executed, HasFailed, IsBefore, IsBounded, IsFresh, Outcome}
@@ -37,7 +34,7 @@ use Rattle.execution.specs.declared.fault.ExecutionFault.{ExecutionFault}
 use Rattle.execution.specs.declared.fault.ExecutionFault.TheVariants as cause
 use Rattle.provenance.specs.Asked.{AskedReport}
 use Rattle.consolidation.specs.Consolidated.{AreDurable, IsConsolidated, IsElsewhere, IsWorkOf, Work, work_fault}
-use Rattle.consolidation.specs.Fault.{FailsAt, IsSource as IsOfSource, number_of, refusal_of as refusal_of_plan}
+use Rattle.consolidation.specs.Fault.{FailsAt, IsSource as IsOfSource}
 use Rattle.consolidation.specs.Jobs.{work_of}
 use Rattle.consolidation.specs.Media.{IsNoMedium}
 use Rattle.consolidation.specs.Outputs.{AreNamedOutputs, FitsSources, job_plan, last_count, last_name, output_name, whole_output}
@@ -54,7 +51,7 @@ use Rattle.consolidate.specs.Copied.{CopiesProject}
 use Rattle.consolidate.specs.Fault.{name_of_output, refusal_of, NamesOpened}
 use Rattle.consolidate.specs.MediaOutcome.{ConsolidatesMedia, consolidation_fault, last_output, output_file}
 use Rattle.consolidate.specs.Outcomes.{AnswersAs, IsAllDone, read_view}
-use Rattle.consolidate.specs.Own.{IsConsolidatedFile, IsOfMedia}
+use Rattle.consolidate.specs.Own.{IsOfMedia}
 use Rattle.consolidate.specs.declared.copy_call.Copied.{Copied}
 use Rattle.consolidate.specs.declared.fault.Fault.{Fault}
 use Rattle.consolidate.specs.declared.fault.Fault.TheVariants as fault
@@ -80,36 +77,6 @@ same_name media reported number = by_test (nat_lt number media) where
       ≡ cond b (media_name (suc number)) (last_name reported (number - media))
   by_test true = refl
   by_test false = last_same reported (number - media)
-
-last_own : (reported : Bool) (position : ℕ) → IsConsolidatedFile reported (last_output reported position)
-last_own false position = tt
-last_own true zero = refl
-last_own true (suc zero) = refl
-last_own true (suc (suc position)) = tt
-
-file_own : (media : ℕ) (reported : Bool) (number : ℕ) → IsConsolidatedFile reported (output_file media reported number)
-file_own media reported number = by_test (nat_lt number media) where
-  by_test : (b : Bool)
-      → IsConsolidatedFile reported (cond b (file.Medium (suc number)) (last_output reported (number - media)))
-  by_test true = tt
-  by_test false = last_own reported (number - media)
-
--- it is one of a consolidation; only by events do workers take memory
-of_media : (handing : HandingOut) (text : List ℕ) (media : ℕ) (reported : Bool) (of : ExecutionFault)
-    → (AreRounds handing → WantsNoPlace {X = Progress} (Err of)) → (AreRounds handing → WantsNoRoom {X = Progress} (Err of))
-    → IsOfMedia reported (are_events handing) text (consolidation_fault media reported of)
-of_media Rounds text media reported cause.Memory place room = absurd (place tt refl)
-of_media Rounds text media reported cause.JobMemory place room = absurd (room tt refl)
-of_media (Events events) text media reported cause.Memory place room = refl
-of_media (Events events) text media reported cause.JobMemory place room = refl
-of_media handing text media reported (cause.Output number) place room = file_own media reported number
-of_media handing text media reported _ place room = tt
-
--- it may come where nothing is due
-may_come : (media : ℕ) (reported : Bool) (of : ExecutionFault)
-    → IsDue (refusal_of (consolidation_fault media reported of)) None
-may_come media reported cause.Memory = tt
-may_come media reported _ = tt
 
 last_some : (reported : Bool) → 1 ≤ last_count reported
 last_some false = omega arith
@@ -432,21 +399,22 @@ module _ {S B : Type 0} (shelf : source.Ghosts S) (bench : output.Ghosts B) (han
     }
 
     -- or why it ended
-    pub uncopied : {of : ExecutionFault} → Call (Err of) → (AreRounds handing → WantsNoPlace {X = Progress} (Err of))
-        → (AreRounds handing → WantsNoRoom {X = Progress} (Err of))
-        → CopiesProject shelf bench handing leave project binding handle asked old new before after
-        (Err (consolidation_fault (length plan.runs) (is_some asked) of))
-    uncopied {of = of} call place room = record {
-      refusals = λ honest work is. rw (due honest work is) (may_come (length plan.runs) (is_some asked) of);
-      own = λ text. of_media handing text (length plan.runs) (is_some asked) of place room;
+    pub uncopied : {of : ExecutionFault} (told : Fault) → Call (Err of)
+        → told ≡ consolidation_fault (length plan.runs) (is_some asked) of → IsDue (refusal_of told) None
+        → ((text : List ℕ) → IsOfMedia (is_some asked) (are_events handing) text told)
+        → CopiesProject shelf bench handing leave project binding handle asked old new before after (Err told)
+    uncopied {of = of} told call same may_come own = record {
+      refusals = λ honest work is. rw (due honest work is) may_come;
+      own = own;
       named = named_now call;
-      outcome = λ honest right text accepted begun. came (Err (consolidation_fault (length plan.runs) (is_some asked) of)) call refl honest right text accepted;
-      stores = opened_before reads (rw (← planned.is_asked) (ended_by call.bounded.source call.bounded.output
+      outcome = λ honest right text accepted begun. came (Err told) call same honest right text accepted;
+      stores = opened_before reads (rw (same, ← planned.is_asked) (ended_by call.bounded.source call.bounded.output
           (consolidation_fault (length plan.runs) (is_some plan.report) of)
           (is_end bench plan before after of call.bounded.failed)));
       all_done = λ rounds. tt;
       finished = λ honest right text accepted. tt;
       durable = λ right. tt;
-      list_last = λ right other. list_kept names call.bounded right (rw planned.is_asked other);
-      report_last = λ right. report_kept names call.bounded right (is_some asked) planned.is_asked;
+      list_last = λ right other. list_kept names call.bounded right (rw planned.is_asked (rw same at other));
+      report_last = λ right no_list no_report. report_kept names call.bounded right (is_some asked) planned.is_asked
+          (rw same at no_list) (rw same at no_report);
     }

@@ -22,10 +22,10 @@ use Rattle.execution.specs.MarkingLaws.{running_leaves, running_true}
 use Rattle.execution.specs.OutcomeLaws.{finished_all, leaves_marks}
 use Rattle.execution.specs.Outcome.{Executed, HasFailed, HasFinished, IsBounded, IsCall, IsFresh, IsResting, Outcome, Resumed}
 use Rattle.execution.specs.Plan.{IsForeign}
-use Rattle.execution.specs.View.{ExecutionView, hands_at}
+use Rattle.execution.specs.View.{ExecutionView}
 use Rattle.execution.specs.declared.fault.ExecutionFault.{ExecutionFault}
 use Rattle.execution.specs.declared.fault.ExecutionFault.TheVariants as execution
-use Rattle.execution.specs.Noted.{IsNoted, KeepsNotes}
+use Rattle.execution.specs.Noted.{IsNoted}
 use Rattle.rendering.specs.Fault as rendering
 use Rattle.rendering.specs.declared.fault.RenderFault.{RenderFault}
 use Rattle.rendering.specs.Maker.{IsReopened, marks_of, HasClips, HasSoundJobs, IsMarkedWork, plan_of}
@@ -38,11 +38,11 @@ use Rattle.rendering.specs.ClippingLaws.{clips_same, fresh_uniform}
 use Rattle.devices.specs.declared.source.Shelf as source
 use Rattle.devices.specs.declared.bench.Bench as output
 use Rattle.devices.specs.ViewLaws.{writes_none}
-use Rattle.devices.specs.Views.{OutputView, SourceView, output_view, source_view}
+use Rattle.devices.specs.Views.{output_view, source_view}
 use Rattle.job_terms.specs.declared.BoardEvent.{BoardEvent}
 use Rattle.job_terms.specs.declared.Progress.{Progress}
 use Rattle.job_terms.specs.Board.{Board, done_job, fresh_job, is_finished}
-use Rattle.job_terms.specs.Workers.{Hand, Nothing}
+use Rattle.job_terms.specs.Workers.{Nothing}
 use Rattle.clipping.specs.declared.tally.Clips.{Clips}
 use Rattle.consolidate.specs.Approaches.{IfAgain, StartsBy, found_by, AreRounds, are_events, events_by, handing_of}
 use Rattle.consolidate.specs.Listed.{IsMarkedIn, IsPlannedAs, Listed, marking_in, DoesListed, IsLeftListed, KeepsListed, WorksListed, marks_in, mix_in, range_in}
@@ -52,7 +52,6 @@ use Rattle.consolidate.specs.declared.request.Approach.TheVariants.{Again, Anew}
 use Rattle.consolidate.specs.Fault.{name_of_output, refusal_of}
 use Rattle.consolidate.specs.Commands.{IsOutput, IsSource, KeepsStores}
 use Rattle.consolidate.specs.Outcomes.{AnswersAs, IsAllDone, read_view}
-use Rattle.consolidate.specs.Own.{IsOfWork}
 use Rattle.consolidate.specs.RenderOutcome.{in_rounds, rendering_fault, IsWorkedOff}
 use Rattle.consolidate.specs.RenderWorks.{Calls, ClipsWork, DoesWork, IsSoundWork, IsTakenUp, IsUnbegun, KeepsMarked, RunsOn, StandsAsMarked, WorksOn, OpensMarks}
 use Rattle.consolidate.specs.declared.fault.Fault.{Fault}
@@ -489,12 +488,11 @@ module _ {S B : Type 0} (shelf : source.Ghosts S) (bench : output.Ghosts B)
             | inr note ↦ note
           ]
 
--- its fault is one that it may tell: only by events do workers take memory
-pub own_by : (handing : HandingOut) (again : Bool) (text : List ℕ) (of : Fault)
-    → (AreRounds handing → IsOfWork again false text of) → IsOfWork again true text of
-    → IsOfWork again (are_events handing) text of
-own_by Rounds again text of rounds events = rounds tt
-own_by (Events given) again text of rounds events = events
+-- what holds of rounds, and of events that were given, holds of either
+pub by_handing : (handing : HandingOut) (P : Bool → Type 0) → (AreRounds handing → P false) → P true
+    → P (are_events handing)
+by_handing Rounds P rounds events = rounds tt
+by_handing (Events given) P rounds events = events
 
 -- ---- or not begun at all
 

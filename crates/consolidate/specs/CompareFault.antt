@@ -9,6 +9,8 @@ use Rattle.opening.specs.Own as opening_own
 use Rattle.opening.specs.Own.{IsOfOpening}
 use Rattle.comparison.specs.declared.fault.SideFault.{SideFault}
 use Rattle.comparison.specs.declared.fault.SideFault.TheVariants as side
+use Rattle.comparison.specs.declared.fault.CompareFault as of_sums
+use Rattle.comparison.specs.declared.fault.CompareFault.TheVariants as sums
 use Rattle.consolidate.specs.declared.compare_fault.ListFault.{ListFault}
 use Rattle.consolidate.specs.declared.compare_fault.ListFault.TheVariants.{Project, Intervals, Memory, Source}
 use Rattle.consolidate.specs.declared.compare_fault.CompareFault.{CompareFault}
@@ -85,3 +87,14 @@ IsReportedAs sounds side.Memory reported = reported ≡ Memory
 IsReportedAs sounds (side.Source file) (Source name) =
     (facts : SoundFacts) → slice_get sounds file ≡ Some facts → string_bytes name ≡ facts.name
 IsReportedAs sounds (side.Source file) _ = ⊥
+
+abbrev pub IsOpenedOfTwo : (sounds others : List SoundFacts) → of_sums.CompareFault → Type 0
+IsOpenedOfTwo sounds others sums.EmptyRange = ⊤
+IsOpenedOfTwo sounds others (sums.First fault) = IsOpened sounds fault
+IsOpenedOfTwo sounds others (sums.Second fault) = IsOpened others fault
+
+abbrev pub IsReportedOfTwo : (sounds others : List SoundFacts) → of_sums.CompareFault → CompareFault → Type 0
+IsReportedOfTwo sounds others sums.EmptyRange reported = reported ≡ EmptyRange
+IsReportedOfTwo sounds others (sums.First fault) (First reported) = IsReportedAs sounds fault reported
+IsReportedOfTwo sounds others (sums.Second fault) (Second reported) = IsReportedAs others fault reported
+IsReportedOfTwo sounds others _ _ = ⊥

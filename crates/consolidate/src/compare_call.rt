@@ -4,7 +4,7 @@ ghost use Rattle.comparison.specs.Range.{HasChannels};
 ghost use Rattle.consolidate.specs.Comparing.{IsComparing};
 
 use crate::compare_fault::{CompareFault, ListFault};
-use comparison::{CompareFault as SumsFault, Comparison, Selection, compare_projects};
+use comparison::{Comparison, Selection, compare_projects};
 use devices::{Shelf, Watch};
 use list_terms::Notice;
 use opening::open_list;
@@ -68,12 +68,6 @@ pub fn compare<S: Shelf, T: Shelf, W: Watch>(
             first_notices: first.notices,
             second_notices: second.notices,
         }),
-        Err(SumsFault::EmptyRange) => Err(CompareFault::EmptyRange),
-        Err(SumsFault::First(fault)) => {
-            Err(CompareFault::First(ListFault::of_sums(first.checked, fault)))
-        }
-        Err(SumsFault::Second(fault)) => {
-            Err(CompareFault::Second(ListFault::of_sums(second.checked, fault)))
-        }
+        Err(fault) => Err(CompareFault::of_sums(first.checked, second.checked, fault)),
     }
 }

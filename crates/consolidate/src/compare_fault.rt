@@ -1,12 +1,17 @@
 // Why two lists aren't compared.
-ghost use Rattle.std.specs.Prelude.{◌≡◌, ◌↔◌, ℕ, List, None};
+ghost use Rattle.std.specs.Prelude.{◌≡◌, ◌↔◌, ◌≤◌, ℕ, List, None, Err, IsErrOf};
 ghost use Rattle.work_terms.specs.Disk.{Files};
 ghost use Rattle.work_terms.specs.Refusals.{IsDue};
 ghost use Rattle.list_terms.specs.Heard.{sounds_of};
-ghost use Rattle.comparison.specs.Fault.{IsSource};
-ghost use Rattle.consolidate.specs.CompareFault.{IsDevice, IsFirst, IsOfSums, IsOpened, IsOwn, IsReportedAs, refusal_of};
+ghost use Rattle.comparison.specs.Fault as sums;
+ghost use Rattle.comparison.specs.Range.{Extent};
+ghost use Rattle.comparison.specs.declared.projects.Comparison.{Comparison};
+ghost use Rattle.comparison.specs.declared.fault.CompareFault.TheVariants as of_sums;
+ghost use Rattle.consolidate.specs.Comparing.{AnswersFirst, AnswersRange, AnswersSecond};
+ghost use Rattle.consolidate.specs.CompareFault.{ForFirst, ForSecond, IsDevice, IsFirst, IsOfSums, IsOpened, IsOpenedOfTwo, IsOwn, IsReportedAs, IsReportedOfTwo, OfFirst, OfSecond, refusal_of};
+ghost use Rattle.consolidate.specs.declared.compare_call.Compared.{Compared};
 
-use comparison::SideFault;
+use comparison::{CompareFault as SumsFault, SideFault};
 use projectcheck::Checked;
 use thiserror::Error;
 
@@ -55,13 +60,13 @@ impl ListFault {
     }
 
     /// A fault of the sums of a list.
-    pub(crate) fn of_sums(checked: Checked, fault: SideFault) -> ListFault
+    fn of_sums(checked: Checked, fault: SideFault) -> ListFault
         requires { IsOpened (sounds_of checked.bound) fault }
         ensures sums { IsOfSums result }
         ensures due { IsDue (refusal_of result) None }
         ensures own { (text : List ℕ) → IsOwn text result }
         ensures first { (text : List ℕ) (files : Files) → IsFirst text files result }
-        ensures device { IsSource fault ↔ IsDevice result }
+        ensures device { sums.IsSource fault ↔ IsDevice result }
         ensures reported { IsReportedAs (sounds_of checked.bound) fault result }
     {
         match fault {
@@ -70,6 +75,29 @@ impl ListFault {
             SideFault::Source { file } => ListFault::Source {
                 name: checked.into_name(file),
             },
+        }
+    }
+}
+
+impl CompareFault {
+    /// A fault of the sums of two lists that were opened.
+    pub(crate) fn of_sums(first: Checked, second: Checked, fault: SumsFault) -> CompareFault
+        requires { IsOpenedOfTwo (sounds_of first.bound) (sounds_of second.bound) fault }
+        ensures first_due { AnswersFirst {X = Compared} None (Err result) }
+        ensures second_due { AnswersSecond {X = Compared} None (Err result) }
+        ensures range { (extent : Extent) → IsErrOf {T = Comparison} (Err fault) of_sums.EmptyRange
+            ↔ (extent.to ≤ extent.from) → AnswersRange {X = Compared} extent (Err result) }
+        ensures own { (text : List ℕ) → ForFirst (IsOwn text) result × ForSecond (IsOwn text) result }
+        ensures in_turn { (text : List ℕ) (files : Files)
+            → ForFirst (IsFirst text files) result × ForSecond (IsFirst text files) result }
+        ensures first_device { sums.OfFirst sums.IsSource fault ↔ OfFirst IsDevice result }
+        ensures second_device { sums.OfSecond sums.IsSource fault ↔ OfSecond IsDevice result }
+        ensures reported { IsReportedOfTwo (sounds_of first.bound) (sounds_of second.bound) fault result }
+    {
+        match fault {
+            SumsFault::EmptyRange => CompareFault::EmptyRange,
+            SumsFault::First(fault) => CompareFault::First(ListFault::of_sums(first, fault)),
+            SumsFault::Second(fault) => CompareFault::Second(ListFault::of_sums(second, fault)),
         }
     }
 }

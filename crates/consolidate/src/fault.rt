@@ -5,7 +5,7 @@ ghost use Rattle.consolidation.specs.Fault as consolidation;
 ghost use Rattle.list_terms.specs.Heard.{sounds_of};
 ghost use Rattle.rendering.specs.Fault as rendering;
 ghost use Rattle.consolidate.specs.Commands.{IsOutput, IsSource};
-ghost use Rattle.consolidate.specs.Own.{IsOfMedia, IsOfWork};
+ghost use Rattle.consolidate.specs.Own.{IsConsolidatedFile, IsOfMedia, IsOfWork};
 ghost use Rattle.consolidate.specs.Fault.{IsOpenedIn, NamesOpened, name_of_output, refusal_of};
 ghost use Rattle.consolidate.specs.MediaOutcome.{consolidation_fault, output_file};
 ghost use Rattle.consolidate.specs.RenderOutcome.{rendering_fault};
@@ -46,7 +46,8 @@ pub enum OutputFile {
 impl OutputFile {
     /// The output of this number, counted from 0, of a consolidation to so many media, with a report or without one.
     fn of_consolidation(media: u32, reported: bool, number: u32) -> OutputFile
-        ensures { result ≡ output_file media reported number }
+        ensures value { result ≡ output_file media reported number }
+        ensures own { IsConsolidatedFile reported result }
     {
         if number < media {
             return OutputFile::Medium(number + 1);
@@ -209,7 +210,11 @@ impl Fault {
     /// The fault of a consolidation to so many media, with a report or without one, that stands for one of its
     /// execution.
     pub(crate) fn of_media(media: u32, reported: bool, cause: ExecutionFault) -> Fault
-        ensures { result ≡ consolidation_fault media reported cause }
+        ensures reported { result ≡ consolidation_fault media reported cause }
+        ensures due { IsDue (refusal_of result) None }
+        ensures scheduled { (text : List ℕ) → IsOfMedia reported true text result }
+        ensures own { (scheduled : Bool) (text : List ℕ) → (cause ≡ execution.Memory → ⊥)
+            → (cause ≡ execution.JobMemory → ⊥) → IsOfMedia reported scheduled text result }
     {
         match cause {
             ExecutionFault::Memory | ExecutionFault::JobMemory => Fault::WorkerMemory,

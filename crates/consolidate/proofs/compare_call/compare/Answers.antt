@@ -1,7 +1,8 @@
-use Rattle.std.proofs.Common.{◌≡◌, ◌↔◌, ◌<◌, ◌≤◌, ◌∙◌, ℕ, List, Ok, Err, Result, IsErrOf, arith, refl, rules, subst, sym}
+use Rattle.std.proofs.Common.{◌≡◌, ◌↔◌, ◌<◌, ◌≤◌, ◌∙◌, ℕ, List, Ok, Err, Option, Result, IsErrOf, arith, refl, rules, subst, sym}
 use Rattle.sound_terms.specs.Sounds.{SoundFacts}
 use Rattle.work_terms.specs.Refusals.{Refusal}
 use Rattle.list_terms.specs.Project.{ListProject}
+use Rattle.comparison.specs.Fault as comparing
 use Rattle.comparison.specs.Fault.{FailsAt}
 use Rattle.comparison.specs.Range.{compared_in}
 use Rattle.comparison.specs.declared.fault.CompareFault as of_sums
@@ -10,7 +11,11 @@ use Rattle.comparison.specs.declared.fault.SideFault.{SideFault}
 use Rattle.comparison.specs.declared.fault.SideFault.TheVariants as side
 use Rattle.comparison.specs.declared.projects.Comparison.{Comparison}
 use Rattle.comparison.specs.declared.range.Selection.{Selection}
-use Rattle.consolidate.specs.CompareFault.{HoldsOfDevice, IsReportedAs}
+use Rattle.consolidate.specs.Comparing.{AnswersFirst, AnswersSecond}
+use Rattle.consolidate.specs.CompareFault.{HoldsOfDevice, IsReportedAs, IsReportedOfTwo, OfFirst, OfSecond}
+use Rattle.consolidate.specs.declared.compare_call.Compared.{Compared}
+use Rattle.consolidate.specs.declared.compare_fault.CompareFault.{CompareFault}
+use Rattle.consolidate.specs.declared.compare_fault.CompareFault.TheVariants.{First, Second}
 use Rattle.consolidate.specs.declared.compare_fault.ListFault.{ListFault}
 use Rattle.consolidate.specs.declared.compare_fault.ListFault.TheVariants.{Source}
 use Rattle.consolidate.proofs.RenderWorks.{same_spelt}
@@ -42,6 +47,19 @@ holds_there sounds failed (side.Source file) (Source name) is fails = subst fail
 holds_there sounds failed (side.Source file) _ is fails = absurd is
 holds_there sounds failed _ reported is fails = absurd fails
 
+module _ (sounds others : List SoundFacts) (failed : List ℕ → Type 0) where
+  first_there : (fault : of_sums.CompareFault) (told : CompareFault) → IsReportedOfTwo sounds others fault told
+      → comparing.OfFirst (λ of. FailsAt sounds of failed) fault → OfFirst (λ of. HoldsOfDevice of failed) told
+  first_there (sums.First fault) (First reported) is fails = holds_there sounds failed fault reported is fails
+  first_there (sums.First fault) _ is fails = absurd is
+  first_there _ told is fails = absurd fails
+
+  second_there : (fault : of_sums.CompareFault) (told : CompareFault) → IsReportedOfTwo sounds others fault told
+      → comparing.OfSecond (λ of. FailsAt others of failed) fault → OfSecond (λ of. HoldsOfDevice of failed) told
+  second_there (sums.Second fault) (Second reported) is fails = holds_there others failed fault reported is fails
+  second_there (sums.Second fault) _ is fails = absurd is
+  second_there _ told is fails = absurd fails
+
 pub returns-in-Err-open_list : goal.returns-in-Err-open_list
 returns-in-Err-open_list g c =
     let one = c.in-Ok.ensures in
@@ -61,74 +79,31 @@ returns-in-Err-open_list g c =
       second_read = refused.only_reads;
     }
 
-pub returns-in-Err-EmptyRange : goal.returns-in-Err-EmptyRange
-returns-in-Err-EmptyRange g c =
+pub returns-in-Err-compare_projects : goal.returns-in-Err-compare_projects
+returns-in-Err-compare_projects g c =
     let one = c.in-Ok.ensures in
     let two = c.in-Ok-open_list.ensures in
-    let refused = c.in-Err-EmptyRange.ensures in
-    let is = c.in-Err-EmptyRange.field-0-is in
-    record {
-      compared = λ honest sure. tt;
-      first_refusals = one.refusals;
-      second_refusals = two.refusals;
-      range = λ project next spelt next_spelt. (empty_alike c.args.selection.now _ (same_spelt one.spelt spelt)
-          (same_spelt two.spelt next_spelt) (rw is at refused.empty)).0 refl;
-      bad_first_text = λ refusal bad. absurd (no_fault one.spelt bad);
-      bad_second_text = λ refusal bad. absurd (no_fault two.spelt bad);
-      first_own = tt;
-      second_own = tt;
-      first_in_turn = λ honest. tt;
-      second_in_turn = λ sure. tt;
-      first_read = read_behind one.only_reads (rw is at refused.first_read);
-      second_read = read_behind two.only_reads (rw is at refused.second_read);
-    }
-
-pub returns-in-Err-First : goal.returns-in-Err-First
-returns-in-Err-First g c =
-    let one = c.in-Ok.ensures in
-    let two = c.in-Ok-open_list.ensures in
-    let refused = c.in-Err-First.ensures in
-    let is = c.in-Err-First.field-0-is in
+    let refused = c.in-Err-compare_projects.ensures in
     let told = c.of_sums.ensures in
     record {
       compared = λ honest sure. tt;
-      first_refusals = λ honest. rw (one.refusals honest) told.due;
-      second_refusals = λ sure of. two.refusals sure;
-      range = λ project next spelt next_spelt of. some_sums (empty_alike c.args.selection.now _
-          (same_spelt one.spelt spelt) (same_spelt two.spelt next_spelt) (rw is at refused.empty)) (λ wrong. absurd (cc));
+      first_refusals = λ honest. subst (λ (due : Option Refusal). AnswersFirst {X = Compared} due (Err c.of_sums.result))
+          (sym (one.refusals honest)) told.first_due;
+      second_refusals = λ sure. subst (λ (due : Option Refusal). AnswersSecond {X = Compared} due (Err c.of_sums.result))
+          (sym (two.refusals sure)) told.second_due;
+      range = λ project next spelt next_spelt. told.range (compared_in c.args.selection.now project.events next.events)
+          (empty_alike c.args.selection.now (Err c.in-Err-compare_projects.fault) (same_spelt one.spelt spelt)
+          (same_spelt two.spelt next_spelt) refused.empty);
       bad_first_text = λ refusal bad. absurd (no_fault one.spelt bad);
       bad_second_text = λ refusal bad. absurd (no_fault two.spelt bad);
-      first_own = told.own c.args.first_list.now;
-      second_own = tt;
-      first_in_turn = λ honest. told.first c.args.first_list.now (g.S.Shelf.stored c.args.first_shelf.now);
-      second_in_turn = λ sure. tt;
-      first_read = read_behind one.only_reads (read_as (λ quiet e. quiet (told.device.0 e)) told.device.1
-          (λ failed e. holds_there _ _ _ _ told.reported (failed (told.device.1 e))) (rw is at refused.first_read));
-      second_read = read_behind two.only_reads (rw is at refused.second_read);
-    }
-
-pub returns-in-Err-Second : goal.returns-in-Err-Second
-returns-in-Err-Second g c =
-    let one = c.in-Ok.ensures in
-    let two = c.in-Ok-open_list.ensures in
-    let refused = c.in-Err-Second.ensures in
-    let is = c.in-Err-Second.field-0-is in
-    let told = c.of_sums-in-Err-Second.ensures in
-    record {
-      compared = λ honest sure. tt;
-      first_refusals = one.refusals;
-      second_refusals = λ sure. rw (two.refusals sure) told.due;
-      range = λ project next spelt next_spelt of. some_sums (empty_alike c.args.selection.now _
-          (same_spelt one.spelt spelt) (same_spelt two.spelt next_spelt) (rw is at refused.empty)) (λ wrong. absurd (cc));
-      bad_first_text = λ refusal bad. absurd (no_fault one.spelt bad);
-      bad_second_text = λ refusal bad. absurd (no_fault two.spelt bad);
-      first_own = tt;
-      second_own = told.own c.args.second_list.now;
-      first_in_turn = λ honest. tt;
-      second_in_turn = λ sure. told.first c.args.second_list.now (g.T.Shelf.stored c.args.second_shelf.now);
-      first_read = read_behind one.only_reads (rw is at refused.first_read);
-      second_read = read_behind two.only_reads (read_as (λ quiet e. quiet (told.device.0 e)) told.device.1
-          (λ failed e. holds_there _ _ _ _ told.reported (failed (told.device.1 e))) (rw is at refused.second_read));
+      first_own = (told.own c.args.first_list.now).0;
+      second_own = (told.own c.args.second_list.now).1;
+      first_in_turn = λ honest. (told.in_turn c.args.first_list.now (g.S.Shelf.stored c.args.first_shelf.now)).0;
+      second_in_turn = λ sure. (told.in_turn c.args.second_list.now (g.T.Shelf.stored c.args.second_shelf.now)).1;
+      first_read = read_behind one.only_reads (read_as (λ quiet e. quiet (told.first_device.0 e)) told.first_device.1
+          (λ failed e. first_there _ _ _ _ _ told.reported (failed (told.first_device.1 e))) refused.first_read);
+      second_read = read_behind two.only_reads (read_as (λ quiet e. quiet (told.second_device.0 e)) told.second_device.1
+          (λ failed e. second_there _ _ _ _ _ told.reported (failed (told.second_device.1 e))) refused.second_read);
     }
 
 pub returns-in-Ok-compare_projects : goal.returns-in-Ok-compare_projects

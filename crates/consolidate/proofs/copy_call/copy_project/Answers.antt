@@ -1,7 +1,9 @@
-use Rattle.std.proofs.Common.{◌∙◌, refl}
+use Rattle.std.proofs.Common.{Bool, false, ◌∙◌, refl}
 use Rattle.list_terms.specs.Heard.{sounds_of}
 use Rattle.provenance.specs.Asked.{asked_of}
 use Rattle.consolidate.specs.Approaches.{events_by}
+use Rattle.consolidate.specs.Own.{IsOfMedia}
+use Rattle.consolidate.proofs.RenderWorks.{by_handing}
 use Rattle.consolidate.proofs.MediaCalls.{asked_some, called, copied, fresh, no_board, not_planned, refused, uncopied}
 use Rattle.consolidate.specs.declared.fault.Fault.TheVariants as fault
 use Rattle.consolidate.proofs.copy_call.copy_project.Goals as goal
@@ -41,9 +43,14 @@ returns-in-Err-hand_out g c =
     let whole = c.outcome-written.ensures in
     let run = c.in-Ok-execution_of.ensures in
     let told = c.in-Err-hand_out.ensures in
-    rw (c.of_media.ensures, whole.value, c.is_some.ensures, ← asked_some asked_of c.args.request.report)
-    (uncopied g.S.Shelf g.B.Bench c.args.request.handing c.args.shelf.now c.args.bench.now c.in-Ok.consolidation
+    let of = c.of_media.ensures in
+    uncopied g.S.Shelf g.B.Bench c.args.request.handing c.args.shelf.now c.args.bench.now c.in-Ok.consolidation
     c.outcome-written.result c.plan.new.shelf c.hand_out.new.shelf c.hand_out.new.bench c.hand_out.new.execution.board _
-    planned.planned planned.there planned.fits planned.refusals
-    planned.only_reads whole.value whole.names (fresh c.in-Ok.consolidation run.board run.undone)
-    (called (events_by c.args.request.handing) run.work run.board run.idle told.executed) told.memory told.job_memory)
+    planned.planned planned.there planned.fits planned.refusals planned.only_reads whole.value whole.names
+    (fresh c.in-Ok.consolidation run.board run.undone) c.of_media.result
+    (called (events_by c.args.request.handing) run.work run.board run.idle told.executed)
+    (rw (whole.value, c.is_some.ensures, ← asked_some asked_of c.args.request.report) at of.reported) of.due
+    (λ text. rw (c.is_some.ensures, ← asked_some asked_of c.args.request.report) at
+    (by_handing c.args.request.handing (λ (given : Bool). IsOfMedia c.is_some.result given text c.of_media.result)
+    (λ rounds. of.own false text (λ e. told.memory rounds (rw e refl)) (λ e. told.job_memory rounds (rw e refl)))
+    (of.scheduled text)))

@@ -1,6 +1,7 @@
-use Rattle.std.proofs.Common.{◌∙◌, Ok, Err, false, refl}
+use Rattle.std.proofs.Common.{◌∙◌, Bool, Ok, Err, false, refl}
 use Rattle.consolidate.specs.Approaches.{handing_of, is_again}
-use Rattle.consolidate.proofs.RenderWorks.{clips_of, keeps_work, not_begun_keeps, not_begun_work, own_by, works}
+use Rattle.consolidate.specs.Own.{IsOfWork}
+use Rattle.consolidate.proofs.RenderWorks.{by_handing, clips_of, keeps_work, not_begun_keeps, not_begun_work, works}
 use Rattle.consolidate.proofs.marks.work_off.Goals as goal
 
 pub returns-in-Err-clause-off : goal.returns-in-Err-clause-off
@@ -47,7 +48,9 @@ returns-in-Err-run-clause-off g c =
     }
 
 pub returns-in-Err-run-clause-own : goal.returns-in-Err-run-clause-own
-returns-in-Err-run-clause-own g c text = let r = rw c.handing-handing.ensures at c.in-Err-run.ensures in
-    own_by (handing_of c.args.planned.approach) (is_again c.args.planned.approach) text
-    c.of_execution.result (λ rounds. c.of_execution.ensures.own _ false text (λ e. r.memory rounds (rw e refl))
+returns-in-Err-run-clause-own g c text =
+    let r = rw c.handing-handing.ensures at c.in-Err-run.ensures in
+    by_handing (handing_of c.args.planned.approach)
+    (λ (given : Bool). IsOfWork (is_again c.args.planned.approach) given text c.of_execution.result)
+    (λ rounds. c.of_execution.ensures.own _ false text (λ e. r.memory rounds (rw e refl))
     (λ e. r.job_memory rounds (rw e refl))) (c.of_execution.ensures.scheduled _ text)
