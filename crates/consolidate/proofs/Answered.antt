@@ -1,5 +1,5 @@
 -- What a call answers of a list, by what came of its project: which fault it may tell, and which refusal is due.
-use Rattle.std.proofs.Common.{◌≡◌, ℕ, List, [], Ok, true, refl, ◌∙◌, ◌≤◌, Bool, false, Option, None, Some, arith, sym, IfSome, Result, Err, cond, nat_le, nat_lt, length, ℤ, true≢false, IsTrue, IsOkAnd, is_some}
+use Rattle.std.proofs.Common.{◌≡◌, ℕ, List, [], Ok, true, refl, ◌∙◌, ◌≤◌, Bool, false, Option, None, Some, arith, sym, IfSome, Result, Err, cond, nat_le, nat_lt, length, true≢false, IsTrue, IsOkAnd, is_some}
 use Rattle.std.proofs.lemmas.Bool.{false≢true}
 use Rattle.std.proofs.lemmas.Bool.Decides.{nat_tests}
 use Rattle.work_terms.specs.Disk.{Files, LeavesOnly}
@@ -19,19 +19,17 @@ use Rattle.opening.specs.Own as opening
 use Rattle.opening.specs.Own.{IsOfOpening}
 use Rattle.opening.specs.declared.fault.Fault as opened_fault
 use Rattle.opening.specs.declared.fault.Fault.TheVariants as opened
-use Rattle.sound_terms.specs.Render.{Range, ReadsBack, rendering_of}
+use Rattle.sound_terms.specs.Render.{Range, rendering_of}
 use Rattle.consolidation.specs.Consolidated.{Work, refused_if, work_fault}
 use Rattle.rendering.specs.Fault as rendering
 use Rattle.rendering.specs.Marked.{IsFoundAs, run_of, HoldsMarked as HoldsMarkedOf, IsLeftByRun, IsResumable}
 use Rattle.rendering.specs.Rendering.{empty_fault, render_fault}
 use Rattle.rendering.specs.declared.fault.RenderFault.{RenderFault}
 use Rattle.rendering.specs.declared.fault.RenderFault.TheVariants.{Intervals}
-use Rattle.rendering.specs.declared.job_length.JobLength.{JobLength}
 use Rattle.devices.specs.declared.source.Shelf as source
 use Rattle.devices.specs.declared.bench.Bench as output
-use Rattle.devices.specs.Views.{OutputView, SourceView, output_view}
+use Rattle.devices.specs.Views.{output_view}
 use Rattle.adlread.specs.Spells.{Spells}
-use Rattle.job_terms.specs.declared.BoardEvent.{BoardEvent}
 use Rattle.job_terms.specs.declared.Progress.{Progress}
 use Rattle.execution.specs.declared.fault.ExecutionFault.{ExecutionFault}
 use Rattle.passes.specs.Left.{Leaving}
@@ -47,11 +45,11 @@ use Rattle.consolidate.specs.declared.request.Approach.{Approach}
 use Rattle.consolidate.specs.declared.request.Approach.TheVariants.{Again, Anew}
 use Rattle.consolidate.specs.Clipping.{ClipsList, IsClipping}
 use Rattle.consolidate.specs.Copied.{CopiesList, CopiesProject}
-use Rattle.consolidate.specs.Listed.{DoesListed, IsLeftListed, KeepsListed, Listed, MakesListed, WorksListed, marks_in, mix_in, range_in}
+use Rattle.consolidate.specs.Listed.{DoesListed, IsLeftListed, KeepsListed, Listed, MakesListed, WorksListed, mix_in, range_in}
 use Rattle.consolidate.specs.MadeSound.{AnswersRequest, IsLeftFor, values_for}
 use Rattle.consolidate.specs.MediaOutcome.{ConsolidatesList}
 use Rattle.consolidate.specs.Outcomes.{AnswersAs, HasBegun, IsAllDone, read_view}
-use Rattle.consolidate.specs.RenderOutcome.{WorksBound, WorksList}
+use Rattle.consolidate.specs.RenderOutcome.{WorksList}
 use Rattle.consolidate.specs.declared.choice.Clipping as clipped
 use Rattle.consolidate.specs.declared.copy_call.Copied.{Copied}
 use Rattle.consolidate.specs.declared.copy_call.CopiedList.{CopiedList}
@@ -239,16 +237,6 @@ says_by Rounds told (Ok progress) rounds same = rw same at (rounds tt)
 says_by (Events events) told (Ok progress) rounds same = same
 says_by handing told (Err cause) rounds never = absurd never
 
--- the file of a work reads back, whatever its sums are
-works_back : (jobs : JobLength) (events : ℕ → List BoardEvent) (text : List ℕ) (values : OptionValues)
-    (project : ListProject) (binding : Binding) (found : Result (Option (List Bool)) MarkFault) (s t : SourceView)
-    (o u : OutputView) (ended : Result Progress ExecutionFault)
-    → WorksBound jobs events text values project binding found s t o u ended → (mix : ℕ → ℕ → ℤ)
-    → ReadsBack (range_of project values) mix (rendering_of (range_of project values) mix)
-works_back jobs events text values project binding (Ok None) s t o u ended r = r.renders.reads_back
-works_back jobs events text values project binding (Ok (Some marked)) s t o u ended r = r.is_for.reads_back
-works_back jobs events text values project binding (Err fault) s t o u ended r = absurd r
-
 -- a list that isn't opened
 pub not_opened : {S B : Type 0} (shelf : source.Ghosts S) (bench : output.Ghosts B) (request : RenderRequest) {s0 s1 : S}
     {b : B} (of : Fault) → LeavesNow bench b → OpensList shelf request.list.now s0 s1 (Err of)
@@ -336,7 +324,7 @@ module _ {S B : Type 0} (shelf : source.Ghosts S) (bench : output.Ghosts B) (lis
       → MakesListed shelf bench listed mid s1 b0 b1 (Ok x.made)
       → AnswersRequest shelf bench listed.request s0 s1 b0 b1 (Ok x)
   answered x spelled noted made = let did = made.does in record {
-    rendered = λ honest right b done. let out = did.outcome (on honest) right (begins honest b) tt in record {
+    rendered = λ honest right b done. record {
       project = listed.project;
       binding = listed.bound;
       spelled = spelled;
@@ -345,7 +333,7 @@ module _ {S B : Type 0} (shelf : source.Ghosts S) (bench : output.Ghosts B) (lis
         bytes = rendering_of (range_in listed) (mix_in listed (shelf.stored s0));
         there = rw reads.same at (did.finished (on honest) right (begins honest b) (finishes done));
         whole = refl;
-        reads_back = works_back _ _ _ _ _ _ (marks_in listed (bench.stored b0)) _ _ _ _ _ out.2 (mix_in listed (shelf.stored s0));
+        reads_back = made.reads_back (mix_in listed (shelf.stored s0));
       };
       notices = noted;
     };

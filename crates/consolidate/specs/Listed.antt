@@ -20,7 +20,7 @@ use Rattle.rendering.specs.Marked.{HoldsMarked, IsLeftByRun, MarkedWork, run_of}
 use Rattle.rendering.specs.Planned.{IsRenderingOf}
 use Rattle.rendering.specs.Rendering.{HasRange, render_fault, values_of}
 use Rattle.rendering.specs.Work.{RenderWork}
-use Rattle.sound_terms.specs.Render.{Range}
+use Rattle.sound_terms.specs.Render.{Range, ReadsBack, rendering_of}
 use Rattle.work_terms.specs.Disk.{Files, LeavesOnly}
 use Rattle.work_terms.specs.Refusals.{Answers, Refusal}
 use Rattle.consolidate.specs.Approaches.{AreRounds, IfAgain, StartsBy, due_by, events_by, found_by, handing_of}
@@ -106,6 +106,8 @@ module _ {S B : Type 0} (shelf : source.Ghosts S) (bench : output.Ghosts B) wher
     pub does : DoesListed listed shelf_old shelf_new bench_old bench_new (ok_map (λ made. made.progress) result)
     pub finished : AreRounds (handing_of listed.request.approach) → IfOk result (λ made. IsAllDone made.progress)
     pub report : IfOk result (λ made. HasRange made.rendered (range_in listed))
+    pub reads_back : IfOk result (λ _. (mix : ℕ → ℕ → ℤ)
+        → ReadsBack (range_in listed) mix (rendering_of (range_in listed) mix))
     pub marked : IfAgain listed.request.approach (IsTrue (bench.honest bench_old))
         → IfOk result (λ made. made.marked ≡ count_in (marks_in listed (bench.stored bench_old)))
     pub clips : AreRounds (handing_of listed.request.approach) → IsTrue (shelf.honest shelf_old)

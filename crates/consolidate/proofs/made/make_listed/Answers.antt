@@ -17,6 +17,7 @@ returns-in-Err g c =
           (g.B.Bench.may_leave c.args.bench.now)));
       finished = λ rounds. tt;
       report = tt;
+      reads_back = tt;
       marked = λ right. tt;
       clips = λ rounds honest right. tt;
       keeps = if_again approach (λ honest right left told there started.
@@ -41,6 +42,7 @@ returns-in-Err-open_marks g c =
           (not_opened opens.untouched opens.only_reads);
       finished = λ rounds. tt;
       report = tt;
+      reads_back = tt;
       marked = λ right. tt;
       clips = λ rounds honest right. tt;
       keeps = if_again approach (λ honest right left told there started.
@@ -77,6 +79,7 @@ returns-in-Ok-work_off g c =
       does = now.0;
       finished = off.finished;
       report = search rules;
+      reads_back = planned.reads_back;
       marked = λ right. c.unwrap_or.ensures ∙ counted found (marks_in listed (g.B.Bench.stored c.args.bench.now))
           (now.2 right);
       clips = λ rounds honest right. record {
@@ -109,6 +112,7 @@ returns-in-Err-work_off g c =
       does = now.0;
       finished = λ rounds. tt;
       report = tt;
+      reads_back = tt;
       marked = λ right. tt;
       clips = λ rounds honest right. tt;
       keeps = now.1;
