@@ -3,7 +3,6 @@ use Rattle.std.proofs.Common.{◌≡◌, ◌↔◌, ◌≢◌, ◌∙◌, ◌+�
 use Rattle.std.specs.Prelude.{⊤}
 use Rattle.std.specs.List.{range_with_len}
 use Rattle.std.proofs.lemmas.Bool.{false≢true}
-use Rattle.std.proofs.lemmas.Bool.Decides.{nat_tests}
 use Rattle.std.proofs.lemmas.List.{length-replicate}
 use Rattle.work_terms.specs.Disk.{Files, IsDurable}
 use Rattle.work_terms.specs.Refusals.{IsDue}
@@ -37,7 +36,7 @@ use Rattle.consolidation.specs.Consolidated.{AreDurable, IsConsolidated, IsElsew
 use Rattle.consolidation.specs.Fault.{FailsAt, IsSource as IsOfSource}
 use Rattle.consolidation.specs.Jobs.{work_of}
 use Rattle.consolidation.specs.Media.{IsNoMedium}
-use Rattle.consolidation.specs.Outputs.{AreNamedOutputs, FitsSources, job_plan, last_count, last_name, output_name, whole_output}
+use Rattle.consolidation.specs.Outputs.{AreNamedOutputs, FitsSources, job_plan, last_count, output_count, last_name, output_name, whole_output}
 use Rattle.consolidation.specs.Planned.{IsPlanOf, MediaPlan}
 use Rattle.consolidation.specs.Sizes.{written_of}
 use Rattle.consolidation.specs.There.{AreThere}
@@ -81,47 +80,6 @@ same_name media reported number = by_test (nat_lt number media) where
 last_some : (reported : Bool) → 1 ≤ last_count reported
 last_some false = omega arith
 last_some true = omega arith
-
-last_before : (reported : Bool) (position : ℕ) → last_output reported position ≢ file.List
-    → position + 1 < last_count reported
-last_before false position other = absurd (other refl)
-last_before true zero other = omega arith
-last_before true (suc zero) other = omega arith
-last_before true (suc (suc position)) other = absurd (other refl)
-
--- where it isn't the list that can't be written, the list wasn't begun
-before_list : (media : ℕ) (reported : Bool) (of : ExecutionFault) (i : ℕ) → i + 1 ≡ media + last_count reported
-    → consolidation_fault media reported of ≢ fault.Output file.List → IsBefore (Err of) i
-before_list media reported (cause.Output number) i last other = by_test (nat_lt number media) refl where
-  by_test : (b : Bool) → nat_lt number media ≡ b → number < i
-  by_test true is = let below : number < media = grind (arith, nat_tests, is) in
-      let some = last_some reported in omega (arith, below, some, last)
-  by_test false is =
-      let from : media ≤ number = grind (arith, nat_tests, is) in
-      let told = rw is at other in
-      let before = last_before reported (number - media) (λ e. told (rw e)) in
-      omega (arith, from, before, last)
-before_list media reported _ i last other = tt
-
--- nor the report, where it is neither
-before_report : (media : ℕ) (of : ExecutionFault) → consolidation_fault media true of ≢ fault.Output file.List
-    → consolidation_fault media true of ≢ fault.Output file.Report → IsBefore (Err of) (media + 1)
-before_report media (cause.Output number) no_list no_report = by_test (nat_lt number media) refl where
-  first : (position : ℕ) → last_output true position ≢ file.List → last_output true position ≢ file.Report
-      → position ≡ 0
-  first zero list report = refl
-  first (suc zero) list report = absurd (report refl)
-  first (suc (suc position)) list report = absurd (list refl)
-
-  by_test : (b : Bool) → nat_lt number media ≡ b → number < media + 1
-  by_test true is = let below : number < media = grind (arith, nat_tests, is) in omega (arith, below)
-  by_test false is =
-      let from : media ≤ number = grind (arith, nat_tests, is) in
-      let list = rw is at no_list in
-      let report = rw is at no_report in
-      let sums = first (number - media) (λ e. list (rw e)) (λ e. report (rw e)) in
-      omega (arith, from, sums)
-before_report media _ no_list no_report = tt
 
 -- ---- names and plans
 
@@ -210,30 +168,19 @@ module _ {plan : MediaPlan} (names : AreNamedOutputs plan) where
         subst (λ (m : List ℕ). new.output.files m ≡ o.files m) at
         (bounded.order right i last (names.last i last) before)
 
-    module _ {of : ExecutionFault} (bounded : IsBounded (snapshot_of (job_plan plan) board 0 s o) new (Err of))
-        (right : IsTrue o.honest) where
-      -- the list stays where another fault came before it
-      list_kept : consolidation_fault (length plan.runs) (is_some plan.report) of ≢ fault.Output file.List
-          → new.output.files (codes "consolidated.adl") ≡ o.files (codes "consolidated.adl")
-      list_kept other = let some = last_some (is_some plan.report) in
-          stays_before ((job_plan plan).outputs - 1) bounded right list_last list_at.1
-          (before_list (length plan.runs) (is_some plan.report) of ((job_plan plan).outputs - 1) (omega (arith, some))
-          other)
-
-      -- and the report, where another came before it
-      report_kept : (told : Bool) → is_some plan.report ≡ told
-          → consolidation_fault (length plan.runs) told of ≢ fault.Output file.List
-          → consolidation_fault (length plan.runs) told of ≢ fault.Output file.Report
-          → new.output.files (codes "consolidated.json") ≡ o.files (codes "consolidated.json")
-      report_kept false none no_list no_report = bounded.output.others right (codes "consolidated.json")
-          (names.elsewhere (codes "consolidated.json") (record {
-            no_list = report_no_list;
-            no_medium = report_no_medium (length plan.runs);
-            no_report = rw none (λ is. absurd (false≢true is));
-          }))
-      report_kept true some no_list no_report = let of_report = names.report some in let counted = of_report.0 in
-          stays_before (length plan.runs + 1) bounded right (omega arith, omega (arith, counted)) of_report.2
-          (before_report (length plan.runs) of no_list no_report)
+    -- the report stays where the call ended before it, or none is asked for
+    report_kept : {of : ExecutionFault} → IsBounded (snapshot_of (job_plan plan) board 0 s o) new (Err of)
+        → IsTrue o.honest → (reported : Bool) → is_some plan.report ≡ reported
+        → (is_some plan.report ≡ true → IsBefore (Err of) (length plan.runs + 1))
+        → new.output.files (codes "consolidated.json") ≡ o.files (codes "consolidated.json")
+    report_kept bounded right false none before = bounded.output.others right (codes "consolidated.json")
+        (names.elsewhere (codes "consolidated.json") (record {
+          no_list = report_no_list;
+          no_medium = report_no_medium (length plan.runs);
+          no_report = rw none (λ is. absurd (false≢true is));
+        }))
+    report_kept bounded right true some before = let of_report = names.report some in let counted = of_report.0 in
+        stays_before (length plan.runs + 1) bounded right (omega arith, omega (arith, counted)) of_report.2 (before some)
 
 -- ---- what it leaves of the stores
 
@@ -402,8 +349,12 @@ module _ {S B : Type 0} (shelf : source.Ghosts S) (bench : output.Ghosts B) (han
     pub uncopied : {of : ExecutionFault} (told : Fault) → Call (Err of)
         → told ≡ consolidation_fault (length plan.runs) (is_some asked) of → IsDue (refusal_of told) None
         → ((text : List ℕ) → IsOfMedia (is_some asked) (are_events handing) text told)
+        → ((i : ℕ) → i + 1 ≡ output_count (length plan.runs) (is_some asked) → told ≢ fault.Output file.List
+        → IsBefore (Err of) i)
+        → (is_some asked ≡ true → told ≢ fault.Output file.List → told ≢ fault.Output file.Report
+        → IsBefore (Err of) (length plan.runs + 1))
         → CopiesProject shelf bench handing leave project binding handle asked old new before after (Err told)
-    uncopied {of = of} told call same may_come own = record {
+    uncopied {of = of} told call same may_come own before_list before_report = record {
       refusals = λ honest work is. rw (due honest work is) may_come;
       own = own;
       named = named_now call;
@@ -414,7 +365,9 @@ module _ {S B : Type 0} (shelf : source.Ghosts S) (bench : output.Ghosts B) (han
       all_done = λ rounds. tt;
       finished = λ honest right text accepted. tt;
       durable = λ right. tt;
-      list_last = λ right other. list_kept names call.bounded right (rw planned.is_asked (rw same at other));
-      report_last = λ right no_list no_report. report_kept names call.bounded right (is_some asked) planned.is_asked
-          (rw same at no_list) (rw same at no_report);
+      list_last = λ right other. let some = last_some (is_some plan.report) in
+          stays_before names ((job_plan plan).outputs - 1) call.bounded right (list_last names) (list_at names).1
+          (before_list ((job_plan plan).outputs - 1) (rw (← planned.is_asked) (omega (arith, some))) other);
+      report_last = λ right no_list no_report. report_kept names call.bounded right (is_some plan.report) refl
+          (λ some. before_report (sym planned.is_asked ∙ some) no_list no_report);
     }

@@ -1,7 +1,9 @@
 // Why a call is refused.
-ghost use Rattle.std.specs.Prelude.{◌≡◌, ◌↔◌, Bool, List, Some, ℕ, None, false, true};
+ghost use Rattle.std.specs.Prelude.{◌≡◌, ◌↔◌, ◌+◌, ◌<◌, Err, Bool, List, Some, ℕ, None, false, true};
 ghost use Rattle.work_terms.specs.Refusals.{IsDue};
 ghost use Rattle.consolidation.specs.Fault as consolidation;
+ghost use Rattle.consolidation.specs.Outputs.{output_count};
+ghost use Rattle.execution.specs.Outcome.{IsBefore};
 ghost use Rattle.list_terms.specs.Heard.{sounds_of};
 ghost use Rattle.rendering.specs.Fault as rendering;
 ghost use Rattle.consolidate.specs.Commands.{IsOutput, IsSource};
@@ -11,6 +13,7 @@ ghost use Rattle.consolidate.specs.MediaOutcome.{consolidation_fault, output_fil
 ghost use Rattle.consolidate.specs.RenderOutcome.{rendering_fault};
 ghost use Rattle.execution.specs.declared.fault.ExecutionFault.TheVariants as execution;
 ghost use Rattle.consolidate.specs.declared.fault.Fault.TheVariants as told;
+ghost use Rattle.consolidate.specs.declared.fault.OutputFile.TheVariants as outputs;
 
 use consolidation::{ConsolidationFault, LIST, REPORT, SUMS};
 use execution::ExecutionFault;
@@ -48,6 +51,9 @@ impl OutputFile {
     fn of_consolidation(media: u32, reported: bool, number: u32) -> OutputFile
         ensures value { result ≡ output_file media reported number }
         ensures own { IsConsolidatedFile reported result }
+        ensures before_list { (result ≡ outputs.List → ⊥) → number + 1 < output_count media reported }
+        ensures before_report { reported ≡ true → (result ≡ outputs.List → ⊥) → (result ≡ outputs.Report → ⊥)
+            → number < media + 1 }
     {
         if number < media {
             return OutputFile::Medium(number + 1);
@@ -215,6 +221,10 @@ impl Fault {
         ensures scheduled { (text : List ℕ) → IsOfMedia reported true text result }
         ensures own { (scheduled : Bool) (text : List ℕ) → (cause ≡ execution.Memory → ⊥)
             → (cause ≡ execution.JobMemory → ⊥) → IsOfMedia reported scheduled text result }
+        ensures before_list { (i : ℕ) → i + 1 ≡ output_count media reported → (result ≡ told.Output outputs.List → ⊥)
+            → IsBefore (Err cause) i }
+        ensures before_report { reported ≡ true → (result ≡ told.Output outputs.List → ⊥)
+            → (result ≡ told.Output outputs.Report → ⊥) → IsBefore (Err cause) (media + 1) }
     {
         match cause {
             ExecutionFault::Memory | ExecutionFault::JobMemory => Fault::WorkerMemory,
