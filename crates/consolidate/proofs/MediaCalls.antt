@@ -1,5 +1,5 @@
 -- What a consolidation leaves, however far it came.
-use Rattle.std.proofs.Common.{◌≡◌, ◌↔◌, ◌≢◌, ◌∙◌, ◌+◌, ◌-◌, ◌<◌, ◌≤◌, ℕ, zero, suc, Bool, true, false, IsTrue, Option, None, Some, Result, Ok, Err, List, codes, length, refl, sym, ap, subst, arith, is_some, option_map, get_or, cond, nat_lt}
+use Rattle.std.proofs.Common.{◌≡◌, ◌↔◌, ◌≢◌, ◌∙◌, ◌+◌, ◌-◌, ◌<◌, ◌≤◌, ℕ, Bool, true, false, IsTrue, Option, None, Some, Result, Ok, Err, List, codes, length, refl, sym, ap, subst, arith, is_some, option_map, get_or}
 use Rattle.std.specs.Prelude.{⊤}
 use Rattle.std.specs.List.{range_with_len}
 use Rattle.std.proofs.lemmas.Bool.{false≢true}
@@ -36,7 +36,7 @@ use Rattle.consolidation.specs.Consolidated.{AreDurable, IsConsolidated, IsElsew
 use Rattle.consolidation.specs.Fault.{FailsAt, IsSource as IsOfSource}
 use Rattle.consolidation.specs.Jobs.{work_of}
 use Rattle.consolidation.specs.Media.{IsNoMedium}
-use Rattle.consolidation.specs.Outputs.{AreNamedOutputs, FitsSources, job_plan, last_count, output_count, last_name, output_name, whole_output}
+use Rattle.consolidation.specs.Outputs.{AreNamedOutputs, FitsSources, job_plan, last_count, output_count, whole_output}
 use Rattle.consolidation.specs.Planned.{IsPlanOf, MediaPlan}
 use Rattle.consolidation.specs.Sizes.{written_of}
 use Rattle.consolidation.specs.There.{AreThere}
@@ -47,8 +47,8 @@ use Rattle.consolidation.specs.declared.written.Written.{Written}
 use Rattle.consolidate.specs.Approaches.{AreRounds, SaysBy, are_events, events_by}
 use Rattle.consolidate.specs.Commands.{IsOutput, KeepsStores, HoldsOfSource, IsSource}
 use Rattle.consolidate.specs.Copied.{CopiesProject}
-use Rattle.consolidate.specs.Fault.{name_of_output, refusal_of, NamesOpened}
-use Rattle.consolidate.specs.MediaOutcome.{ConsolidatesMedia, consolidation_fault, last_output, output_file}
+use Rattle.consolidate.specs.Fault.{refusal_of, NamesOpened}
+use Rattle.consolidate.specs.MediaOutcome.{ConsolidatesMedia, IsNamedOutput, consolidation_fault}
 use Rattle.consolidate.specs.Outcomes.{AnswersAs, IsAllDone, read_view}
 use Rattle.consolidate.specs.Own.{IsOfMedia}
 use Rattle.consolidate.specs.declared.copy_call.Copied.{Copied}
@@ -60,22 +60,6 @@ use Rattle.consolidate.specs.declared.request.HandingOut.TheVariants.{Events, Ro
 use Rattle.consolidate.proofs.Stores.{IsEnd, IsOpened, LeavesNow, by_names, ended_by, not_begun, opened_before, outcome_as, read_as, stopped_early, went_on}
 
 -- ---- which fault stands for one of its execution
-
-last_same : (reported : Bool) (position : ℕ)
-    → name_of_output (last_output reported position) ≡ last_name reported position
-last_same false position = refl
-last_same true zero = refl
-last_same true (suc zero) = refl
-last_same true (suc (suc position)) = refl
-
--- the output of a number has its name
-same_name : (media : ℕ) (reported : Bool) (number : ℕ)
-    → name_of_output (output_file media reported number) ≡ output_name media reported number
-same_name media reported number = by_test (nat_lt number media) where
-  by_test : (b : Bool) → name_of_output (cond b (file.Medium (suc number)) (last_output reported (number - media)))
-      ≡ cond b (media_name (suc number)) (last_name reported (number - media))
-  by_test true = refl
-  by_test false = last_same reported (number - media)
 
 last_some : (reported : Bool) → 1 ≤ last_count reported
 last_some false = omega arith
@@ -187,11 +171,11 @@ module _ {plan : MediaPlan} (names : AreNamedOutputs plan) where
 -- where an output's device failed
 is_end : {B : Type 0} (bench : output.Ghosts B) (plan : MediaPlan) (o o2 : B) (why : ExecutionFault)
     → HasFailed (job_plan plan) (output_view bench o) (output_view bench o2) (Err why)
+    → IsNamedOutput (length plan.runs) (is_some plan.report) why
     → IsEnd bench o o2 (consolidation_fault (length plan.runs) (is_some plan.report) why)
-is_end bench plan o o2 cause.Mark failed = absurd (false≢true failed.has_marks)
-is_end bench plan o o2 (cause.Output number) failed =
-    (failed.rose, rw (same_name (length plan.runs) (is_some plan.report) number) failed.failed.1)
-is_end bench plan o o2 _ failed = tt
+is_end bench plan o o2 cause.Mark failed named = absurd (false≢true failed.has_marks)
+is_end bench plan o o2 (cause.Output number) failed named = (failed.rose, rw (named) failed.failed.1)
+is_end bench plan o o2 _ failed named = tt
 
 -- ---- a plan that is refused
 
@@ -349,19 +333,20 @@ module _ {S B : Type 0} (shelf : source.Ghosts S) (bench : output.Ghosts B) (han
     pub uncopied : {of : ExecutionFault} (told : Fault) → Call (Err of)
         → told ≡ consolidation_fault (length plan.runs) (is_some asked) of → IsDue (refusal_of told) None
         → ((text : List ℕ) → IsOfMedia (is_some asked) (are_events handing) text told)
+        → IsNamedOutput (length plan.runs) (is_some asked) of
         → ((i : ℕ) → i + 1 ≡ output_count (length plan.runs) (is_some asked) → told ≢ fault.Output file.List
         → IsBefore (Err of) i)
         → (is_some asked ≡ true → told ≢ fault.Output file.List → told ≢ fault.Output file.Report
         → IsBefore (Err of) (length plan.runs + 1))
         → CopiesProject shelf bench handing leave project binding handle asked old new before after (Err told)
-    uncopied {of = of} told call same may_come own before_list before_report = record {
+    uncopied {of = of} told call same may_come own named before_list before_report = record {
       refusals = λ honest work is. rw (due honest work is) may_come;
       own = own;
       named = named_now call;
       outcome = λ honest right text accepted begun. came (Err told) call same honest right text accepted;
       stores = opened_before reads (rw (same, ← planned.is_asked) (ended_by call.bounded.source call.bounded.output
           (consolidation_fault (length plan.runs) (is_some plan.report) of)
-          (is_end bench plan before after of call.bounded.failed)));
+          (is_end bench plan before after of call.bounded.failed (rw planned.is_asked named))));
       all_done = λ rounds. tt;
       finished = λ honest right text accepted. tt;
       durable = λ right. tt;

@@ -1,5 +1,5 @@
 -- How a consolidation came out: its media laid out, their pieces copied, and what comes last, at every end.
-use Rattle.std.specs.Prelude.{ℕ, zero, suc, ◌-◌, ⊤, nat_lt, cond, Bool, true, false, Option, is_some, List, length, Result}
+use Rattle.std.specs.Prelude.{◌≡◌, ℕ, zero, suc, ◌-◌, ⊤, nat_lt, cond, Bool, true, false, Option, is_some, List, length, Result}
 use Rattle.std.specs.List.{range_with_len}
 use Rattle.devices.specs.Views.{OutputView, SourceView, Writes}
 use Rattle.job_terms.specs.declared.BoardEvent.{BoardEvent}
@@ -19,8 +19,9 @@ use Rattle.execution.specs.declared.fault.ExecutionFault.{ExecutionFault}
 use Rattle.execution.specs.declared.fault.ExecutionFault.TheVariants as execution
 use Rattle.provenance.specs.Asked.{AskedReport}
 use Rattle.consolidation.specs.Jobs.{work_of}
-use Rattle.consolidation.specs.Outputs.{job_plan, whole_output}
+use Rattle.consolidation.specs.Outputs.{job_plan, output_name, whole_output}
 use Rattle.consolidation.specs.Planned.{IsPlanOf, MediaPlan}
+use Rattle.consolidate.specs.Fault.{name_of_output}
 use Rattle.consolidate.specs.declared.fault.Fault.{Fault}
 use Rattle.consolidate.specs.declared.fault.Fault.TheVariants as fault
 use Rattle.consolidate.specs.declared.fault.OutputFile.{OutputFile}
@@ -37,6 +38,12 @@ last_output true (suc (suc position)) = file.List
 abbrev pub output_file : (media : ℕ) (reported : Bool) → ℕ → OutputFile
 output_file media reported number =
     cond (nat_lt number media) (file.Medium (suc number)) (last_output reported (number - media))
+
+-- the output that can't be written has the name of its number
+abbrev pub IsNamedOutput : (media : ℕ) (reported : Bool) → ExecutionFault → Type 0
+IsNamedOutput media reported (execution.Output number) =
+    name_of_output (output_file media reported number) ≡ output_name media reported number
+IsNamedOutput media reported _ = ⊤
 
 -- the fault of a consolidation to so many media that stands for one of its execution; no piece has a mark
 abbrev pub consolidation_fault : (media : ℕ) (reported : Bool) → ExecutionFault → Fault

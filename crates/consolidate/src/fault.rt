@@ -2,14 +2,14 @@
 ghost use Rattle.std.specs.Prelude.{◌≡◌, ◌↔◌, ◌+◌, ◌<◌, Err, Bool, List, Some, ℕ, None, false, true};
 ghost use Rattle.work_terms.specs.Refusals.{IsDue};
 ghost use Rattle.consolidation.specs.Fault as consolidation;
-ghost use Rattle.consolidation.specs.Outputs.{output_count};
+ghost use Rattle.consolidation.specs.Outputs.{output_count, output_name};
 ghost use Rattle.execution.specs.Outcome.{IsBefore};
 ghost use Rattle.list_terms.specs.Heard.{sounds_of};
 ghost use Rattle.rendering.specs.Fault as rendering;
 ghost use Rattle.consolidate.specs.Commands.{IsOutput, IsSource};
 ghost use Rattle.consolidate.specs.Own.{IsConsolidatedFile, IsOfMedia, IsOfWork};
 ghost use Rattle.consolidate.specs.Fault.{IsOpenedIn, NamesOpened, name_of_output, refusal_of};
-ghost use Rattle.consolidate.specs.MediaOutcome.{consolidation_fault, output_file};
+ghost use Rattle.consolidate.specs.MediaOutcome.{IsNamedOutput, consolidation_fault, output_file};
 ghost use Rattle.consolidate.specs.RenderOutcome.{rendering_fault};
 ghost use Rattle.execution.specs.declared.fault.ExecutionFault.TheVariants as execution;
 ghost use Rattle.consolidate.specs.declared.fault.Fault.TheVariants as told;
@@ -51,6 +51,7 @@ impl OutputFile {
     fn of_consolidation(media: u32, reported: bool, number: u32) -> OutputFile
         ensures value { result ≡ output_file media reported number }
         ensures own { IsConsolidatedFile reported result }
+        ensures name { name_of_output (output_file media reported number) ≡ output_name media reported number }
         ensures before_list { (result ≡ outputs.List → ⊥) → number + 1 < output_count media reported }
         ensures before_report { reported ≡ true → (result ≡ outputs.List → ⊥) → (result ≡ outputs.Report → ⊥)
             → number < media + 1 }
@@ -221,6 +222,7 @@ impl Fault {
         ensures scheduled { (text : List ℕ) → IsOfMedia reported true text result }
         ensures own { (scheduled : Bool) (text : List ℕ) → (cause ≡ execution.Memory → ⊥)
             → (cause ≡ execution.JobMemory → ⊥) → IsOfMedia reported scheduled text result }
+        ensures named { IsNamedOutput media reported cause }
         ensures before_list { (i : ℕ) → i + 1 ≡ output_count media reported → (result ≡ told.Output outputs.List → ⊥)
             → IsBefore (Err cause) i }
         ensures before_report { reported ≡ true → (result ≡ told.Output outputs.List → ⊥)

@@ -54,5 +54,6 @@ returns-in-Err-hand_out g c =
     (by_handing c.args.request.handing (λ (given : Bool). IsOfMedia c.is_some.result given text c.of_media.result)
     (λ rounds. of.own false text (λ e. told.memory rounds (rw e refl)) (λ e. told.job_memory rounds (rw e refl)))
     (of.scheduled text)))
+    (rw (whole.value, c.is_some.ensures, ← asked_some asked_of c.args.request.report) at of.named)
     (rw (whole.value, c.is_some.ensures, ← asked_some asked_of c.args.request.report) at of.before_list)
     (rw (whole.value, c.is_some.ensures, ← asked_some asked_of c.args.request.report) at of.before_report)
