@@ -1,12 +1,11 @@
 -- What a call answers of a list, by what came of its project: which fault it may tell, and which refusal is due.
-use Rattle.std.proofs.Common.{◌≡◌, ℕ, List, [], Ok, true, refl, ◌∙◌, ◌≤◌, Bool, false, Option, None, Some, arith, sym, IfSome, Result, Err, cond, nat_le, nat_lt, length, true≢false, IsTrue, IsOkAnd, is_some}
+use Rattle.std.proofs.Common.{◌≡◌, ℕ, List, Ok, true, refl, ◌∙◌, ◌≤◌, Bool, false, Option, None, Some, arith, sym, IfSome, Result, Err, cond, nat_le, nat_lt, length, true≢false, IsTrue, IsOkAnd, is_some}
 use Rattle.std.proofs.lemmas.Bool.{false≢true}
 use Rattle.std.proofs.lemmas.Bool.Decides.{nat_tests}
 use Rattle.work_terms.specs.Disk.{Files, LeavesOnly}
 use Rattle.work_terms.specs.Refusals.{ComesInTurn, IsDue, Refusal, Nowhere, is_excused, turn_of}
 use Rattle.list_terms.specs.Project.{ListProject}
-use Rattle.list_terms.specs.Lines.{cut_lines, lines_of}
-use Rattle.list_terms.specs.Text.{read_from, text_value}
+use Rattle.list_terms.specs.Text.{text_value}
 use Rattle.list_terms.specs.Binding.{Binding}
 use Rattle.list_terms.specs.Accepted.{OptionValues, first_fault, range_of}
 use Rattle.list_terms.specs.Heard.{IsAccepted, project_fault}
@@ -15,10 +14,8 @@ use Rattle.markfile.specs.declared.fault.MarkFault.TheVariants as marks
 use Rattle.markfile.specs.Opened.{opened_of}
 use Rattle.markfile.specs.Format.{marks_name}
 use Rattle.markfile.specs.Started.{is_started}
-use Rattle.opening.specs.Own as opening
 use Rattle.opening.specs.Own.{IsOfOpening}
 use Rattle.opening.specs.declared.fault.Fault as opened_fault
-use Rattle.opening.specs.declared.fault.Fault.TheVariants as opened
 use Rattle.sound_terms.specs.Render.{Range, rendering_of}
 use Rattle.consolidation.specs.Consolidated.{Work, refused_if, work_fault}
 use Rattle.rendering.specs.Fault as rendering
@@ -34,7 +31,7 @@ use Rattle.job_terms.specs.declared.Progress.{Progress}
 use Rattle.execution.specs.declared.fault.ExecutionFault.{ExecutionFault}
 use Rattle.passes.specs.Left.{Leaving}
 use Rattle.provenance.specs.Asked.{AskedReport}
-use Rattle.consolidate.specs.Own.{IsFirst, IsOfMarks, IsOfProject, IsOfMedia}
+use Rattle.consolidate.specs.Own.{IsOfMarks, IsOfProject, IsOfMedia}
 use Rattle.consolidate.specs.declared.fault.Fault.{Fault}
 use Rattle.consolidate.specs.declared.fault.Fault.TheVariants as fault
 use Rattle.consolidate.specs.Approaches.{due_by, found_by, is_again, AreRounds, IfAgain, IsFinishedBy, IsOwnOf, SaysBy, StartsBy, are_events, events_by, handing_of}
@@ -59,28 +56,6 @@ use Rattle.consolidate.specs.declared.request.HandingOut.TheVariants.{Events, Ro
 use Rattle.consolidate.specs.declared.request.RenderRequest.{RenderRequest}
 use Rattle.consolidate.proofs.RenderWorks.{none_due, one_accepted, again_as, for_each, left_by, none_left, same_spelt, starts_as}
 use Rattle.consolidate.proofs.Stores.{IsOpened, LeavesNow, idle, opened_before, stopped_early, weaker}
-
--- the empty text is no list
-no_project : (project : ListProject) → text_value [] ≡ Ok project → ⊥
-unfolding text_value read_from lines_of cut_lines
-no_project project is = absurd (cc)
-
--- a fault that any text may have tells no file
-opened_first : (text : List ℕ) (files : Files) (of : opened_fault.Fault) → ((any : List ℕ) → IsOfOpening any of)
-    → opening.IsFirst text files of
-opened_first text files (opened.Media index name media) own = absurd (no_project (own []).0 (own []).1)
-opened_first text files _ own = tt
-
--- so a fault that tells no file of a list comes behind no fault of one
-abbrev pub ComesFirst : (List ℕ → Fault → Type 0) → Type 0
-ComesFirst Own = (text : List ℕ) (files : Files) (told : Fault) → ((any : List ℕ) → Own any told)
-    → IsFirst text files told
-
-pub comes_first : (Own : List ℕ → Fault → Type 0)
-    → ((any : List ℕ) (of : opened_fault.Fault) → Own any (fault.Project of) → IsOfOpening any of) → ComesFirst Own
-comes_first Own of_opening text files (fault.Project of) own =
-    opened_first text files of (λ any. of_opening any of (own any))
-comes_first Own of_opening text files _ own = tt
 
 -- of marks that are there it may be any
 pub of_marks : (of : MarkFault) → IsOfMarks true of
@@ -371,8 +346,7 @@ module _ {S B : Type 0} (shelf : source.Ghosts S) (bench : output.Ghosts B) (lis
         (made.refusals known);
     bad_text = λ refusal bad. absurd (good_text refusal bad);
     own = made.own text;
-    in_turn = λ honest. comes_first (IsOwnOf listed.request.approach) (λ any of own. own) text (shelf.stored s0) of
-        made.own;
+    in_turn = λ honest. made.in_turn text (shelf.stored s0);
     named = did.named;
     stores = opened_before reads (assumption did.stores);
   }
@@ -497,8 +471,7 @@ module _ {S B : Type 0} (shelf : source.Ghosts S) (bench : output.Ghosts B) (han
         bad_list = λ honest refusal bad. absurd (good_list honest refusal bad);
         bad_text = λ refusal bad. let same = sym spelt ∙ bad in absurd (cc);
         own = made.own list;
-        in_turn = λ honest. comes_first (IsOfMedia (is_some asked) (are_events handing)) (λ any of own. own) list
-            (shelf.stored s0) of made.own;
+        in_turn = λ honest. made.in_turn list (shelf.stored s0);
         named = made.named;
         outcome = media_came made;
         stores = opened_before reads (assumption made.stores);

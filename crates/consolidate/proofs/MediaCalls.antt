@@ -50,7 +50,7 @@ use Rattle.consolidate.specs.Copied.{CopiesProject}
 use Rattle.consolidate.specs.Fault.{refusal_of, NamesOpened}
 use Rattle.consolidate.specs.MediaOutcome.{ConsolidatesMedia, IsNamedOutput, consolidation_fault}
 use Rattle.consolidate.specs.Outcomes.{AnswersAs, IsAllDone, read_view}
-use Rattle.consolidate.specs.Own.{IsOfMedia}
+use Rattle.consolidate.specs.Own.{IsFirst, IsOfMedia}
 use Rattle.consolidate.specs.declared.copy_call.Copied.{Copied}
 use Rattle.consolidate.specs.declared.fault.Fault.{Fault}
 use Rattle.consolidate.specs.declared.fault.Fault.TheVariants as fault
@@ -222,11 +222,13 @@ module _ {S B : Type 0} (shelf : source.Ghosts S) (bench : output.Ghosts B) (han
       → (IsTrue (shelf.honest old) → (work : Work) → IsWorkOf leave project binding handle (shelf.stored old) work
       → IsDue (refusal_of fault) (work_fault work))
       → ((text : List ℕ) → IsOfMedia (is_some asked) (are_events handing) text fault)
+      → ((text : List ℕ) (files : Files) → IsFirst text files fault)
       → KeepsStores shelf bench {X = Copied} old new before before (Err fault)
       → CopiesProject shelf bench handing leave project binding handle asked old new before before (Err fault)
-  refused fault early due own stores = record {
+  refused fault early due own in_turn stores = record {
     refusals = due;
     own = own;
+    in_turn = in_turn;
     named = λ right n away. refl;
     outcome = λ honest right text accepted late. absurd (false≢true (sym early ∙ late));
     stores = stores;
@@ -313,6 +315,7 @@ module _ {S B : Type 0} (shelf : source.Ghosts S) (bench : output.Ghosts B) (han
     copied {progress = progress} call all sounds made = record {
       refusals = due;
       own = λ text. tt;
+      in_turn = λ text files. tt;
       named = named_now call;
       outcome = λ honest right text accepted begun. came (Ok (record { progress = progress; written = counts })) call (says_all handing progress all) honest right text accepted;
       stores = opened_before reads (went_on call.bounded.source call.bounded.output);
@@ -333,15 +336,17 @@ module _ {S B : Type 0} (shelf : source.Ghosts S) (bench : output.Ghosts B) (han
     pub uncopied : {of : ExecutionFault} (told : Fault) → Call (Err of)
         → told ≡ consolidation_fault (length plan.runs) (is_some asked) of → IsDue (refusal_of told) None
         → ((text : List ℕ) → IsOfMedia (is_some asked) (are_events handing) text told)
+        → ((text : List ℕ) (files : Files) → IsFirst text files told)
         → IsNamedOutput (length plan.runs) (is_some asked) of
         → ((i : ℕ) → i + 1 ≡ output_count (length plan.runs) (is_some asked) → told ≢ fault.Output file.List
         → IsBefore (Err of) i)
         → (is_some asked ≡ true → told ≢ fault.Output file.List → told ≢ fault.Output file.Report
         → IsBefore (Err of) (length plan.runs + 1))
         → CopiesProject shelf bench handing leave project binding handle asked old new before after (Err told)
-    uncopied {of = of} told call same may_come own named before_list before_report = record {
+    uncopied {of = of} told call same may_come own in_turn named before_list before_report = record {
       refusals = λ honest work is. rw (due honest work is) may_come;
       own = own;
+      in_turn = in_turn;
       named = named_now call;
       outcome = λ honest right text accepted begun. came (Err told) call same honest right text accepted;
       stores = opened_before reads (rw (same, ← planned.is_asked) (ended_by call.bounded.source call.bounded.output

@@ -20,6 +20,7 @@ use Rattle.consolidate.specs.Fault.{refusal_of}
 use Rattle.consolidate.specs.MediaOutcome.{ConsolidatesMedia}
 use Rattle.consolidate.specs.Outcomes.{AnswersAs, HasBegun, IsAllDone, read_view}
 use Rattle.consolidate.specs.Own.{IsOfMedia}
+use Rattle.consolidate.specs.RenderWorks.{FailsInTurn}
 use Rattle.consolidate.specs.Schedules.{BeforeList}
 use Rattle.consolidate.specs.declared.copy_call.Copied.{Copied}
 use Rattle.consolidate.specs.declared.copy_call.CopiedList.{CopiedList}
@@ -52,6 +53,7 @@ module _ {S B : Type 0} (shelf : source.Ghosts S) (bench : output.Ghosts B) (han
         → IsWorkOf leave project binding handle (shelf.stored shelf_old) work
         → Answers refusal_of result (work_fault work)
     pub own : (text : List ℕ) → IfErr result (IsOfMedia (is_some asked) (are_events handing) text)
+    pub in_turn : FailsInTurn result
     pub named : IsTrue (bench.honest bench_old) → (n : List ℕ) → IsElsewhere (is_some asked) 32767 n
         → bench.stored bench_new n ≡ bench.stored bench_old n
     pub outcome : IsTrue (shelf.honest shelf_old) → IsTrue (bench.honest bench_old) → (text : List ℕ)

@@ -29,7 +29,7 @@ use Rattle.consolidate.specs.Fault.{refusal_of}
 use Rattle.consolidate.specs.Marks.{IsMarkedFor, count_in, fault_in, list_marking}
 use Rattle.consolidate.specs.Outcomes.{IsAllDone, read_view}
 use Rattle.consolidate.specs.RenderOutcome.{WorksBound}
-use Rattle.consolidate.specs.RenderWorks.{DoesWork, FailsBy}
+use Rattle.consolidate.specs.RenderWorks.{DoesWork, FailsBy, FailsInTurn}
 use Rattle.consolidate.specs.declared.fault.Fault.{Fault}
 use Rattle.consolidate.specs.declared.request.Made.{Made}
 use Rattle.consolidate.specs.declared.request.RenderRequest.{RenderRequest}
@@ -118,6 +118,7 @@ module _ {S B : Type 0} (shelf : source.Ghosts S) (bench : output.Ghosts B) wher
     pub refusals : IfAgain listed.request.approach (IsTrue (bench.honest bench_old)) → Answers refusal_of result
         (due_by listed.request.approach (fault_of_range listed) (fault_in (marks_in listed (bench.stored bench_old))))
     pub own : FailsBy listed.request.approach result
+    pub in_turn : FailsInTurn result
 
 -- the plan is that of it, and its marks are its own
 abbrev pub IsMarkedIn : Listed → MarkedWork → Type 0

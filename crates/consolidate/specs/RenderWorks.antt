@@ -36,6 +36,7 @@ use Rattle.consolidate.specs.Approaches.{AreRounds, IfAgain, IsOwnOf, StartsBy, 
 use Rattle.consolidate.specs.Commands.{KeepsStores}
 use Rattle.consolidate.specs.Marks.{AreBothDurable}
 use Rattle.consolidate.specs.Outcomes.{AnswersAs, HasBegun, IsAllDone, read_view}
+use Rattle.consolidate.specs.Own.{IsFirst}
 use Rattle.consolidate.specs.RenderOutcome.{IsRenderedWork, IsResumedWork, in_rounds, rendering_fault}
 use Rattle.consolidate.specs.declared.fault.Fault.{Fault}
 use Rattle.consolidate.specs.declared.fault.Fault.TheVariants as fault
@@ -200,6 +201,10 @@ pub record OpensMarks {B : Type 0} (bench : output.Ghosts B) (approach : Approac
       × (found_by approach was.run (bench.stored before) ≡ Ok (Some marked)) × AreCutBy jobs marked x.work))
   pub again : IsErr result → is_again approach ≡ true
 
--- whatever the list is, where such a call fails its fault is one that it may tell
+-- whatever the list is, where a call fails no index before the one that is named is at fault
+abbrev pub FailsInTurn : {X : Type 0} → Result X Fault → Type 0
+FailsInTurn result = (text : List ℕ) (files : Files) → IfErr result (IsFirst text files)
+
+-- and where such a call does its fault is one that it may tell
 abbrev pub FailsBy : {X : Type 0} → Approach → Result X Fault → Type 0
 FailsBy approach result = (text : List ℕ) → IfErr result (IsOwnOf approach text)

@@ -1,5 +1,6 @@
 // Why a call is refused.
 ghost use Rattle.std.specs.Prelude.{◌≡◌, ◌↔◌, ◌+◌, ◌<◌, Err, Bool, List, Some, ℕ, None, false, true};
+ghost use Rattle.work_terms.specs.Disk.{Files};
 ghost use Rattle.work_terms.specs.Refusals.{IsDue};
 ghost use Rattle.consolidation.specs.Fault as consolidation;
 ghost use Rattle.consolidation.specs.Outputs.{output_count, output_name};
@@ -7,7 +8,7 @@ ghost use Rattle.execution.specs.Outcome.{IsBefore};
 ghost use Rattle.list_terms.specs.Heard.{sounds_of};
 ghost use Rattle.rendering.specs.Fault as rendering;
 ghost use Rattle.consolidate.specs.Commands.{IsOutput, IsSource};
-ghost use Rattle.consolidate.specs.Own.{IsConsolidatedFile, IsOfMedia, IsOfWork};
+ghost use Rattle.consolidate.specs.Own.{IsConsolidatedFile, IsFirst, IsOfMedia, IsOfWork};
 ghost use Rattle.consolidate.specs.Fault.{IsOpenedIn, NamesOpened, name_of_output, refusal_of};
 ghost use Rattle.consolidate.specs.MediaOutcome.{IsNamedOutput, consolidation_fault, output_file};
 ghost use Rattle.consolidate.specs.RenderOutcome.{rendering_fault};
@@ -162,6 +163,7 @@ impl Fault {
         ensures refusal { refusal_of result ≡ rendering.refusal_of fault }
         ensures own { (again scheduled : Bool) (text : List ℕ) → IsOfWork again scheduled text result }
         ensures no_device { (IsSource result → ⊥) × (IsOutput result → ⊥) }
+        ensures first { (text : List ℕ) (files : Files) → IsFirst text files result }
     {
         match fault {
             RenderFault::Intervals => Fault::Intervals,
@@ -179,6 +181,7 @@ impl Fault {
         ensures scheduled { (again : Bool) (text : List ℕ) → IsOfWork again true text result }
         ensures own { (again scheduled : Bool) (text : List ℕ) → (cause ≡ execution.Memory → ⊥)
             → (cause ≡ execution.JobMemory → ⊥) → IsOfWork again scheduled text result }
+        ensures first { (text : List ℕ) (files : Files) → IsFirst text files result }
     {
         match cause {
             ExecutionFault::Memory => Fault::WorkerMemory,
@@ -202,6 +205,7 @@ impl Fault {
         ensures own { (reported scheduled : Bool) (text : List ℕ) → IsOfMedia reported scheduled text result }
         ensures names { NamesOpened (sounds_of checked.bound) fault result }
         ensures device { (IsSource result ↔ consolidation.IsSource fault) × (IsOutput result → ⊥) }
+        ensures first { (text : List ℕ) (files : Files) → IsFirst text files result }
     {
         match fault {
             ConsolidationFault::Intervals => Fault::Intervals,
@@ -227,6 +231,7 @@ impl Fault {
             → IsBefore (Err cause) i }
         ensures before_report { reported ≡ true → (result ≡ told.Output outputs.List → ⊥)
             → (result ≡ told.Output outputs.Report → ⊥) → IsBefore (Err cause) (media + 1) }
+        ensures first { (text : List ℕ) (files : Files) → IsFirst text files result }
     {
         match cause {
             ExecutionFault::Memory | ExecutionFault::JobMemory => Fault::WorkerMemory,

@@ -1,7 +1,7 @@
 // The jobs of a rendering whose blocks are marked.
 ghost use Rattle.std.specs.Prelude.{◌≡◌, IfErr, IfOk};
 ghost use Rattle.consolidate.specs.Fault.{IsAlwaysDue};
-ghost use Rattle.consolidate.specs.RenderWorks.{FailsBy, IsSoundWork, IsTakenUp, IsUnbegun, OpensMarks, RunsOn, WorksOff};
+ghost use Rattle.consolidate.specs.RenderWorks.{FailsBy, FailsInTurn, IsSoundWork, IsTakenUp, IsUnbegun, OpensMarks, RunsOn, WorksOff};
 
 use crate::Fault;
 use crate::handing::hand_out;
@@ -98,6 +98,7 @@ pub(crate) fn work_off<S: Shelf, B: Bench, W: Watch>(
     requires { IsSoundWork planned.found planned.work }
     ensures off { WorksOff S.Shelf B.Bench planned.entry shelf.old shelf.new bench.old bench.new result }
     ensures own { FailsBy planned.entry.approach result }
+    ensures in_turn { FailsInTurn result }
     ensures due { IfErr result IsAlwaysDue }
 {
     let handing = planned.approach.handing();

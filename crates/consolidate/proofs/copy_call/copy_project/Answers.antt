@@ -12,7 +12,7 @@ pub returns-in-Err : goal.returns-in-Err
 returns-in-Err g c = let is = c.of_consolidation.ensures.refusal in
     refused g.S.Shelf g.B.Bench c.args.request.handing c.args.shelf.now c.args.bench.now c.of_consolidation.result (rw is)
     (λ honest work is_work. rw is (c.in-Err.ensures.refusals honest work is_work))
-    (λ text. c.of_consolidation.ensures.own _ _ text)
+    (λ text. c.of_consolidation.ensures.own _ _ text) c.of_consolidation.ensures.first
     (not_planned g.S.Shelf g.B.Bench (sounds_of c.args.checked.bound) c.in-Err.fault c.of_consolidation.result
     (g.met.B.Bench.only_now c.args.bench.now) c.of_consolidation.ensures.names c.of_consolidation.ensures.device
     c.in-Err.ensures.only_reads)
@@ -20,7 +20,7 @@ returns-in-Err g c = let is = c.of_consolidation.ensures.refusal in
 pub returns-in-Err-execution_of : goal.returns-in-Err-execution_of
 returns-in-Err-execution_of g c = rw c.in-Err-execution_of.ensures.memory
     (refused g.S.Shelf g.B.Bench c.args.request.handing c.args.shelf.now c.args.bench.now fault.BoardMemory refl
-    (λ honest work is_work. rw (c.in-Ok.ensures.refusals honest work is_work) tt) (λ text. tt)
+    (λ honest work is_work. rw (c.in-Ok.ensures.refusals honest work is_work) tt) (λ text. tt) (λ text files. tt)
     (no_board g.S.Shelf g.B.Bench (g.met.B.Bench.only_now c.args.bench.now) c.in-Ok.ensures.only_reads))
 
 pub returns-in-Ok-hand_out : goal.returns-in-Ok-hand_out
@@ -53,7 +53,7 @@ returns-in-Err-hand_out g c =
     (λ text. rw (c.is_some.ensures, ← asked_some asked_of c.args.request.report) at
     (by_handing c.args.request.handing (λ (given : Bool). IsOfMedia c.is_some.result given text c.of_media.result)
     (λ rounds. of.own false text (λ e. told.memory rounds (rw e refl)) (λ e. told.job_memory rounds (rw e refl)))
-    (of.scheduled text)))
+    (of.scheduled text))) of.first
     (rw (whole.value, c.is_some.ensures, ← asked_some asked_of c.args.request.report) at of.named)
     (rw (whole.value, c.is_some.ensures, ← asked_some asked_of c.args.request.report) at of.before_list)
     (rw (whole.value, c.is_some.ensures, ← asked_some asked_of c.args.request.report) at of.before_report)

@@ -28,6 +28,7 @@ returns-in-Err g c =
           (marks_in listed (g.B.Bench.stored c.args.bench.now)) c.of_rendering.ensures.refusal
           c.in-Err.ensures.refusals;
       own = λ text. c.of_rendering.ensures.own _ _ text;
+      in_turn = c.of_rendering.ensures.first;
     }
 
 pub returns-in-Err-open_marks : goal.returns-in-Err-open_marks
@@ -54,6 +55,7 @@ returns-in-Err-open_marks g c =
           (found_in listed c.in-Ok.work (g.B.Bench.stored c.args.bench.now) (Err c.in-Err-open_marks.fault)
           c.in-Ok.ensures.planned c.in-Ok.ensures.run (opens.found_as right));
       own = λ text. rw (opens.again refl) (of_marks c.in-Err-open_marks.fault);
+      in_turn = λ text files. tt;
     }
 
 pub work_off-requires : goal.work_off-requires
@@ -94,6 +96,7 @@ returns-in-Ok-work_off g c =
           (marks_in listed (g.B.Bench.stored c.args.bench.now))
           (now.2 right);
       own = λ text. tt;
+      in_turn = λ text files. tt;
     }
 
 pub returns-in-Err-work_off : goal.returns-in-Err-work_off
@@ -120,4 +123,5 @@ returns-in-Err-work_off g c =
           (marks_in listed (g.B.Bench.stored c.args.bench.now))
           (now.2 right)) c.in-Err-work_off.ensures.due;
       own = c.in-Err-work_off.ensures.own;
+      in_turn = c.in-Err-work_off.ensures.in_turn;
     }
