@@ -150,7 +150,8 @@ rendering_due : (refusal : Refusal) (text : List ℕ) (values : OptionValues) (f
 rendering_due refusal text values files turn due = due_behind 3 refusal (project_fault text files)
     (range_refusal values (text_value text)) turn (range_turn values (text_value text)) due
 
-pub opening_due : (approach : Approach) (refusal : Refusal) (text : List ℕ) (values : OptionValues) (files outputs : Files)
+pub opening_due : (approach : Approach) (refusal : Refusal) (text : List ℕ) (values : OptionValues) (files outputs :
+    Files)
     → turn_of refusal ≤ 3 → IsDue refusal (project_fault text files) → IsDue refusal (due_by approach
     (render_refusal text values files) (marks_refusal text values outputs (text_value text)))
 opening_due (Anew handing) refusal text values files outputs turn due = rendering_due refusal text values files turn due
@@ -213,7 +214,8 @@ says_by (Events events) told (Ok progress) rounds same = same
 says_by handing told (Err cause) rounds never = absurd never
 
 -- a list that isn't opened
-pub not_opened : {S B : Type 0} (shelf : source.Ghosts S) (bench : output.Ghosts B) (request : RenderRequest) {s0 s1 : S}
+pub not_opened : {S B : Type 0} (shelf : source.Ghosts S) (bench : output.Ghosts B) (request : RenderRequest) {s0 s1 :
+    S}
     {b : B} (of : Fault) → LeavesNow bench b → OpensList shelf request.list.now s0 s1 (Err of)
     → AnswersRequest shelf bench request s0 s1 b b (Err of)
 not_opened shelf bench request {s0 = s0} {s1 = s1} {b = b} of only_now opens = record {
@@ -238,7 +240,8 @@ not_opened shelf bench request {s0 = s0} {s1 = s1} {b = b} of only_now opens = r
     left = left_by request.approach (λ none project binding accepted. none_left
         (list_marking request.list.now (values_for request) (shelf.stored s0) project binding) (bench.may_leave b) none)
 
-module _ {S B : Type 0} (shelf : source.Ghosts S) (bench : output.Ghosts B) (listed : Listed) (s0 mid s1 : S) (b0 b1 : B)
+module _ {S B : Type 0} (shelf : source.Ghosts S) (bench : output.Ghosts B) (listed : Listed) (s0 mid s1 : S) (b0 b1 :
+    B)
     (accepted : IsTrue (shelf.honest s0) → IsAccepted listed.request.list.now (shelf.stored s0)
     listed.project listed.bound)
     (spelt : text_value listed.request.list.now ≡ Ok listed.project) (reads : IsOpened shelf s0 mid) where
@@ -317,8 +320,12 @@ module _ {S B : Type 0} (shelf : source.Ghosts S) (bench : output.Ghosts B) (lis
         (did.marked (on honest) right (begins honest b) (finishes done));
     any_moment = moments did;
     left = left_now did;
-    outcome = λ honest right b begun. let out = did.outcome (on honest) right (begins honest b) tt in
-        (out.0, says_by (handing_of listed.request.approach) x.made.progress out.0 made.finished out.1, came did honest out.0 out.2);
+    outcome = λ honest right b begun. let out = did.outcome (on honest) right (begins honest b) tt in (
+      out.0,
+      says_by (handing_of listed.request.approach) x.made.progress out.0 made.finished out.1,
+      came did honest
+          out.0 out.2,
+    );
     refusals = λ honest known. rw (accepted_due listed.request.approach values (bench.stored b0) (accepted honest))
         (made.refusals known);
     bad_text = λ refusal bad. absurd (good_text refusal bad);

@@ -164,7 +164,8 @@ module _ {plan : MediaPlan} (names : AreNamedOutputs plan) where
           no_report = rw none (λ is. absurd (false≢true is));
         }))
     report_kept bounded right true some before = let of_report = names.report some in let counted = of_report.0 in
-        stays_before (length plan.runs + 1) bounded right (omega arith, omega (arith, counted)) of_report.2 (before some)
+        stays_before (length plan.runs + 1) bounded right (omega arith, omega (arith, counted)) of_report.2 (before
+        some)
 
 -- ---- what it leaves of the stores
 
@@ -270,10 +271,12 @@ module _ {S B : Type 0} (shelf : source.Ghosts S) (bench : output.Ghosts B) (han
         (events_by handing (work_of plan).count) (start_of plan (read_view shelf old) (output_view bench before))
         (λ _. Nothing) (snapshot_of (job_plan plan) board 0 (read_view shelf new) (output_view bench after)) ⊤ ended
     out_now {ended = ended} call honest right accepted = let fit = fits (shelf.stored old) (there_now accepted) in
-        let out : Outcome (AreBlank (jobs_over (work_of plan) (shelf.stored mid)) (whole_output plan (shelf.stored mid)))
+        let out : Outcome (AreBlank (jobs_over (work_of plan) (shelf.stored mid)) (whole_output plan (shelf.stored
+        mid)))
         (events_by handing (work_of plan).count) (start_of plan (read_view shelf mid) (output_view bench before))
         (λ _. Nothing) (snapshot_of (job_plan plan) board 0 (read_view shelf new) (output_view bench after)) ⊤ ended
-        = outcome_as (λ un. tt) (λ laid is. is) refl (λ stays. writes_none stays _) (λ none. none) (call.outcome (subst IsTrue (sym reads.honest_same) honest) right
+        = outcome_as (λ un. tt) (λ laid is. is) refl (λ stays. writes_none stays _) (λ none. none) (call.outcome (subst
+        IsTrue (sym reads.honest_same) honest) right
         (rw reads.same fit.0) (rw reads.same fit.1) none) in
         rw (reads.same, reads.cause.left tt) at out
 
@@ -317,7 +320,8 @@ module _ {S B : Type 0} (shelf : source.Ghosts S) (bench : output.Ghosts B) (han
       own = λ text. tt;
       in_turn = λ text files. tt;
       named = named_now call;
-      outcome = λ honest right text accepted begun. came (Ok (record { progress = progress; written = counts })) call (says_all handing progress all) honest right text accepted;
+      outcome = λ honest right text accepted begun. came (Ok (record { progress = progress; written = counts })) call
+          (says_all handing progress all) honest right text accepted;
       stores = opened_before reads (went_on call.bounded.source call.bounded.output);
       all_done = all;
       finished = λ honest right text accepted done.

@@ -1,4 +1,5 @@
--- What an execution of a marked rendering leaves, of the list that it was planned of, and behind marks that were opened.
+-- What an execution of a marked rendering leaves, of the list that it was planned of, and behind marks that were
+-- opened.
 use Rattle.std.proofs.Common.{◌≡◌, ◌∙◌, ℕ, Bool, true, false, true≢false, Result, Ok, Option, None, Some, List, take, sym, ap, subst, option_map, length, unwrap_or, ◌<◌, ◌==◌, suc, cond, Err, [], ◌∷◌, map, replicate, IsTrue, refl, arith, slice_index_or, inl, inr, IfOk, IfSome, All}
 use Rattle.std.proofs.lemmas.Bool.{false≢true}
 use Rattle.std.proofs.lemmas.List.{length-map, length-replicate}
@@ -209,7 +210,8 @@ left_by (Anew handing) so none = so none
 left_by Again so left = left
 
 -- where blocks are marked it is gone on with
-pub marked_again : (approach : Approach) (run : RunId) (outputs : Files) (outcomes : Files → Type 0) {marked : List Bool}
+pub marked_again : (approach : Approach) (run : RunId) (outputs : Files) (outcomes : Files → Type 0) {marked : List
+    Bool}
     {P : Type 0} → found_by approach run outputs ≡ Ok (Some marked)
     → (IfAgain approach P → P) × (StartsBy approach outcomes P → P)
 marked_again (Anew handing) run outputs outcomes is = absurd (cc)
@@ -313,7 +315,12 @@ module _ {S B : Type 0} (shelf : source.Ghosts S) (bench : output.Ghosts B) (x :
       all honest whole b p e done = let ends = finished_all (rw e at (out honest whole b)) done in (
         ends.1 0 (some_job x.work is.work),
         full_of x.run (bench.stored b1 marks_name) (finished_marks x (shelf.stored s0) is (done_of board)
-            (bench.may_leave b1) ends.3 (λ k lt. finished_done board ends.0 k (omega (arith, lt, size, call.bounded.size)))
+            (bench.may_leave b1) ends.3 (λ k lt. finished_done board ends.0 k (omega (
+              arith,
+              lt,
+              size,
+              call.bounded.size,
+            )))
             (bench.stored b1) (reads_now b1 (rw call.bounded.output.same_honest whole))),
       )
 
@@ -407,7 +414,11 @@ module _ {S B : Type 0} (shelf : source.Ghosts S) (bench : output.Ghosts B)
       (λ out. record {
         order = p.order;
         is_order = p.is_order;
-        came = record { board = next.board; came = outcome_as (λ un. tt) (λ laid is. is) refl (λ stays. writes_none stays _) (λ none. none) out };
+        came = record {
+          board = next.board;
+          came = outcome_as (λ un. tt) (λ laid is. is) refl (λ stays. writes_none
+              stays _) (λ none. none) out;
+        };
       })
     where
       count : ℕ
@@ -436,11 +447,16 @@ module _ {S B : Type 0} (shelf : source.Ghosts S) (bench : output.Ghosts B)
         done = p.done;
         count = p.count;
         each = p.each;
-        came = record { board = next.board; came = outcome_as (λ un. un) (λ laid is. is) refl (λ stays. writes_none stays _) (λ none. none) out };
+        came = record {
+          board = next.board;
+          came = outcome_as (λ un. un) (λ laid is. is) refl (λ stays. writes_none
+              stays _) (λ none. none) out;
+        };
       })
 
   -- what was marked stands at each moment
-  pub keeps_work : (handing : HandingOut) (found : Option ℕ) → Calls shelf bench handing found run next s0 s1 b0 b1 result
+  pub keeps_work : (handing : HandingOut) (found : Option ℕ) → Calls shelf bench handing found run next s0 s1 b0 b1
+      result
       → IfSome found (λ _. KeepsMarked shelf bench x s0 b0 b1)
   keeps_work handing None call = tt
   keeps_work handing (Some found) call = λ honest whole st marks there.
@@ -464,7 +480,8 @@ module _ {S B : Type 0} (shelf : source.Ghosts S) (bench : output.Ghosts B)
       (heard next.work.work.planned next.work.work.sounds sources) clips)
       → IsTrue (shelf.honest s0) → ClipsWork x (shelf.stored s0) clips
   clips_of handing found finished r clips counts honest marked uniform =
-      subst (λ (w : RenderWork). ClipsUnmarked marked w.planned.range (heard w.planned w.sounds (shelf.stored s0)) clips)
+      subst (λ (w : RenderWork). ClipsUnmarked marked w.planned.range (heard w.planned w.sounds (shelf.stored s0))
+      clips)
       same (counts (shelf.stored s0) marked (rw same uniform)
       (λ k below off. noted k (rw same at below) (rw same at off)))
     where
@@ -669,7 +686,8 @@ module _ {S B : Type 0} (shelf : source.Ghosts S) (bench : output.Ghosts B) (lis
   kept Again None is opens reads_now keeps = λ honest right left marks there started.
       absurd (started_found was.run (bench.stored b0) marks there started ((rw is at opens.found_as) right))
   kept Again (Some n) is opens reads_now keeps = λ honest right left marks there started. joined
-      (weaker (left_holds (marking_in listed (shelf.stored s0)) (bench.stored b0) left (reads_now b0 right) there started)
+      (weaker (left_holds (marking_in listed (shelf.stored s0)) (bench.stored b0) left (reads_now b0 right) there
+      started)
       opens.untouched.moments)
       (weaker (holds_list listed (of_now opens) (shelf.stored s0) marks)
       (keeps honest (rw opens.only_reads.honest_same right) (stands opens right left) marks
@@ -692,13 +710,15 @@ module _ {S B : Type 0} (shelf : source.Ghosts S) (bench : output.Ghosts B) (lis
   clipped found sources clips opens right counts = by_found found opens where
     so : {found : Option ℕ} (marks : List Bool) → Opened found → found_marks (marks_in listed (bench.stored b0)) ≡ marks
         → All (IsUniform marks) x.work.stretches
-        → ClipsUnmarked (found_marks (marks_in listed (bench.stored b0))) (range_in listed) (mix_in listed sources) clips
+        → ClipsUnmarked (found_marks (marks_in listed (bench.stored b0))) (range_in listed) (mix_in listed sources)
+        clips
     so marks opens is uniform = rw is (rw planned.range at (clips_same marks was.work.planned.range
         (heard was.work.planned was.work.sounds sources) (mix_in listed sources) clips (planned.heard_as sources)
         (rw (opens.back.planned, opens.back.sounds) at (counts marks uniform))))
 
     by_found : (found : Option ℕ) → Opened found
-        → ClipsUnmarked (found_marks (marks_in listed (bench.stored b0))) (range_in listed) (mix_in listed sources) clips
+        → ClipsUnmarked (found_marks (marks_in listed (bench.stored b0))) (range_in listed) (mix_in listed sources)
+        clips
     by_found None opens = so [] opens (ap found_marks (found_now opens right))
         (rw (opens.unchanged refl) (fresh_uniform was.work planned.fresh))
     by_found (Some n) opens = let cuts = opens.cut right in

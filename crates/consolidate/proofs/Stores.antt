@@ -281,7 +281,8 @@ done_as so quiet did = record {
 }
 
 -- of sources that hold the same, and of outputs to which nothing was written since
-pub outcome_as : {Begins Starts : Files → Type 0} {events : List BoardEvent} {plan after : JobPlan} {first board : Board}
+pub outcome_as : {Begins Starts : Files → Type 0} {events : List BoardEvent} {plan after : JobPlan} {first board :
+    Board}
     {had : ℕ → Hand} {f g : Files} {n m : ℕ} {h h' k k' : Bool} {p p' q q' : List ℕ → Type 0} {o u e : OutputView}
     {untouched plain : Type 0} {ended : Result Progress ExecutionFault} → (untouched → plain)
     → ((laid : Files) → Begins laid → Starts laid) → o.failures ≡ u.failures

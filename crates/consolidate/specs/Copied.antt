@@ -31,11 +31,13 @@ use Rattle.consolidate.specs.declared.request.HandingOut.{HandingOut}
 
 -- it failed, but neither at the list nor at the report
 abbrev pub BeforeReport : {X : Type 0} → Result X Fault → Type 0 → Type 0
-BeforeReport result P = IfErr result (λ failure. failure ≢ fault.Output file.List → failure ≢ fault.Output file.Report → P)
+BeforeReport result P = IfErr result (λ failure. failure ≢ fault.Output file.List → failure ≢ fault.Output file.Report →
+    P)
 
--- The list is accepted, the media of what passes leave of it are written and the list over them, which sounds as it does.
--- All its notices are given.
-pub record HasCopied (leave : Leaving) (text : List ℕ) (handle : ℕ) (asked : Option AskedReport) (sources old new : Files)
+-- The list is accepted, the media of what passes leave of it are written and the list over them, which sounds as it
+-- does. All its notices are given.
+pub record HasCopied (leave : Leaving) (text : List ℕ) (handle : ℕ) (asked : Option AskedReport) (sources old new :
+    Files)
     (told : CopiedList) : Type 0 where
   pub project : ListProject
   pub binding : Binding
@@ -45,49 +47,51 @@ pub record HasCopied (leave : Leaving) (text : List ℕ) (handle : ℕ) (asked :
   pub same_sound : SoundsTheSame text sources new
   pub notices : told.notices.items ≡ all_notices project binding
 
-module _ {S B : Type 0} (shelf : source.Ghosts S) (bench : output.Ghosts B) (handing : HandingOut) (leave : Leaving) where
-  -- What is made of a project that was opened before, however far it came. By rounds all pieces are done.
-  pub record CopiesProject (project : ListProject) (binding : Binding) (handle : ℕ) (asked : Option AskedReport)
-      (shelf_old shelf_new : S) (bench_old bench_new : B) (result : Result Copied Fault) : Type 0 where
-    pub refusals : IsTrue (shelf.honest shelf_old) → (work : Work)
-        → IsWorkOf leave project binding handle (shelf.stored shelf_old) work
-        → Answers refusal_of result (work_fault work)
-    pub own : (text : List ℕ) → IfErr result (IsOfMedia (is_some asked) (are_events handing) text)
-    pub in_turn : FailsInTurn result
-    pub named : IsTrue (bench.honest bench_old) → (n : List ℕ) → IsElsewhere (is_some asked) 32767 n
-        → bench.stored bench_new n ≡ bench.stored bench_old n
-    pub outcome : IsTrue (shelf.honest shelf_old) → IsTrue (bench.honest bench_old) → (text : List ℕ)
-        → IsAccepted text (shelf.stored shelf_old) project binding → HasBegun result
-        → ConsolidatesMedia leave project binding handle asked (events_by handing)
-        (λ fault_for. AnswersAs fault_for (λ (copied : Copied). SaysBy handing copied.progress) result)
-        (read_view shelf shelf_old) (read_view shelf shelf_new) (output_view bench bench_old)
-        (output_view bench bench_new)
-    pub stores : KeepsStores shelf bench shelf_old shelf_new bench_old bench_new result
-    pub all_done : AreRounds handing → IfOk result (λ copied. IsAllDone copied.progress)
-    pub finished : IsTrue (shelf.honest shelf_old) → IsTrue (bench.honest bench_old) → (text : List ℕ)
-        → IsAccepted text (shelf.stored shelf_old) project binding → IfOk result (λ copied. IsAllDone copied.progress
-        → IsConsolidated leave project binding handle asked (shelf.stored shelf_old) (bench.stored bench_old)
-        (bench.stored bench_new) copied.written
-        × SoundsTheSame text (shelf.stored shelf_old) (bench.stored bench_new))
-    pub durable : IsTrue (bench.honest bench_old) → IfOk result (λ copied. IsAllDone copied.progress
-        → AreDurable (is_some asked) copied.written.media (bench.stored bench_new) (bench.may_leave bench_new))
-    pub list_last : IsTrue (bench.honest bench_old) → BeforeList (ok_map (λ copied. copied.progress) result)
-        (bench.stored bench_new (codes "consolidated.adl") ≡ bench.stored bench_old (codes "consolidated.adl"))
-    pub report_last : IsTrue (bench.honest bench_old) → BeforeReport result
-        (bench.stored bench_new (codes "consolidated.json") ≡ bench.stored bench_old (codes "consolidated.json"))
+module _ {S B : Type 0} (shelf : source.Ghosts S) (bench : output.Ghosts B) (handing : HandingOut) (leave : Leaving)
+  where
+    -- What is made of a project that was opened before, however far it came. By rounds all pieces are done.
+    pub record CopiesProject (project : ListProject) (binding : Binding) (handle : ℕ) (asked : Option AskedReport)
+        (shelf_old shelf_new : S) (bench_old bench_new : B) (result : Result Copied Fault) : Type 0 where
+      pub refusals : IsTrue (shelf.honest shelf_old) → (work : Work)
+          → IsWorkOf leave project binding handle (shelf.stored shelf_old) work
+          → Answers refusal_of result (work_fault work)
+      pub own : (text : List ℕ) → IfErr result (IsOfMedia (is_some asked) (are_events handing) text)
+      pub in_turn : FailsInTurn result
+      pub named : IsTrue (bench.honest bench_old) → (n : List ℕ) → IsElsewhere (is_some asked) 32767 n
+          → bench.stored bench_new n ≡ bench.stored bench_old n
+      pub outcome : IsTrue (shelf.honest shelf_old) → IsTrue (bench.honest bench_old) → (text : List ℕ)
+          → IsAccepted text (shelf.stored shelf_old) project binding → HasBegun result
+          → ConsolidatesMedia leave project binding handle asked (events_by handing)
+          (λ fault_for. AnswersAs fault_for (λ (copied : Copied). SaysBy handing copied.progress) result)
+          (read_view shelf shelf_old) (read_view shelf shelf_new) (output_view bench bench_old)
+          (output_view bench bench_new)
+      pub stores : KeepsStores shelf bench shelf_old shelf_new bench_old bench_new result
+      pub all_done : AreRounds handing → IfOk result (λ copied. IsAllDone copied.progress)
+      pub finished : IsTrue (shelf.honest shelf_old) → IsTrue (bench.honest bench_old) → (text : List ℕ)
+          → IsAccepted text (shelf.stored shelf_old) project binding → IfOk result (λ copied. IsAllDone copied.progress
+          → IsConsolidated leave project binding handle asked (shelf.stored shelf_old) (bench.stored bench_old)
+          (bench.stored bench_new) copied.written
+          × SoundsTheSame text (shelf.stored shelf_old) (bench.stored bench_new))
+      pub durable : IsTrue (bench.honest bench_old) → IfOk result (λ copied. IsAllDone copied.progress
+          → AreDurable (is_some asked) copied.written.media (bench.stored bench_new) (bench.may_leave bench_new))
+      pub list_last : IsTrue (bench.honest bench_old) → BeforeList (ok_map (λ copied. copied.progress) result)
+          (bench.stored bench_new (codes "consolidated.adl") ≡ bench.stored bench_old (codes "consolidated.adl"))
+      pub report_last : IsTrue (bench.honest bench_old) → BeforeReport result
+          (bench.stored bench_new (codes "consolidated.json") ≡ bench.stored bench_old (codes "consolidated.json"))
 
-  -- and of its list
-  pub record CopiesList (list : List ℕ) (handle : ℕ) (asked : Option AskedReport) (shelf_old shelf_new : S)
-      (bench_old bench_new : B) (result : Result CopiedList Fault) : Type 0 where
-    pub answer : IsMediaAnswer shelf bench (λ (told : CopiedList). SaysBy handing told.copied.progress)
-        (IsOfMedia (is_some asked) (are_events handing)) leave list handle asked (events_by handing) shelf_old shelf_new
-        bench_old bench_new result
-    pub finished : IsTrue (shelf.honest shelf_old) → IsTrue (bench.honest bench_old) → IfOk result (λ told.
-        IsFinishedBy handing told.copied.progress → HasCopied leave list handle asked (shelf.stored shelf_old)
-        (bench.stored bench_old) (bench.stored bench_new) told)
-    pub durable : IsTrue (bench.honest bench_old) → IfOk result (λ told. IsFinishedBy handing told.copied.progress
-        → AreDurable (is_some asked) told.copied.written.media (bench.stored bench_new) (bench.may_leave bench_new))
-    pub list_last : IsTrue (bench.honest bench_old) → BeforeList (ok_map (λ told. told.copied.progress) result)
-        (bench.stored bench_new (codes "consolidated.adl") ≡ bench.stored bench_old (codes "consolidated.adl"))
-    pub report_last : IsTrue (bench.honest bench_old) → BeforeReport result
-        (bench.stored bench_new (codes "consolidated.json") ≡ bench.stored bench_old (codes "consolidated.json"))
+    -- and of its list
+    pub record CopiesList (list : List ℕ) (handle : ℕ) (asked : Option AskedReport) (shelf_old shelf_new : S)
+        (bench_old bench_new : B) (result : Result CopiedList Fault) : Type 0 where
+      pub answer : IsMediaAnswer shelf bench (λ (told : CopiedList). SaysBy handing told.copied.progress)
+          (IsOfMedia (is_some asked) (are_events handing)) leave list handle asked (events_by handing) shelf_old
+          shelf_new
+          bench_old bench_new result
+      pub finished : IsTrue (shelf.honest shelf_old) → IsTrue (bench.honest bench_old) → IfOk result (λ told.
+          IsFinishedBy handing told.copied.progress → HasCopied leave list handle asked (shelf.stored shelf_old)
+          (bench.stored bench_old) (bench.stored bench_new) told)
+      pub durable : IsTrue (bench.honest bench_old) → IfOk result (λ told. IsFinishedBy handing told.copied.progress
+          → AreDurable (is_some asked) told.copied.written.media (bench.stored bench_new) (bench.may_leave bench_new))
+      pub list_last : IsTrue (bench.honest bench_old) → BeforeList (ok_map (λ told. told.copied.progress) result)
+          (bench.stored bench_new (codes "consolidated.adl") ≡ bench.stored bench_old (codes "consolidated.adl"))
+      pub report_last : IsTrue (bench.honest bench_old) → BeforeReport result
+          (bench.stored bench_new (codes "consolidated.json") ≡ bench.stored bench_old (codes "consolidated.json"))

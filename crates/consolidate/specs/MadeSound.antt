@@ -30,7 +30,8 @@ module _ {S B : Type 0} (shelf : source.Ghosts S) (bench : output.Ghosts B) (req
     (shelf_old shelf_new : S) (bench_old bench_new : B) where
   -- the bench is as a rendering of the list left it
   abbrev pub IsLeftFor : Type 0
-  IsLeftFor = IsLeftByRendering request.list.now (values_for request) (shelf.stored shelf_old) (bench.may_leave bench_old)
+  IsLeftFor = IsLeftByRendering request.list.now (values_for request) (shelf.stored shelf_old) (bench.may_leave
+      bench_old)
 
   -- what is answered, by how the rendering is done
   abbrev pub AnswersRequest : Result MadeList Fault → Type 0

@@ -99,7 +99,8 @@ abbrev pub WorksBound : JobLength → (ℕ → List BoardEvent) → List ℕ →
     → Result Progress ExecutionFault → Type 0
 WorksBound jobs events text values project binding (Ok None) source_old source_new output_old output_new ended =
     RendersBound jobs events text values project binding source_old source_new output_old output_new ended
-WorksBound jobs events text values project binding (Ok (Some marked)) source_old source_new output_old output_new ended =
+WorksBound jobs events text values project binding (Ok (Some marked)) source_old source_new output_old output_new ended
+    =
     GoesOnBound jobs text values project binding marked source_old source_new output_old output_new ended
 WorksBound jobs events text values project binding (Err fault) source_old source_new output_old output_new ended = ⊥
 
@@ -115,7 +116,8 @@ pub record WorksList (jobs : JobLength) (events : ℕ → List BoardEvent)
       source_old source_new output_old output_new ended
 
 -- of which nothing was begun
-abbrev pub RendersList : JobLength → (ℕ → List BoardEvent) → List ℕ → OptionValues → SourceView → SourceView → OutputView
+abbrev pub RendersList : JobLength → (ℕ → List BoardEvent) → List ℕ → OptionValues → SourceView → SourceView →
+    OutputView
     → OutputView → Result Progress ExecutionFault → Type 0
 RendersList jobs events text values source_old source_new output_old output_new ended =
     WorksList jobs events (λ _. Ok None) text values source_old source_new output_old output_new ended

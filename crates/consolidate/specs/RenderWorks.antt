@@ -197,7 +197,8 @@ pub record OpensMarks {B : Type 0} (bench : output.Ghosts B) (approach : Approac
       (λ sources done. IsRunning (marks_of x sources) done (bench.may_leave now))
   pub filled : HoldsOfDone bench was x before result (λ sources done. AreFilled (jobs_over (plan_of x).jobs sources)
       ((plan_of x).whole sources) done (bench.stored now))
-  pub cut : IfAgain approach (IsTrue (bench.honest before)) → IfOk result (λ found. IfSome found (λ _. (marked : List Bool)
+  pub cut : IfAgain approach (IsTrue (bench.honest before)) → IfOk result (λ found. IfSome found (λ _. (marked : List
+      Bool)
       × (found_by approach was.run (bench.stored before) ≡ Ok (Some marked)) × AreCutBy jobs marked x.work))
   pub again : IsErr result → is_again approach ≡ true
 

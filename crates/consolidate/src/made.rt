@@ -31,7 +31,8 @@ fn make_listed<S: Shelf, B: Bench, W: Watch>(
     bench: &mut B,
     watch: &mut W,
 ) -> Result<Made, Fault>
-    ensures { MakesListed S.Shelf B.Bench (listed_of request.now checked.now.project checked.now.bound) shelf.old shelf.new bench.old bench.new result }
+    ensures { MakesListed S.Shelf B.Bench (listed_of request.now checked.now.project checked.now.bound)
+        shelf.old shelf.new bench.old bench.new result }
 {
     let choice = request.choice;
     let planned = RenderingWork::plan(alloc, checked, &choice.options, request.list, choice.jobs);

@@ -52,7 +52,8 @@ pub(crate) struct Planned<'a, 'e> {
     pub found: Option<u32>,
 }
 
-/// How far a rendering is, what it makes, how many of its blocks were marked before, and what was clipped of the others.
+/// How far a rendering is, what it makes, how many of its blocks were marked before, and what was clipped of the
+/// others.
 #[derive(Clone, Copy)]
 pub(crate) struct Made {
     pub progress: Progress,

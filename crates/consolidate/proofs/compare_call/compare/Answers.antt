@@ -87,9 +87,11 @@ returns-in-Err-compare_projects g c =
     let told = c.of_sums.ensures in
     record {
       compared = λ honest sure. tt;
-      first_refusals = λ honest. subst (λ (due : Option Refusal). AnswersFirst {X = Compared} due (Err c.of_sums.result))
+      first_refusals = λ honest. subst (λ (due : Option Refusal). AnswersFirst {X = Compared} due (Err
+          c.of_sums.result))
           (sym (one.refusals honest)) told.first_due;
-      second_refusals = λ sure. subst (λ (due : Option Refusal). AnswersSecond {X = Compared} due (Err c.of_sums.result))
+      second_refusals = λ sure. subst (λ (due : Option Refusal). AnswersSecond {X = Compared} due (Err
+          c.of_sums.result))
           (sym (two.refusals sure)) told.second_due;
       range = λ project next spelt next_spelt. told.range (compared_in c.args.selection.now project.events next.events)
           (empty_alike c.args.selection.now (Err c.in-Err-compare_projects.fault) (same_spelt one.spelt spelt)

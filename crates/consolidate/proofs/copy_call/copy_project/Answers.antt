@@ -10,7 +10,8 @@ use Rattle.consolidate.proofs.copy_call.copy_project.Goals as goal
 
 pub returns-in-Err : goal.returns-in-Err
 returns-in-Err g c = let is = c.of_consolidation.ensures.refusal in
-    refused g.S.Shelf g.B.Bench c.args.request.handing c.args.shelf.now c.args.bench.now c.of_consolidation.result (rw is)
+    refused g.S.Shelf g.B.Bench c.args.request.handing c.args.shelf.now c.args.bench.now c.of_consolidation.result (rw
+    is)
     (λ honest work is_work. rw is (c.in-Err.ensures.refusals honest work is_work))
     (λ text. c.of_consolidation.ensures.own _ _ text) c.of_consolidation.ensures.first
     (not_planned g.S.Shelf g.B.Bench (sounds_of c.args.checked.bound) c.in-Err.fault c.of_consolidation.result
@@ -34,7 +35,8 @@ returns-in-Ok-hand_out g c =
     planned.planned planned.there planned.fits planned.refusals
     planned.only_reads whole.value whole.names (fresh c.in-Ok.consolidation run.board run.undone)
     (called (events_by c.args.request.handing) run.work run.board run.idle told.executed)
-    (λ rounds. told.reported rounds ∙ told.finished rounds run.rest (run.idle 1)) (λ text. whole.same_sound text _ _ _ _ _ _ _)
+    (λ rounds. told.reported rounds ∙ told.finished rounds run.rest (run.idle 1)) (λ text. whole.same_sound text _ _ _ _
+    _ _ _)
     (whole.consolidated _ _ _ _ _ _ _ _)
 
 pub returns-in-Err-hand_out : goal.returns-in-Err-hand_out

@@ -85,7 +85,8 @@ returns-in-Ok-work_off g c =
       marked = λ right. c.unwrap_or.ensures ∙ counted found (marks_in listed (g.B.Bench.stored c.args.bench.now))
           (now.2 right);
       clips = λ rounds honest right. record {
-        clips = clipped g.S.Shelf g.B.Bench listed c.in-Ok.work c.open_marks.new.work c.args.bench.now c.open_marks.new.bench planned run c.args.shelf.now c.work_off.new.shelf
+        clips = clipped g.S.Shelf g.B.Bench listed c.in-Ok.work c.open_marks.new.work c.args.bench.now
+            c.open_marks.new.bench planned run c.args.shelf.now c.work_off.new.shelf
             c.work_off.new.bench found (g.S.Shelf.stored c.args.shelf.now) c.in-Ok-work_off.worked.clips opens right
             (off.clips rounds honest);
         start = c.start-start.ensures ∙ ap (λ (r : Range). r.from) planned.range;

@@ -20,15 +20,19 @@ returns-in-Ok-run-clause-off g c =
     let r = rw c.handing-handing.ensures at c.in-Ok-run.ensures in
     record {
       does = works g.S.Shelf g.B.Bench g.met.B.Bench.reads_now c.run.new.execution c.args.shelf.now c.run.new.shelf
-          c.args.bench.now c.run.new.bench (Ok c.in-Ok-run.progress) p c.requires.whole (handing_of c.args.planned.approach)
+          c.args.bench.now c.run.new.bench (Ok c.in-Ok-run.progress) p c.requires.whole (handing_of
+          c.args.planned.approach)
           c.args.planned.found c.requires r.called;
       finished = λ rounds. r.reported rounds ∙ r.finished rounds p.rest (p.idle 1);
       clips = λ rounds. clips_of g.S.Shelf g.B.Bench g.met.B.Bench.reads_now c.run.new.execution c.args.shelf.now
           c.run.new.shelf c.args.bench.now c.run.new.bench (Ok c.in-Ok-run.progress) p c.requires.whole
-          (handing_of c.args.planned.approach) c.args.planned.found (r.finished rounds p.rest (p.idle 1)) r c.clips-clips.result
+          (handing_of c.args.planned.approach) c.args.planned.found (r.finished rounds p.rest (p.idle 1)) r
+          c.clips-clips.result
           (rw c.work.ensures at c.clips-clips.ensures);
-      keeps = keeps_work g.S.Shelf g.B.Bench g.met.B.Bench.reads_now c.run.new.execution c.args.shelf.now c.run.new.shelf
-          c.args.bench.now c.run.new.bench (Ok c.in-Ok-run.progress) p c.requires.whole (handing_of c.args.planned.approach)
+      keeps = keeps_work g.S.Shelf g.B.Bench g.met.B.Bench.reads_now c.run.new.execution c.args.shelf.now
+          c.run.new.shelf
+          c.args.bench.now c.run.new.bench (Ok c.in-Ok-run.progress) p c.requires.whole (handing_of
+          c.args.planned.approach)
           c.args.planned.found r.called;
     }
 
@@ -42,8 +46,10 @@ returns-in-Err-run-clause-off g c =
           (handing_of c.args.planned.approach) c.args.planned.found c.requires r.called);
       finished = λ rounds. tt;
       clips = λ rounds honest. tt;
-      keeps = keeps_work g.S.Shelf g.B.Bench g.met.B.Bench.reads_now c.run.new.execution c.args.shelf.now c.run.new.shelf
-          c.args.bench.now c.run.new.bench (Err c.in-Err-run.fault) p c.requires.whole (handing_of c.args.planned.approach)
+      keeps = keeps_work g.S.Shelf g.B.Bench g.met.B.Bench.reads_now c.run.new.execution c.args.shelf.now
+          c.run.new.shelf
+          c.args.bench.now c.run.new.bench (Err c.in-Err-run.fault) p c.requires.whole (handing_of
+          c.args.planned.approach)
           c.args.planned.found r.called;
     }
 
