@@ -1,7 +1,7 @@
 // jobs SOURCE TARGET JOB PIECE: copies a file as the program renders one straight through, and does nothing else. The
 // target and its marks, a byte for each 24,576 bytes, are laid out and synced; then each JOB bytes are written and
-// synced, and their marks are written and synced. With PIECE 0 a job is read whole, by 256 KiB at once, before it is
-// written; else it is read and written by so many bytes at once.
+// synced, and their marks are written and synced. With PIECE 0 a job is read whole, before it is written, both by 256
+// KiB at once; else it is read and written by so many bytes at once.
 
 #include <err.h>
 #include <fcntl.h>
@@ -49,7 +49,8 @@ static void copy_whole(int source, int target, char *bytes, size_t length, off_t
 {
     for (size_t done = 0; done < length; done += AT_ONCE)
         read_all(source, bytes + done, least(AT_ONCE, length - done), at + done);
-    write_all(target, bytes, length, at);
+    for (size_t done = 0; done < length; done += AT_ONCE)
+        write_all(target, bytes + done, least(AT_ONCE, length - done), at + done);
 }
 
 static void copy_pieces(int source, int target, char *bytes, size_t length, off_t at, size_t piece)

@@ -6,6 +6,10 @@ use std::io;
 use std::io::{Error, ErrorKind};
 use std::os::unix::fs::FileExt;
 
+/// How many bytes are written at once. More at once take longer: the system then keeps them in longer pieces of memory,
+/// which it has to find first.
+const AT_ONCE: usize = 262_144;
+
 /// An open file, how many bytes it has, and whether it was synced since it was opened and last written to. Nothing else
 /// is to write to it while it is open.
 #[derive(Drop)]
@@ -49,7 +53,17 @@ impl<F: OpenFile + FileExt + Drop> Handle<F> {
     {
         self.require_inside(at, bytes.len())?;
         self.is_synced = false;
-        self.file.write_all_at(bytes, at)
+        self.write_pieces(at, bytes)
+    }
+
+    /// Writes the bytes from `at` on, piece by piece.
+    fn write_pieces(&self, at: u64, bytes: &[u8]) -> io::Result<()> {
+        let mut at = at;
+        for piece in bytes.chunks(AT_ONCE) {
+            self.file.write_all_at(piece, at)?;
+            at = at.saturating_add(piece.len() as u64);
+        }
+        Ok(())
     }
 
     /// Adds the bytes at the end of the file. Zeros are laid out as a hole, where the file system has holes. After an
@@ -63,7 +77,7 @@ impl<F: OpenFile + FileExt + Drop> Handle<F> {
         }
         let end = end_of(self.length, bytes.len())?;
         self.is_synced = false;
-        self.file.write_all_at(bytes, self.length)?;
+        self.write_pieces(self.length, bytes)?;
         self.length = end;
         Ok(())
     }
