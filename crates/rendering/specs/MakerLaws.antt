@@ -11,7 +11,7 @@ use Rattle.markfile.specs.Started as mark_file
 use Rattle.execution.specs.Marking.{AreLeftBy, HoldsIn, IsRunning, Leaves, Marking, is_marked, is_started}
 use Rattle.rendering.specs.Maker.{IsMarkedWork, marks_of}
 use Rattle.rendering.specs.Marked.{IsAllMarked, IsLeftByRun, MarkedWork, full_marks}
-use Rattle.rendering.specs.Work.{IsRenderWork, RenderWork, no_stretch, whole_of}
+use Rattle.rendering.specs.Work.{IsRenderWork, RenderWork, no_stretch}
 
 -- whether marks are started, by the words of either crate
 pub started_as : (file : Option (List ℕ)) → is_started file ≡ mark_file.is_started file
@@ -42,20 +42,7 @@ module _ (marked : MarkedWork) (sources : Files) (is : IsMarkedWork marked) wher
   abbrev m : Marking
   m = marks_of marked sources
 
-  -- where all jobs are done the rendered file is whole
-  pub finished_whole : (done : ℕ → Bool) (outcomes : Files → Type 0) → IsRunning m done outcomes
-      → ((k : ℕ) → k < length marked.work.stretches → done k ≡ true) → (c : Files) → outcomes c
-      → c sound_name ≡ Some (whole_of marked.work sources)
-  finished_whole done outcomes runs all c left =
-      let sound = runs.wave c left in
-      sound.there ∙ ap (λ x. Some x) (ext_get_or 0 sound.bytes (whole_of marked.work sources) sound.holds.size
-      (λ i lt. sound.holds.same i (λ b few from to. each b few)))
-    where
-      each : (b : ℕ) → b < marked.run.blocks → is_marked runs.marks b ≡ true
-      each b lt = let job = block_job marked is b lt in
-          runs.tell job.place b job.there job.behind_first job.before_end ∙ all job.place job.there
-
-  -- and each block is marked
+  -- where all jobs are done each block is marked
   pub finished_marks : (done : ℕ → Bool) (outcomes : Files → Type 0) → IsRunning m done outcomes
       → ((k : ℕ) → k < length marked.work.stretches → done k ≡ true) → (c : Files) → outcomes c
       → IsAllMarked marked.run (c marks_name)
