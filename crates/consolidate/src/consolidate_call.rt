@@ -90,12 +90,12 @@ pub fn consolidate_watched<S: Shelf, B: Bench, W: Watch>(
         handing: HandingOut::Rounds,
     };
     match copy_list(alloc, list, request, shelf, bench, watch) {
-        Ok(told) => {
+        Ok(made) => {
             return Ok(Written {
-                media: told.copied.written.media,
-                entries: told.copied.written.entries,
-                sizes: told.copied.written.sizes,
-                notices: told.notices,
+                media: made.copied.written.media,
+                entries: made.copied.written.entries,
+                sizes: made.copied.written.sizes,
+                notices: made.notices,
             });
         }
         Err(fault) => return Err(fault),

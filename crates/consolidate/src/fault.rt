@@ -13,7 +13,7 @@ ghost use Rattle.consolidate.specs.Fault.{IsOpenedIn, NamesOpened, name_of_outpu
 ghost use Rattle.consolidate.specs.MediaOutcome.{IsNamedOutput, consolidation_fault, output_file};
 ghost use Rattle.consolidate.specs.RenderOutcome.{rendering_fault};
 ghost use Rattle.execution.specs.declared.fault.ExecutionFault.TheVariants as execution;
-ghost use Rattle.consolidate.specs.declared.fault.Fault.TheVariants as told;
+ghost use Rattle.consolidate.specs.declared.fault.Fault.TheVariants as faults;
 ghost use Rattle.consolidate.specs.declared.fault.OutputFile.TheVariants as outputs;
 
 use consolidation::{ConsolidationFault, LIST, REPORT, SUMS};
@@ -227,10 +227,10 @@ impl Fault {
         ensures own { (scheduled : Bool) (text : List ℕ) → (cause ≡ execution.Memory → ⊥)
             → (cause ≡ execution.JobMemory → ⊥) → IsOfMedia reported scheduled text result }
         ensures named { IsNamedOutput media reported cause }
-        ensures before_list { (i : ℕ) → i + 1 ≡ output_count media reported → (result ≡ told.Output outputs.List → ⊥)
+        ensures before_list { (i : ℕ) → i + 1 ≡ output_count media reported → (result ≡ faults.Output outputs.List → ⊥)
             → IsBefore (Err cause) i }
-        ensures before_report { reported ≡ true → (result ≡ told.Output outputs.List → ⊥)
-            → (result ≡ told.Output outputs.Report → ⊥) → IsBefore (Err cause) (media + 1) }
+        ensures before_report { reported ≡ true → (result ≡ faults.Output outputs.List → ⊥)
+            → (result ≡ faults.Output outputs.Report → ⊥) → IsBefore (Err cause) (media + 1) }
         ensures first { (text : List ℕ) (files : Files) → IsFirst text files result }
     {
         match cause {

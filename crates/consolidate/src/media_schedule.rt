@@ -29,7 +29,7 @@ pub fn schedule_media<S: Shelf, B: Bench>(
         handing: HandingOut::Events(events),
     };
     match copy_list(alloc, list, request, shelf, bench, &mut Unwatched) {
-        Ok(told) => return Ok(told.copied.progress),
+        Ok(made) => return Ok(made.copied.progress),
         Err(fault) => return Err(fault),
     }
 }

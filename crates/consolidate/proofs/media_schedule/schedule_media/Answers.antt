@@ -7,7 +7,7 @@ returns-in-Ok g c = let told = c.in-Ok.ensures in record {
     project = is.project;
     binding = is.binding;
     accepted = is.accepted;
-    out = record { counts = c.in-Ok.told.copied.written; written = is.written; durable = told.durable right done };
+    out = record { counts = c.in-Ok.made.copied.written; written = is.written; durable = told.durable right done };
     same_sound = is.same_sound;
   };
   durable = λ right done. (told.durable right done).list;
