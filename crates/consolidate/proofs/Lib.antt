@@ -1,4 +1,3 @@
 mod Answered
-mod MediaCalls
 pub mod RenderWorks
 pub mod Stores

@@ -4,7 +4,7 @@ use Rattle.std.proofs.Common.{◌≡◌, ◌∙◌, ℕ, Bool, true, false, true
 use Rattle.std.proofs.lemmas.Bool.{false≢true}
 use Rattle.std.proofs.lemmas.List.{length-map, length-replicate}
 use Rattle.sound_terms.specs.Render.{Range}
-use Rattle.work_terms.specs.Disk.{Files}
+use Rattle.work_terms.specs.Disk.{Files, LeavesOnly}
 use Rattle.work_terms.specs.Refusals.{Refusal}
 use Rattle.list_terms.specs.Accepted.{OptionValues}
 use Rattle.list_terms.specs.Binding.{Binding}
@@ -155,8 +155,7 @@ pub for_each : {text : List ℕ} {project p : ListProject} {binding b : Binding}
     {sources opened : Files} → opened ≡ sources → IsAccepted text sources project binding → (P : Marking → Type 0)
     → P (list_marking text values opened project binding) → IsAccepted text sources p b
     → P (list_marking text values sources p b)
-for_each values same accepted P is other =
-    let one = one_accepted accepted other in rw (← one.1, ← one.0, ← same) is
+for_each values same accepted P is other = let one = one_accepted accepted other in rw (← one.1, ← one.0, ← same) is
 
 -- ---- what is found
 
@@ -211,8 +210,7 @@ left_by Again so left = left
 
 -- where blocks are marked it is gone on with
 pub marked_again : (approach : Approach) (run : RunId) (outputs : Files) (outcomes : Files → Type 0) {marked : List
-    Bool}
-    {P : Type 0} → found_by approach run outputs ≡ Ok (Some marked)
+    Bool} {P : Type 0} → found_by approach run outputs ≡ Ok (Some marked)
     → (IfAgain approach P → P) × (StartsBy approach outcomes P → P)
 marked_again (Anew handing) run outputs outcomes is = absurd (cc)
 marked_again Again run outputs outcomes is = (λ p. p, λ p. p)
@@ -303,26 +301,24 @@ module _ {S B : Type 0} (shelf : source.Ghosts S) (bench : output.Ghosts B) (x :
         named = λ whole n other. call.bounded.output.others whole n (foreign x n other);
         outcome = λ honest whole b begun. (result, answers result, came (out honest whole (to b)));
         stores = stores_of result call.bounded;
-      }
-    where
-      out : IsTrue (shelf.honest s0) → IsTrue (bench.honest b0) → begun
-          → Outcome Begins events old (λ _. Nothing) new untouched result
-      out honest whole b = call.outcome honest whole (sound.fit (shelf.stored s0)) (sound.apart (shelf.stored s0)) b
+      } where
+        out : IsTrue (shelf.honest s0) → IsTrue (bench.honest b0) → begun
+            → Outcome Begins events old (λ _. Nothing) new untouched result
+        out honest whole b = call.outcome honest whole (sound.fit (shelf.stored s0)) (sound.apart (shelf.stored s0)) b
 
-      all : IsTrue (shelf.honest s0) → IsTrue (bench.honest b0) → begun → (p : Progress) → result ≡ Ok p → IsAllDone p
-          → (bench.stored b1 sound_name ≡ Some (whole_of x.work (shelf.stored s0)))
-          × (bench.stored b1 marks_name ≡ Some (full_marks x.run))
-      all honest whole b p e done = let ends = finished_all (rw e at (out honest whole b)) done in (
-        ends.1 0 (some_job x.work is.work),
-        full_of x.run (bench.stored b1 marks_name) (finished_marks x (shelf.stored s0) is (done_of board)
-            (bench.may_leave b1) ends.3 (λ k lt. finished_done board ends.0 k (omega (
-              arith,
-              lt,
-              size,
-              call.bounded.size,
-            )))
-            (bench.stored b1) (reads_now b1 (rw call.bounded.output.same_honest whole))),
-      )
+        all : IsTrue (shelf.honest s0) → IsTrue (bench.honest b0) → begun → (p : Progress) → result ≡ Ok p → IsAllDone p
+            → (bench.stored b1 sound_name ≡ Some (whole_of x.work (shelf.stored s0)))
+            × (bench.stored b1 marks_name ≡ Some (full_marks x.run))
+        all honest whole b p e done = let ends = finished_all (rw e at (out honest whole b)) done in (
+          ends.1 0 (some_job x.work is.work),
+          full_of x.run (bench.stored b1 marks_name) (finished_marks x (shelf.stored s0) is (done_of board)
+              (bench.may_leave b1) ends.3 (λ k lt. finished_done board ends.0 k (omega (
+                arith,
+                lt,
+                size,
+                call.bounded.size,
+              ))) (bench.stored b1) (reads_now b1 (rw call.bounded.output.same_honest whole))),
+        )
 
 -- ---- a call that ends before the first write
 
@@ -355,10 +351,8 @@ module _ {S B : Type 0} {shelf : source.Ghosts S} {bench : output.Ghosts B} {m :
   unbegun : {s : S} {b : B} → ((b : B) → LeavesNow bench b) → (cause : Fault) → IsUnbegun cause
       → (started → IsLeftByRun m (bench.may_leave b))
       → DoesWork shelf bench m run began started Came s s b b (Err cause)
-  unbegun only_now fault.BoardMemory un left =
-      untouched_by only_now false≢true false≢true (λ e. omega (arith, e)) left
-  unbegun only_now fault.RenderMemory un left =
-      untouched_by only_now false≢true false≢true (λ e. omega (arith, e)) left
+  unbegun only_now fault.BoardMemory un left = untouched_by only_now false≢true false≢true (λ e. omega (arith, e)) left
+  unbegun only_now fault.RenderMemory un left = untouched_by only_now false≢true false≢true (λ e. omega (arith, e)) left
   unbegun only_now _ un left = absurd un
 
 -- ---- from its beginning, or on from blocks that are marked
@@ -409,39 +403,35 @@ module _ {S B : Type 0} (shelf : source.Ghosts S) (bench : output.Ghosts B)
       p.work call.bounded.plan same p.idle call)
       (λ b. fresh) (λ st. fresh) (λ st. record { fresh = fresh; unstarted = unstarted st })
       (λ c sets started. let left = sets (started_as (c marks_name) ∙ started) in
-      record { marks = left.marks; there = left.there; ours = left.ours; sound = left.wave })
-      (λ st un. unstarted st)
+      record { marks = left.marks; there = left.there; ours = left.ours; sound = left.wave }) (λ st un. unstarted st)
       (λ out. record {
         order = p.order;
         is_order = p.is_order;
         came = record {
           board = next.board;
-          came = outcome_as (λ un. tt) (λ laid is. is) refl (λ stays. writes_none
-              stays _) (λ none. none) out;
+          came = outcome_as (λ un. tt) (λ laid is. is) refl (λ stays. writes_none stays _) (λ none. none) out;
         };
-      })
-    where
-      count : ℕ
-      count = (work_of x.work).count
+      }) where
+        count : ℕ
+        count = (work_of x.work).count
 
-      same : run.board ≡ fresh_board count p.order
-      same = p.board ∙ rw (all_fresh p.done (λ k lt. p.each k lt ∙ sound.fresh refl k), p.count) refl
+        same : run.board ≡ fresh_board count p.order
+        same = p.board ∙ rw (all_fresh p.done (λ k lt. p.each k lt ∙ sound.fresh refl k), p.count) refl
 
-      fresh : IsFresh (start (fresh_board count p.order)) (λ _. Nothing)
-      fresh = record {
-        none = λ k lt. done_so (fresh_board count p.order) same k (rw length-replicate at lt) ∙ sound.fresh refl k;
-        idle = λ w. refl;
-      }
+        fresh : IsFresh (start (fresh_board count p.order)) (λ _. Nothing)
+        fresh = record {
+          none = λ k lt. done_so (fresh_board count p.order) same k (rw length-replicate at lt) ∙ sound.fresh refl k;
+          idle = λ w. refl;
+        }
 
-      unstarted : NoneStarted (bench.may_leave b0)
-          → NoneStartedBy (Some (marks_of x (shelf.stored s0))) (bench.may_leave b0)
-      unstarted none c at = started_as (c marks_name) ∙ none c at
+        unstarted : NoneStarted (bench.may_leave b0)
+            → NoneStartedBy (Some (marks_of x (shelf.stored s0))) (bench.may_leave b0)
+        unstarted none c at = started_as (c marks_name) ∙ none c at
   works handing (Some found) sound call = does shelf bench x s0 s1 b0 b1 left next.board result reads_now is sound.jobs
       (length-map p.done (λ (d : Bool). cond d done_job fresh_job) ∙ p.count) (known call) resting resting
       (λ st. (resting st).marked)
       (λ c left started. record { marks = left.marks; there = left.there; ours = left.ours; sound = left.wave })
-      (λ st un. absurd un)
-      (λ out. record {
+      (λ st un. absurd un) (λ out. record {
         order = p.order;
         is_order = p.is_order;
         done = p.done;
@@ -449,18 +439,15 @@ module _ {S B : Type 0} (shelf : source.Ghosts S) (bench : output.Ghosts B)
         each = p.each;
         came = record {
           board = next.board;
-          came = outcome_as (λ un. un) (λ laid is. is) refl (λ stays. writes_none
-              stays _) (λ none. none) out;
+          came = outcome_as (λ un. un) (λ laid is. is) refl (λ stays. writes_none stays _) (λ none. none) out;
         };
       })
 
   -- what was marked stands at each moment
   pub keeps_work : (handing : HandingOut) (found : Option ℕ) → Calls shelf bench handing found run next s0 s1 b0 b1
-      result
-      → IfSome found (λ _. KeepsMarked shelf bench x s0 b0 b1)
+      result → IfSome found (λ _. KeepsMarked shelf bench x s0 b0 b1)
   keeps_work handing None call = tt
-  keeps_work handing (Some found) call = λ honest whole st marks there.
-      let marked = (resting st).marked in
+  keeps_work handing (Some found) call = λ honest whole st marks there. let marked = (resting st).marked in
       let h = (known call).moments honest whole marked in
       weaker (λ c kept. marked_stays x (shelf.stored s0) is (done_of left) (done_of next.board) (bench.may_leave b0)
       (bench.stored b0) c marks marked.running (reads_now b0 whole) there kept)
@@ -481,29 +468,26 @@ module _ {S B : Type 0} (shelf : source.Ghosts S) (bench : output.Ghosts B)
       → IsTrue (shelf.honest s0) → ClipsWork x (shelf.stored s0) clips
   clips_of handing found finished r clips counts honest marked uniform =
       subst (λ (w : RenderWork). ClipsUnmarked marked w.planned.range (heard w.planned w.sounds (shelf.stored s0))
-      clips)
-      same (counts (shelf.stored s0) marked (rw same uniform)
-      (λ k below off. noted k (rw same at below) (rw same at off)))
-    where
-      same : next.work.work ≡ x.work
-      same = (r.notes honest).same x (ap (λ (w : MarkedWork). w.work) p.work)
+      clips) same (counts (shelf.stored s0) marked (rw same uniform)
+      (λ k below off. noted k (rw same at below) (rw same at off))) where
+        same : next.work.work ≡ x.work
+        same = (r.notes honest).same x (ap (λ (w : MarkedWork). w.work) p.work)
 
-      noted : (k : ℕ) → k < length x.work.stretches → done_before x.work k ≡ false
-          → HasClips next.work (shelf.stored s0) k
-      noted k below off =
-          elim ((r.notes honest).done (λ w. subst (IsNoted (HasClips run.work (shelf.stored s0))) (sym (p.idle w)) tt) k
-          (finished_done next.board finished k
-          (omega (
-            arith,
-            below,
-            same_size handing found r.called,
-            ap length (ap (λ (b : Board). b.jobs) p.board),
-            length-map p.done (λ (d : Bool). cond d done_job fresh_job),
-            p.count,
-          )))) [
-            | inl done ↦ absurd (true≢false (sym done ∙ done_so run.board refl k below ∙ off))
-            | inr note ↦ note
-          ]
+        noted : (k : ℕ) → k < length x.work.stretches → done_before x.work k ≡ false
+            → HasClips next.work (shelf.stored s0) k
+        noted k below off =
+            elim ((r.notes honest).done (λ w. subst (IsNoted (HasClips run.work (shelf.stored s0))) (sym (p.idle w)) tt)
+            k (finished_done next.board finished k (omega (
+              arith,
+              below,
+              same_size handing found r.called,
+              ap length (ap (λ (b : Board). b.jobs) p.board),
+              length-map p.done (λ (d : Bool). cond d done_job fresh_job),
+              p.count,
+            )))) [
+              | inl done ↦ absurd (true≢false (sym done ∙ done_so run.board refl k below ∙ off))
+              | inr note ↦ note
+            ]
 
 -- what holds of rounds, and of events that were given, holds of either
 pub by_handing : (handing : HandingOut) (P : Bool → Type 0) → (AreRounds handing → P false) → P true
@@ -532,6 +516,15 @@ module _ {S B : Type 0} (shelf : source.Ghosts S) (bench : output.Ghosts B) (onl
       (bench.stored b) c marks running (reads_now b whole) there
       (running_leaves (Some (marks_of x (shelf.stored s))) (done_before x.work) (bench.may_leave b) c running
       (only_now b c at)))
+
+-- where nothing is written what was marked stands
+pub keeps_unwritten : {S B : Type 0} (shelf : source.Ghosts S) (bench : output.Ghosts B) (listed : Listed) (s : S)
+    {b0 b1 : B} → ((b : B) → IsTrue (bench.honest b) → bench.may_leave b (bench.stored b)) → (approach : Approach)
+    → LeavesOnly bench.moment bench.left_since b0 b1 (bench.may_leave b0)
+    → IfAgain approach (KeepsListed shelf bench listed s b0 b1)
+keeps_unwritten shelf bench listed s {b0 = b0} reads_now approach moments =
+    if_again approach (λ honest right left told there started. weaker (left_holds
+    (marking_in listed (shelf.stored s)) (bench.stored b0) left (reads_now b0 right) there started) moments)
 
 -- a plan that is refused
 pub unplanned : {S B : Type 0} (shelf : source.Ghosts S) (bench : output.Ghosts B) {m : Marking} {run : RunId}
@@ -585,15 +578,13 @@ module _ {S B : Type 0} (shelf : source.Ghosts S) (bench : output.Ghosts B) (lis
       (output_view bench b1) ended
   worked_before opens so r = record {
     board = r.board;
-    came = outcome_as (λ un. un) so (opens.only_reads.cause.left tt)
-        (λ stays. record {
-          same_honest = opens.only_reads.honest_same;
-          later = opens.only_reads.cause.later;
-          keeps = opens.only_reads.keeps;
-          others = λ h n s. rw opens.untouched.reads;
-          durable = λ h n s was c at. rw opens.untouched.reads (was c (opens.untouched.crash c at));
-        })
-        (λ unstarted c at. unstarted c (opens.untouched.crash c at)) r.came;
+    came = outcome_as (λ un. un) so (opens.only_reads.cause.left tt) (λ stays. record {
+      same_honest = opens.only_reads.honest_same;
+      later = opens.only_reads.cause.later;
+      keeps = opens.only_reads.keeps;
+      others = λ h n s. rw opens.untouched.reads;
+      durable = λ h n s was c at. rw opens.untouched.reads (was c (opens.untouched.crash c at));
+    }) (λ unstarted c at. unstarted c (opens.untouched.crash c at)) r.came;
   }
 
   -- what a call leaves of the list that it was planned of, as of the outputs before
@@ -604,8 +595,7 @@ module _ {S B : Type 0} (shelf : source.Ghosts S) (bench : output.Ghosts B) (lis
       → (IsTrue (bench.honest b0) → StartsBy approach (bench.may_leave b0) Left → started)
       → ((ended : Result Progress ExecutionFault) → IsTrue (bench.honest b0) → Came ended
       → WorksListed listed (bench.stored b0) (read_view shelf s0) (read_view shelf s1) (output_view bench b0)
-      (output_view bench b1) ended)
-      → DoesListed shelf bench listed s0 s1 b0 b1 result
+      (output_view bench b1) ended) → DoesListed shelf bench listed s0 s1 b0 b1 result
   after_open opens did begins starts came = record {
     finished = λ honest right b.
         rw ((of_now opens).whole (shelf.stored s0)) at (did.finished honest (on right) (begins right b));
@@ -622,10 +612,9 @@ module _ {S B : Type 0} (shelf : source.Ghosts S) (bench : output.Ghosts B) (lis
     outcome = λ honest right b begun. let out = did.outcome honest (on right) (begins right b) begun in
         (out.0, out.1, came out.0 right out.2);
     stores = behind_open opens.untouched opens.only_reads did.stores;
-  }
-    where
-      on : IsTrue (bench.honest b0) → IsTrue (bench.honest mid)
-      on right = subst IsTrue (sym opens.only_reads.honest_same) right
+  } where
+    on : IsTrue (bench.honest b0) → IsTrue (bench.honest mid)
+    on right = subst IsTrue (sym opens.only_reads.honest_same) right
 
   -- what stands of the marks that are found
   stands : {n : ℕ} → Opened (Some n) → IsTrue (bench.honest b0) → Left
@@ -633,18 +622,16 @@ module _ {S B : Type 0} (shelf : source.Ghosts S) (bench : output.Ghosts B) (lis
   stands opens right left done agrees = (
     opens.running right (shelf.stored s0) was_left done agrees,
     opens.filled right (shelf.stored s0) was_left done agrees,
-  )
-    where
-      was_left : AreLeftBy (Some (marks_of was (shelf.stored s0))) (bench.may_leave b0)
-      was_left = run_leaves (marks_of was (shelf.stored s0)) (bench.may_leave b0)
-          (λ c d at other started. true_of_plan listed of_was (shelf.stored s0) c d (left c d at other started))
+  ) where
+    was_left : AreLeftBy (Some (marks_of was (shelf.stored s0))) (bench.may_leave b0)
+    was_left = run_leaves (marks_of was (shelf.stored s0)) (bench.may_leave b0)
+        (λ c d at other started. true_of_plan listed of_was (shelf.stored s0) c d (left c d at other started))
 
   -- whatever was found: all jobs are done, or those that aren't marked
   gone_on : (found : Option ℕ) (result : Result Progress Fault) → Opened found
       → WorksOn shelf bench (handing_of approach) found x s0 s1 mid b1 result
       → DoesListed shelf bench listed s0 s1 b0 b1 result
-  gone_on None result opens did = after_open opens did (λ right b. tt)
-      (λ right st c at. sym (started_as (c marks_name))
+  gone_on None result opens did = after_open opens did (λ right b. tt) (λ right st c at. sym (started_as (c marks_name))
       ∙ opens.unstarted right (shelf.stored s0) (starts_as approach _ (λ left. tt) st) refl c at)
       (λ ended right came. rw (found_now opens (if_again approach right)) (record {
         work = x;
@@ -657,8 +644,7 @@ module _ {S B : Type 0} (shelf : source.Ghosts S) (bench : output.Ghosts B) (lis
           came = worked_before opens (λ laid is. is) came.came;
         };
       }))
-  gone_on (Some n) result opens did = after_open opens did
-      (λ right b. let cuts = opens.cut (if_again approach right) in
+  gone_on (Some n) result opens did = after_open opens did (λ right b. let cuts = opens.cut (if_again approach right) in
       stands opens right ((marked_again approach _ _ (bench.may_leave b0) cuts.1).0 b))
       (λ right st. let cuts = opens.cut (if_again approach right) in
       stands opens right ((marked_again approach _ _ (bench.may_leave b0) cuts.1).1 st))
@@ -680,16 +666,13 @@ module _ {S B : Type 0} (shelf : source.Ghosts S) (bench : output.Ghosts B) (lis
   -- what was marked stands at each moment
   kept : (by : Approach) (found : Option ℕ) → approach ≡ by → Opened found
       → ((b : B) → IsTrue (bench.honest b) → bench.may_leave b (bench.stored b))
-      → IfSome found (λ _. KeepsMarked shelf bench x s0 mid b1)
-      → IfAgain by (KeepsListed shelf bench listed s0 b0 b1)
+      → IfSome found (λ _. KeepsMarked shelf bench x s0 mid b1) → IfAgain by (KeepsListed shelf bench listed s0 b0 b1)
   kept (Anew handing) found is opens reads_now keeps = tt
   kept Again None is opens reads_now keeps = λ honest right left marks there started.
       absurd (started_found was.run (bench.stored b0) marks there started ((rw is at opens.found_as) right))
   kept Again (Some n) is opens reads_now keeps = λ honest right left marks there started. joined
       (weaker (left_holds (marking_in listed (shelf.stored s0)) (bench.stored b0) left (reads_now b0 right) there
-      started)
-      opens.untouched.moments)
-      (weaker (holds_list listed (of_now opens) (shelf.stored s0) marks)
+      started) opens.untouched.moments) (weaker (holds_list listed (of_now opens) (shelf.stored s0) marks)
       (keeps honest (rw opens.only_reads.honest_same right) (stands opens right left) marks
       (rw opens.untouched.reads there)))
 

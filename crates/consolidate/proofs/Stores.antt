@@ -4,7 +4,7 @@ use Rattle.std.specs.Prelude.{⊤}
 use Rattle.devices.specs.declared.source.Shelf as source
 use Rattle.devices.specs.declared.bench.Bench as output
 use Rattle.devices.specs.Views.{OutputView, Reads, SourceView, Writes, output_view, source_view}
-use Rattle.devices.specs.ViewLaws.{writes_none, writes_then}
+use Rattle.devices.specs.ViewLaws.{writes_then}
 use Rattle.work_terms.specs.Disk.{Files, HasCause, HasRead, IsUntouched, LeavesOnly, Rises}
 use Rattle.markfile.specs.Fault.{ReadsMarks, name_of, number_of}
 use Rattle.markfile.specs.declared.fault.MarkFault.{MarkFault}
@@ -14,7 +14,7 @@ use Rattle.job_terms.specs.declared.BoardEvent.{BoardEvent}
 use Rattle.job_terms.specs.declared.Progress.{Progress}
 use Rattle.job_terms.specs.Board.{Board}
 use Rattle.job_terms.specs.Workers.{End, Hand, Nothing}
-use Rattle.execution.specs.EventRun.{Snapshot, snapshot_of}
+use Rattle.execution.specs.EventRun.{snapshot_of}
 use Rattle.execution.specs.Marking.{NoneStartedBy}
 use Rattle.execution.specs.Outcome.{EventsDone, Finished, NotFinished, NotLaidOut, Outcome, Stopped}
 use Rattle.execution.specs.Plan.{JobPlan, Stays}
@@ -76,8 +76,7 @@ no_source (marks.Device file) e = true≢false (sym e)
 no_source _ e = true≢false (sym e)
 
 -- a device's fault of marks names its file
-at_file : (of : MarkFault) (P : List ℕ → Type 0) → number_of of ≡ 62 → P (name_of of)
-    → HoldsOfOutput (fault.Marks of) P
+at_file : (of : MarkFault) (P : List ℕ → Type 0) → number_of of ≡ 62 → P (name_of of) → HoldsOfOutput (fault.Marks of) P
 at_file (marks.Device file) P e p = p
 at_file _ P e p = absurd (omega (arith, e))
 
@@ -192,8 +191,7 @@ module _ {S B X : Type 0} {shelf : source.Ghosts S} {bench : output.Ghosts B} wh
     went_on = assumption
 
     -- a call that a fault behind the first write ended, which tells of no source
-    ended_late : {of : Fault} → (refusal_of of).late ≡ true → ¬ IsSource of
-        → (IsOutput of
+    ended_late : {of : Fault} → (refusal_of of).late ≡ true → ¬ IsSource of → (IsOutput of
         → Rises (bench.failures before) (bench.failures after) × HoldsOfOutput of (bench.failed_at after))
         → KeepsStores shelf bench {X = X} old new before after (Err of)
     ended_late late no_source failed = record {

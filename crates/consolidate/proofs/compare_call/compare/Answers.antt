@@ -1,4 +1,4 @@
-use Rattle.std.proofs.Common.{◌≡◌, ◌↔◌, ◌<◌, ◌≤◌, ◌∙◌, ℕ, List, Ok, Err, Option, Result, IsErrOf, arith, refl, rules, subst, sym}
+use Rattle.std.proofs.Common.{◌≡◌, ◌↔◌, ◌<◌, ◌≤◌, ◌∙◌, ℕ, List, Ok, Err, Option, Result, arith, rules, subst, sym}
 use Rattle.sound_terms.specs.Sounds.{SoundFacts}
 use Rattle.work_terms.specs.Refusals.{Refusal}
 use Rattle.list_terms.specs.Project.{ListProject}
@@ -9,8 +9,6 @@ use Rattle.comparison.specs.declared.fault.CompareFault as of_sums
 use Rattle.comparison.specs.declared.fault.CompareFault.TheVariants as sums
 use Rattle.comparison.specs.declared.fault.SideFault.{SideFault}
 use Rattle.comparison.specs.declared.fault.SideFault.TheVariants as side
-use Rattle.comparison.specs.declared.projects.Comparison.{Comparison}
-use Rattle.comparison.specs.declared.range.Selection.{Selection}
 use Rattle.consolidate.specs.Comparing.{AnswersFirst, AnswersSecond}
 use Rattle.consolidate.specs.CompareFault.{HoldsOfDevice, IsReportedAs, IsReportedOfTwo, OfFirst, OfSecond}
 use Rattle.consolidate.specs.declared.compare_call.Compared.{Compared}
@@ -26,14 +24,6 @@ use Rattle.consolidate.proofs.compare_call.compare.Goals as goal
 no_fault : {project : ListProject} {refusal : Refusal} {read : Result ListProject Refusal} → read ≡ Ok project
     → read ≡ Err refusal → ⊥
 no_fault good bad = let wrong = sym good ∙ bad in cc
-
--- what is empty of two projects is so of the same ones
-empty_alike : (selection : Selection) {p project n next : ListProject} (result : Result Comparison of_sums.CompareFault)
-    → p ≡ project → n ≡ next → IsErrOf result sums.EmptyRange
-    ↔ ((compared_in selection p.events n.events).to ≤ (compared_in selection p.events n.events).from)
-    → IsErrOf result sums.EmptyRange
-    ↔ ((compared_in selection project.events next.events).to ≤ (compared_in selection project.events next.events).from)
-empty_alike selection result same next_same empty = rw (← same, ← next_same) empty
 
 -- where an empty range isn't told there was something to compare
 some_sums : {Empty : Type 0} {from to : ℕ} → Empty ↔ (to ≤ from) → ¬ Empty → from < to
@@ -87,15 +77,12 @@ returns-in-Err-compare_projects g c =
     let told = c.of_sums.ensures in
     record {
       compared = λ honest sure. tt;
-      first_refusals = λ honest. subst (λ (due : Option Refusal). AnswersFirst {X = Compared} due (Err
-          c.of_sums.result))
-          (sym (one.refusals honest)) told.first_due;
-      second_refusals = λ sure. subst (λ (due : Option Refusal). AnswersSecond {X = Compared} due (Err
-          c.of_sums.result))
-          (sym (two.refusals sure)) told.second_due;
+      first_refusals = λ honest. subst (λ (due : Option Refusal). AnswersFirst {X = Compared} due
+          (Err c.of_sums.result)) (sym (one.refusals honest)) told.first_due;
+      second_refusals = λ sure. subst (λ (due : Option Refusal). AnswersSecond {X = Compared} due
+          (Err c.of_sums.result)) (sym (two.refusals sure)) told.second_due;
       range = λ project next spelt next_spelt. told.range (compared_in c.args.selection.now project.events next.events)
-          (empty_alike c.args.selection.now (Err c.in-Err-compare_projects.fault) (same_spelt one.spelt spelt)
-          (same_spelt two.spelt next_spelt) refused.empty);
+          (rw (← same_spelt one.spelt spelt, ← same_spelt two.spelt next_spelt) refused.empty);
       bad_first_text = λ refusal bad. absurd (no_fault one.spelt bad);
       bad_second_text = λ refusal bad. absurd (no_fault two.spelt bad);
       first_own = (told.own c.args.first_list.now).0;
@@ -115,7 +102,6 @@ returns-in-Ok-compare_projects g c =
     let first = c.in-Ok.ensures in
     let second = c.in-Ok-open_list.ensures in
     let told = c.in-Ok-compare_projects.ensures in
-    let comparison = c.in-Ok-compare_projects.comparison in
     record {
       compared = λ honest sure. record {
         project = one.project;
@@ -136,8 +122,8 @@ returns-in-Ok-compare_projects g c =
       };
       first_refusals = first.refusals;
       second_refusals = second.refusals;
-      range = λ project next spelt next_spelt. some_sums (empty_alike c.args.selection.now (Ok comparison)
-          (same_spelt first.spelt spelt) (same_spelt second.spelt next_spelt) told.empty) (λ wrong. absurd (cc));
+      range = λ project next spelt next_spelt. rw (← same_spelt first.spelt spelt, ← same_spelt second.spelt next_spelt)
+          (some_sums told.empty (λ wrong. absurd (cc)));
       bad_first_text = λ refusal bad. absurd (no_fault first.spelt bad);
       bad_second_text = λ refusal bad. absurd (no_fault second.spelt bad);
       first_own = tt;

@@ -2,8 +2,7 @@ use Rattle.passes.specs.Left.{standard_left}
 use Rattle.consolidate.proofs.consolidate_call.consolidate_watched.Goals as goal
 
 pub returns-in-Ok-clause-consolidated : goal.returns-in-Ok-clause-consolidated
-returns-in-Ok-clause-consolidated g c =
-    let told = rw c.report_on.ensures at c.in-Ok.ensures in
+returns-in-Ok-clause-consolidated g c = let told = rw c.report_on.ensures at c.in-Ok.ensures in
     record {
       answer = assumption told.answer;
       same_sound = λ honest right. (told.finished honest right tt).same_sound;

@@ -34,16 +34,15 @@ returns-in_err-made g c =
     let opened = c.in_ok-checked.ensures in
     let checked = c.in_ok-checked.field-0.checked in
     let listed = listed_of c.args.request.now checked.project checked.bound in
-    let told = c.in_err-made.ensures in
     rw (p.1, p.2) (record {
-      answer = failed g.S.Shelf g.B.Bench listed c.args.shelf.now _ c.make_listed.new.shelf c.args.bench.now
-          c.make_listed.new.bench opened.accepted opened.spelt opened.only_reads _ told;
+      answer = failed g.S.Shelf g.B.Bench listed _ _ _ _ _ opened.accepted opened.spelt opened.only_reads _
+          c.in_err-made.ensures;
       report = tt;
       frames = λ project is. tt;
       marked = λ right project is. tt;
       clips = λ rounds honest right. tt;
-      keeps_marked = keeps_list g.S.Shelf g.B.Bench listed c.args.shelf.now _ c.make_listed.new.shelf c.args.bench.now
-          c.make_listed.new.bench opened.accepted opened.spelt opened.only_reads told.keeps;
+      keeps_marked = keeps_list g.S.Shelf g.B.Bench listed _ _ c.make_listed.new.shelf _ _ opened.accepted opened.spelt
+          opened.only_reads c.in_err-made.ensures.keeps;
     })
 
 pub returns : goal.returns
@@ -53,9 +52,8 @@ returns g c =
     let listed = listed_of c.args.request.now checked.project checked.bound in
     let told = c.in_ok-made.ensures in
     record {
-      answer = answered g.S.Shelf g.B.Bench listed c.args.shelf.now _ c.make_listed.new.shelf c.args.bench.now
-          c.make_listed.new.bench opened.accepted opened.spelt opened.only_reads _ opened.spelled
-          opened.notices told;
+      answer = answered g.S.Shelf g.B.Bench listed _ _ _ _ _ opened.accepted opened.spelt opened.only_reads _
+          opened.spelled opened.notices told;
       report = record { project = checked.project; spelled = opened.spelled; range = told.report };
       frames = λ p is. rw (← same_spelt opened.spelt is) told.report.frames;
       marked = λ right p is. rw (← same_spelt opened.spelt is) (told.marked right);
@@ -63,6 +61,6 @@ returns g c =
           c.args.bench.now c.make_listed.new.bench opened.accepted opened.spelt opened.only_reads
           (λ range. marked_in (found_by c.args.request.now.approach (run_of c.args.request.now.list.now range)
           (g.B.Bench.stored c.args.bench.now))) _ (λ h. told.clips rounds h right) honest;
-      keeps_marked = keeps_list g.S.Shelf g.B.Bench listed c.args.shelf.now _ c.make_listed.new.shelf c.args.bench.now
-          c.make_listed.new.bench opened.accepted opened.spelt opened.only_reads told.keeps;
+      keeps_marked = keeps_list g.S.Shelf g.B.Bench listed _ _ c.make_listed.new.shelf _ _ opened.accepted opened.spelt
+          opened.only_reads told.keeps;
     }

@@ -7,13 +7,7 @@ use Rattle.consolidate.proofs.marks.open_marks.Goals as goal
 
 pub returns-in-Anew : goal.returns-in-Anew
 returns-in-Anew g c = rw c.in-Anew.is (record {
-  back = record {
-    planned = refl;
-    sounds = refl;
-    run = refl;
-    whole = c.requires.whole;
-    jobs = c.requires.jobs;
-  };
+  back = record { planned = refl; sounds = refl; run = refl; whole = c.requires.whole; jobs = c.requires.jobs };
   untouched = untouched (g.met.B.Bench.only_now c.args.bench.now);
   only_reads = search rules;
   found_as = λ right. refl;

@@ -5,8 +5,7 @@ pub returns-in-Ok : goal.returns-in-Ok
 returns-in-Ok g c = assumption (c.in-Ok.ensures)
 
 pub returns-in-Err : goal.returns-in-Err
-returns-in-Err g c =
-    let told = c.in-Err.ensures in
+returns-in-Err g c = let told = c.in-Err.ensures in
     record {
       accepted = told.accepted;
       spelt = tt;
