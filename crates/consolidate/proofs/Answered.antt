@@ -501,8 +501,6 @@ module _ {S B : Type 0} (shelf : source.Ghosts S) (bench : output.Ghosts B) (han
 
 -- ---- what a consolidation leaves, however far it came
 
--- ---- which fault stands for one of its execution
-
 last_some : (reported : Bool) → 1 ≤ last_count reported
 last_some false = omega arith
 last_some true = omega arith
