@@ -6,8 +6,7 @@ use std::io;
 use std::io::{Error, ErrorKind};
 use std::os::unix::fs::FileExt;
 
-/// How many bytes are written at once. More at once take longer: the system then keeps them in longer pieces of memory,
-/// which it has to find first.
+/// How many bytes are written at once. Many more at once take the system longer.
 const AT_ONCE: usize = 262_144;
 
 /// An open file, how many bytes it has, and whether it was synced since it was opened and last written to. Nothing else
