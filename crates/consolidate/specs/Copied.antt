@@ -1,5 +1,5 @@
 -- What a consolidation makes of a project, and of its list, by how its pieces are handed out.
-use Rattle.std.specs.Prelude.{◌≡◌, ◌≢◌, ℕ, true, IsTrue, IfErr, IfOk, Option, List, Result, codes, is_some}
+use Rattle.std.specs.Prelude.{◌≡◌, ◌≢◌, ℕ, IsTrue, IfErr, IfOk, Option, List, Result, codes, is_some}
 use Rattle.devices.specs.declared.source.Shelf as source
 use Rattle.devices.specs.declared.bench.Bench as output
 use Rattle.devices.specs.Views.{output_view}

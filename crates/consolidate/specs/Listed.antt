@@ -1,5 +1,5 @@
 -- A rendering that is asked for, by its list, the project that was opened of it, and what is chosen.
-use Rattle.std.specs.Prelude.{◌≡◌, ℕ, ℤ, Bool, true, IsTrue, IfErr, IfOk, Option, Some, List, Result}
+use Rattle.std.specs.Prelude.{◌≡◌, ℕ, ℤ, Bool, true, IsTrue, IfOk, Option, Some, List, Result}
 use Rattle.devices.specs.declared.source.Shelf as source
 use Rattle.devices.specs.declared.bench.Bench as output
 use Rattle.devices.specs.Views.{OutputView, SourceView, output_view}

@@ -1,9 +1,9 @@
 -- What was made of a list that was rendered, or whose rendering was gone on with.
-use Rattle.std.specs.Prelude.{◌≡◌, ◌-◌, ℕ, true, IsTrue, IfOk, Some, List, Result, Ok, Err}
+use Rattle.std.specs.Prelude.{◌≡◌, ◌-◌, ℕ, true, IsTrue, IfOk, Some, List, Result, Ok}
 use Rattle.devices.specs.declared.source.Shelf as source
 use Rattle.devices.specs.declared.bench.Bench as output
 use Rattle.devices.specs.Views.{output_view}
-use Rattle.work_terms.specs.Disk.{Files, LeavesOnly}
+use Rattle.work_terms.specs.Disk.{LeavesOnly}
 use Rattle.list_terms.specs.Accepted.{OptionValues, range_of}
 use Rattle.list_terms.specs.Project.{ListProject}
 use Rattle.list_terms.specs.Text.{text_value}
@@ -11,7 +11,7 @@ use Rattle.markfile.specs.Format.{marks_name}
 use Rattle.markfile.specs.Started.{is_started}
 use Rattle.rendering.specs.Clipping.{marked_in}
 use Rattle.rendering.specs.Marked.{run_of}
-use Rattle.rendering.specs.Rendering.{HasRange, values_of}
+use Rattle.rendering.specs.Rendering.{values_of}
 use Rattle.consolidate.specs.Approaches.{AreRounds, IfAgain, IsFinishedBy, IsOwnOf, SaysBy, StartsBy, due_by, events_by, found_by, handing_of}
 use Rattle.consolidate.specs.Clipping.{ClipsList}
 use Rattle.consolidate.specs.Commands.{IsAnswer, IsRenderedWith, Reports, render_refusal}
@@ -21,7 +21,6 @@ use Rattle.consolidate.specs.RenderOutcome.{WorksList}
 use Rattle.consolidate.specs.declared.fault.Fault.{Fault}
 use Rattle.consolidate.specs.declared.made.MadeList.{MadeList}
 use Rattle.consolidate.specs.declared.request.RenderRequest.{RenderRequest}
-use Rattle.consolidate.specs.declared.request.Made.{Made}
 
 abbrev pub values_for : RenderRequest → OptionValues
 values_for request = values_of request.choice.options
