@@ -115,6 +115,35 @@ def on_the_disk(command: str, *options: str, reports: tuple = ()):
     return body
 
 
+def lost_by_a_sync(scene: Scene) -> None:
+    """Jobs of 32 blocks are synced by fours. Where a sync of them fails the system may have lost the bytes
+    of all four, and the next sync wouldn't tell, so the last of them isn't taken for done though the device works again:
+    66, without a mark. What was marked before stays so, and the rendering is gone on with."""
+    frames = 4096 * 200
+    media = {"A.wav": wave([1, -2, 3, 4] * (frames // 4))}
+    text = model.list_text(
+        [model.source_line(1, "A.wav", MIDNIGHT)],
+        [model.entry_line(1, 1, *map(model.time_text, (0, 0, frames)))])
+    scene.put(text, media)
+    environment = preloaded(scene, SYNC_LOG=str(scene.folder / "log"))
+    options = EXACT._replace(depth=16)
+    words, wanted = words_of("render", options), model.answer("render", text, media, options)
+    got, log = run_logged(scene, words, environment)
+    same_answer(got, wanted)
+    sound, marks = "sync render.wav", "sync render.marks"
+    made = [sound, f"sync {OUT}", marks, f"sync {OUT}", marks, marks, marks]
+    same("what is synced", log[:-1], [*made, sound, marks, sound, marks, sound, marks])
+    for fails, job, marked in ((8, 3, 0), (10, 6, 128)):
+        scene.empty_out()
+        got, log = run_logged(scene, words, environment, fails)
+        same_outcome(got, 1, f"refused 66 at job {job}")
+        same("what is synced", [line for line in log if line.startswith("sync")], [*made, sound, marks, sound][:fails])
+        same("the blocks that are marked", scene.files()["render.marks"][44:].count(1), marked)
+        got = scene.run("resume", *words[1:])
+        same_outcome(got, 0, f"resumed {frames} frames {marked} blocks were marked")
+        same_files(scene.files(), wanted.files)
+
+
 def few_handles(scene: Scene) -> None:
     """Many sources in turn, with few handles."""
     names = [f"S{number:03d}.wav" for number in range(SOURCES)]
@@ -167,6 +196,7 @@ def run(suite: Suite) -> None:
         suite.case(f"done means on the disk, {command}", on_the_disk(command))
     suite.case("done means on the disk, consolidate --report", on_the_disk(
         "consolidate", "--report", reports=("SHA256SUMS", "consolidated.json")))
+    suite.case("bytes lost by a sync", lost_by_a_sync)
     suite.case("few handles", few_handles)
     suite.case("one write a line", one_write_a_line)
     suite.case("what a refusal's explanation tells", told_reasons)

@@ -39,11 +39,15 @@ pub enum Access {
     Write(Overwrite),
 }
 
-/// An output that was opened: which file it is, and how long, if it was synced and closed since it was last written to.
+/// An output that was opened: which file it is; how long, if it was synced and closed since it was last written to; how
+/// many calls wrote to it since its last sync; and why a sync failed behind several, or behind the close of the file.
+/// What the system then lost isn't known, nobody writes all of it again, and the next sync wouldn't tell.
 #[derive(Clone, Copy)]
 struct Output {
     identity: Identity,
     synced: Option<u64>,
+    unsynced: u32,
+    lost: Option<Error>,
 }
 
 /// The files of a folder by name, of which the last used ones are open. What was written is synced before it is closed,
@@ -173,15 +177,36 @@ where
     fn begin_writing(&mut self, name: &str) {
         if let Some(output) = self.outputs.get_mut(name) {
             output.synced = None;
+            output.unsynced = output.unsynced.saturating_add(1);
         }
     }
 
+    /// Notes whether an output's bytes came to stand on the disk, where so many calls may be made again if not.
+    fn note_sync(&mut self, name: &str, outcome: io::Result<()>, again: u32) {
+        if let Some(output) = self.outputs.get_mut(name) {
+            match outcome {
+                Ok(()) => output.unsynced = 0,
+                Err(error) if output.unsynced > again => output.lost = Some(error),
+                Err(_) => {}
+            }
+        }
+    }
+
+    /// Why bytes of an output were lost that nobody writes again, if they were.
+    fn lost(&self, name: &str) -> Option<Error> {
+        self.outputs.get(name)?.lost
+    }
+
     /// Waits until the file is on the disk, and its name too if it is new. It stays open. It fails where the name isn't
-    /// that of this file with this length any more.
+    /// that of this file with this length any more; and once it failed behind more than one call that wrote, it fails
+    /// until the file is made anew.
     pub fn sync(&mut self, name: &str) -> io::Result<()>
         ensures no_name { RefusesName name.now result }
     {
         require_file_name(name)?;
+        if let Some(error) = self.lost(name) {
+            return Err(error);
+        }
         let synced = match self.synced_length(name) {
             Some(length) => Ok(length),
             None => self.sync_bytes(name),
@@ -201,6 +226,7 @@ where
         let handle = self.handle_there(name)?;
         let length = handle.length();
         let outcome = handle.sync();
+        self.note_sync(name, outcome, 1);
         self.closed_if_failed(name, outcome)?;
         Ok(length)
     }
@@ -306,6 +332,8 @@ where
         let output = Output {
             identity,
             synced: None,
+            unsynced: 0,
+            lost: None,
         };
         if let Some(noted) = self.outputs.get_mut(name) {
             *noted = output;
@@ -345,7 +373,9 @@ where
         if self.synced_length(name).is_some() {
             return Ok(());
         }
-        handle.sync_written()?;
+        let outcome = handle.sync_written();
+        self.note_sync(name, outcome, 0);
+        outcome?;
         if let Some(output) = self.outputs.get_mut(name) {
             output.synced = Some(handle.length());
         }
