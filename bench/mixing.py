@@ -26,9 +26,9 @@ MEBIBYTE = 1 << 20
 
 # Copies by a C program: the bytes of a job, and how many are read and written at once; 0 where a job is read whole.
 COPIES = {
+    "a C program: jobs of 256 KiB, marked by 16 MiB": (16 * MEBIBYTE, MEBIBYTE // 4),
     "a C program: jobs of 16 MiB, made and then written": (16 * MEBIBYTE, 0),
     "a C program: jobs of 1 MiB, made and then written": (MEBIBYTE, 0),
-    "a C program: jobs of 16 MiB, written as they are made": (16 * MEBIBYTE, 98_304),
 }
 
 

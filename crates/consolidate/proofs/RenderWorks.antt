@@ -106,20 +106,20 @@ reopened listed of back = record {
 }
 
 -- the same marks, with other jobs
-abbrev with_jobs : Marking → ℕ → (ℕ → ℕ) → (ℕ → ℕ) → Marking
-with_jobs m jobs from end = record m { jobs = jobs; from = from; end = end }
+abbrev with_jobs : Marking → ℕ → (from end group : ℕ → ℕ) → Marking
+with_jobs m jobs from end group = record m { jobs = jobs; from = from; end = end; group = group }
 
-module _ (m : Marking) {jobs jobs' : ℕ} {from from' end end' : ℕ → ℕ} where
-  holds_so : {marked : ℕ → Bool} {file : Option (List ℕ)} → HoldsIn (with_jobs m jobs from end) marked file
-      → HoldsIn (with_jobs m jobs' from' end') marked file
+module _ (m : Marking) {jobs jobs' : ℕ} {from from' end end' group group' : ℕ → ℕ} where
+  holds_so : {marked : ℕ → Bool} {file : Option (List ℕ)} → HoldsIn (with_jobs m jobs from end group) marked file
+      → HoldsIn (with_jobs m jobs' from' end' group') marked file
   holds_so held = record {
     bytes = held.bytes;
     there = held.there;
     holds = record { size = held.holds.size; same = held.holds.same };
   }
 
-  true_so : {c d : Files} → AreTrueMarks (with_jobs m jobs from end) c d
-      → AreTrueMarks (with_jobs m jobs' from' end') c d
+  true_so : {c d : Files} → AreTrueMarks (with_jobs m jobs from end group) c d
+      → AreTrueMarks (with_jobs m jobs' from' end' group') c d
   true_so t = record {
     marks = t.marks;
     there = t.there;
@@ -312,7 +312,7 @@ module _ {S B : Type 0} (shelf : source.Ghosts S) (bench : output.Ghosts B) (x :
         all honest whole b p e done = let ends = finished_all (rw e at (out honest whole b)) done in (
           ends.1 0 (some_job x.work is.work),
           full_of x.run (bench.stored b1 marks_name) (finished_marks x (shelf.stored s0) is (done_of board)
-              (bench.may_leave b1) ends.3 (λ k lt. finished_done board ends.0 k (omega (
+              (bench.stored b1) (bench.may_leave b1) ends.3 (λ k lt. finished_done board ends.0 k (omega (
                 arith,
                 lt,
                 size,
@@ -505,7 +505,7 @@ module _ {S B : Type 0} (shelf : source.Ghosts S) (bench : output.Ghosts B) (onl
       unbegun only_now cause un (none_left (marks_of x (shelf.stored s)) (bench.may_leave b))
   not_begun_work handing (Some found) cause un = unbegun only_now cause un
       (λ st c d at other started. running_true (Some (marks_of x (shelf.stored s))) (done_before x.work)
-      (bench.may_leave b) (st (done_before x.work) (λ k lt. refl)).0 c d at other)
+      (output_view bench b) (st (done_before x.work) (λ k lt. refl)).0 c d at other)
 
   pub not_begun_keeps : (found : Option ℕ) → ((b : B) → IsTrue (bench.honest b) → bench.may_leave b (bench.stored b))
       → IsMarkedWork x → IfSome found (λ _. KeepsMarked shelf bench x s b b)
@@ -514,7 +514,7 @@ module _ {S B : Type 0} (shelf : source.Ghosts S) (bench : output.Ghosts B) (onl
       let running = (st (done_before x.work) (λ k lt. refl)).0 in
       idle (λ c at. marked_stays x (shelf.stored s) is (done_before x.work) (done_before x.work) (bench.may_leave b)
       (bench.stored b) c marks running (reads_now b whole) there
-      (running_leaves (Some (marks_of x (shelf.stored s))) (done_before x.work) (bench.may_leave b) c running
+      (running_leaves (marks_of x (shelf.stored s)) (done_before x.work) (bench.stored b) (bench.may_leave b) running c
       (only_now b c at)))
 
 -- where nothing is written what was marked stands

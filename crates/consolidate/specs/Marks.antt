@@ -30,6 +30,7 @@ file_marking range whole run = record {
   jobs = 0;
   from = λ _. 0;
   end = λ _. 0;
+  group = λ job. job;
   marks = marks_name;
   head = head_of run;
 }

@@ -79,7 +79,7 @@ ClipsWork marked sources clips = (marks : List Bool) → All (IsUniform marks) m
 abbrev pub StandsAsMarked : MarkedWork → (sources stored : Files) → (Files → Type 0) → Type 0
 StandsAsMarked marked sources stored outcomes = (done : ℕ → Bool)
     → ((k : ℕ) → k < (work_of marked.work).count → done k ≡ done_before marked.work k)
-    → IsRunning (marks_of marked sources) done outcomes
+    → IsRunning (marks_of marked sources) done stored outcomes
     × AreFilled (jobs_over (plan_of marked).jobs sources) ((plan_of marked).whole sources) done stored
 
 module _ {S B : Type 0} (shelf : source.Ghosts S) (bench : output.Ghosts B) where
@@ -194,7 +194,7 @@ pub record OpensMarks {B : Type 0} (bench : output.Ghosts B) (approach : Approac
   pub unstarted : IsTrue (bench.honest before) → (sources : Files) → StartsBy approach (bench.may_leave before) ⊤
       → IfOk result (λ found. found ≡ None → NoneStartedBy (Some (marks_of x sources)) (bench.may_leave now))
   pub running : HoldsOfDone bench was x before result
-      (λ sources done. IsRunning (marks_of x sources) done (bench.may_leave now))
+      (λ sources done. IsRunning (marks_of x sources) done (bench.stored now) (bench.may_leave now))
   pub filled : HoldsOfDone bench was x before result (λ sources done. AreFilled (jobs_over (plan_of x).jobs sources)
       ((plan_of x).whole sources) done (bench.stored now))
   pub cut : IfAgain approach (IsTrue (bench.honest before)) → IfOk result (λ found. IfSome found (λ _. (marked : List

@@ -50,6 +50,7 @@ whole_output plan sources name =
 abbrev pub job_plan : MediaPlan → JobPlan
 job_plan plan = record {
   jobs = work_of plan;
+  group = λ k. k;
   marks = false;
   marking = λ _. None;
   whole = whole_output plan;

@@ -22,6 +22,10 @@ impl<'a> JobMaker for Consolidation<'a> {
         self.length(piece)
     }
 
+    fn group(&self, job: u32) -> u32 {
+        job
+    }
+
     fn frames(&self, job: u32) -> u64 {
         let piece = self.piece(job);
         u64::from(piece.frames)
@@ -40,7 +44,13 @@ impl<'a> JobMaker for Consolidation<'a> {
         }
     }
 
-    fn write<B: Bench>(&mut self, job: u32, bytes: &[u8], bench: &mut B) -> Result<(), PlaceFault> {
+    fn write<B: Bench>(
+        &mut self,
+        job: u32,
+        bytes: &[u8],
+        _last: bool,
+        bench: &mut B,
+    ) -> Result<(), PlaceFault> {
         let piece = self.piece(job);
         match Consolidation::write(self, piece, bytes, bench) {
             Ok(()) => Ok(()),

@@ -13,7 +13,8 @@ use Rattle.job_terms.specs.declared.Ticket.{Ticket}
 use Rattle.job_terms.specs.Board.{Board, accepted, can_give, faulted, is_current, is_done, is_givable, is_last_fault, is_open, is_out, job_at, no_job, reopened, ticket_of, with_job}
 use Rattle.job_terms.specs.Workers as w
 use Rattle.job_terms.specs.Workers.{BoardStep, CantMake, CantMark, CantWrite, DeliverStep, Delivers, End, GivenUp, Gives, GiveStep, Hand, HasNoBytes, HasNoJob, Holds, IsStale, Jobs, Made, Makes, NoneLeft, Nothing, Puts, State, World, WorkStep, after_fault, with_hand}
-use Rattle.execution.specs.Marking.{done_of, with_done}
+use Rattle.execution.specs.Marking.{done_of}
+use Rattle.execution.specs.Together.{with_done}
 
 -- ---- jobs that aren't done
 

@@ -10,3 +10,4 @@ mod RoundEvents
 mod Rounds
 mod Runs
 mod Sound
+mod Together

@@ -5,16 +5,16 @@ use Rattle.work_terms.specs.Disk.{Files}
 use Rattle.job_terms.specs.Workers.{End, GivenUp, MarkFailed}
 use Rattle.devices.specs.ViewLaws.{crashes_none, crashes_then, crashes_weaker}
 use Rattle.devices.specs.Views.{CrashesLeave, OutputView}
-use Rattle.execution.specs.MarkingLaws.{running_leaves}
+use Rattle.execution.specs.MarkingLaws.{leaves_now}
 use Rattle.execution.specs.declared.fault.PlaceFault.{PlaceFault}
-use Rattle.execution.specs.Marking.{IsRunningBy, LeavesBy, Marking, Marks, MarksOn, RunsOn, done_by}
+use Rattle.execution.specs.Marking.{IsRunningBy, Leaves, LeavesBy, Marking, Marks, MarksOn, RunsOn, done_by, settled}
+use Rattle.execution.specs.TogetherLaws.{settled_more}
 
 -- between moments that are further apart
-pub leaves-wider : (m : Option Marking) (before after earlier later : ℕ → Bool) (c : Files)
+pub leaves-wider : (m : Marking) (before after earlier later : ℕ → Bool) (c : Files)
     → ((k : ℕ) → earlier k ≡ true → before k ≡ true) → ((k : ℕ) → after k ≡ true → later k ≡ true)
-    → LeavesBy m before after c → LeavesBy m earlier later c
-leaves-wider None before after earlier later c e l r = tt
-leaves-wider (Some m) before after earlier later c e l r = record {
+    → Leaves m before after c → Leaves m earlier later c
+leaves-wider m before after earlier later c e l r = record {
   marks = r.marks;
   there = r.there;
   ours = r.ours;
@@ -23,17 +23,24 @@ leaves-wider (Some m) before after earlier later c e l r = record {
   wave = r.wave;
 }
 
+pub leaves-wider-by : (m : Option Marking) (before after earlier later : ℕ → Bool) (c : Files)
+    → ((k : ℕ) → earlier k ≡ true → before k ≡ true) → ((k : ℕ) → after k ≡ true → later k ≡ true)
+    → LeavesBy m before after c → LeavesBy m earlier later c
+leaves-wider-by None before after earlier later c e l r = tt
+leaves-wider-by (Some m) before after earlier later c e l r = leaves-wider m (settled m before) (settled m after)
+    (settled m earlier) (settled m later) c (settled_more m earlier before e) (settled_more m after later l) r
+
 -- one stretch of moments after another, along which what is done stays done
 pub moments-then : (m : Option Marking) (first mid last : ℕ → Bool) (a b c : OutputView)
     → ((k : ℕ) → first k ≡ true → mid k ≡ true) → ((k : ℕ) → mid k ≡ true → last k ≡ true)
     → CrashesLeave (LeavesBy m first mid) a b → CrashesLeave (LeavesBy m mid last) b c
     → CrashesLeave (LeavesBy m first last) a c
 moments-then m first mid last a b c on after one two = crashes_then {mid = b}
-    (crashes_weaker _ _ (λ f. leaves-wider m first mid first last f (λ k h. h) after) one)
-    (crashes_weaker _ _ (λ f. leaves-wider m mid last first last f on (λ k h. h)) two)
+    (crashes_weaker _ _ (λ f. leaves-wider-by m first mid first last f (λ k h. h) after) one)
+    (crashes_weaker _ _ (λ f. leaves-wider-by m mid last first last f on (λ k h. h)) two)
 
 -- an end that is no failed mark
-pub runs-ended : (ended : Option End) (m : Option Marking) (done : ℕ → Bool) (o : Files → Type 0)
+pub runs-ended : (ended : Option End) (m : Option Marking) (done : ℕ → Bool) (o : OutputView)
     → (ended ≡ Some MarkFailed → ⊥) → IsRunningBy m done o → RunsOn m done o ended
 runs-ended None m done o no_mark h = h
 runs-ended (Some (GivenUp job)) m done o no_mark h = h
@@ -45,17 +52,17 @@ IsUpToDate o = (c : Files) → o.left_since o.moment c → o.may_leave c
 
 -- nothing was written, and as much is done
 pub marks-quiet : {m : Option Marking} {done now : ℕ → Bool} {o : OutputView} {ended : Option End} → IsUpToDate o
-    → (ended ≡ Some MarkFailed → ⊥) → ((k : ℕ) → now k ≡ done k) → IsRunningBy m done o.may_leave
+    → (ended ≡ Some MarkFailed → ⊥) → ((k : ℕ) → now k ≡ done k) → IsRunningBy m done o
     → MarksOn m done o now o ended
 marks-quiet {m = m} {done = done} {o = o} {ended = ended} only no_mark same run = rw (fun_ext same) (record {
-  now = runs-ended ended m done o.may_leave no_mark run;
-  moments = crashes_none (LeavesBy m done done) o (λ c l. running_leaves m done o.may_leave c run (only c l));
+  now = runs-ended ended m done o no_mark run;
+  moments = crashes_none (LeavesBy m done done) o (λ c l. leaves_now m done o c run (only c l));
 })
 
 -- a job was placed, or couldn't be, in one of these ways
 pub marks-placed : {m : Option Marking} {done now : ℕ → Bool} {job : ℕ} {old new : OutputView}
     {result : Result (Unit {0}) PlaceFault} {ended : Option End} → ((k : ℕ) → done_by done job result k ≡ now k)
-    → RunsOn m (done_by done job result) new.may_leave ended → Marks m done job old new result
+    → RunsOn m (done_by done job result) new ended → Marks m done job old new result
     → MarksOn m done old now new ended
 marks-placed {m = m} {done = done} {old = old} {new = new} {ended = ended} same runs h =
     subst (λ d. MarksOn m done old d new ended) (fun_ext same) (record { now = runs; moments = h.moments })

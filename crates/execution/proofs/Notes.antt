@@ -3,7 +3,7 @@ use Rattle.std.proofs.Common.{◌≡◌, ◌∙◌, ◌==◌, ℕ, Bool, true, f
 use Rattle.std.proofs.lemmas.Bool.Decides.{eqb_tells}
 use Rattle.job_terms.specs.declared.Ticket.{Ticket}
 use Rattle.job_terms.specs.Workers.{Hand, Made, Nothing}
-use Rattle.execution.specs.Marking.{with_done}
+use Rattle.execution.specs.Together.{with_done}
 use Rattle.execution.specs.Noted.{IsNoted, KeepsNotes, alone}
 use Rattle.execution.proofs.Runs.{TurnsHand}
 

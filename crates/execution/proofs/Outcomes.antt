@@ -11,7 +11,7 @@ use Rattle.execution.specs.BoardLaws.{finished_done}
 use Rattle.execution.specs.Ends.{end_of}
 use Rattle.execution.specs.EventRun.{MarkFails, Performed, Snapshot, snapshot_of, state_at}
 use Rattle.execution.specs.Filled.{AreApart, AreFilled, IsGood}
-use Rattle.execution.specs.Marking.{LaysBy, LeavesBy, Marking, MarksOn, done_of}
+use Rattle.execution.specs.Marking.{LaysBy, LeavesBy, Marking, MarksOn, done_of, settled}
 use Rattle.execution.specs.Maker.{Finishes, LaysOut}
 use Rattle.execution.specs.Outcome.{EventsDone, Executed, Finished, HasFailed, HasFinished, IsMarked, IsResting, NotFinished, NotLaidOut, Outcome, OutputFails, Resumed, SetsBy, Stopped, StopsWith}
 use Rattle.execution.specs.Plan.{AreBlank, IsForeign, JobPlan, SourcesFit, Stays}
@@ -199,12 +199,12 @@ blank-filled jobs whole done files none blank = record {
 -- marks between two moments, and while files are laid out, are set only for what is done later
 leaves-sets : (m : Option Marking) (before after : ℕ → Bool) (c : Files) → LeavesBy m before after c → SetsBy m after c
 leaves-sets None before after c l = tt
-leaves-sets (Some m) before after c l = λ started. leaves-wider (Some m) before after (λ _. false) after c (λ k e. cc)
-    (λ k on. on) l
+leaves-sets (Some m) before after c l = λ started. leaves-wider m (settled m before) (settled m after) (λ _. false)
+    (settled m after) c (λ k e. cc) (λ k on. on) l
 
 lays-sets : (m : Option Marking) (after : ℕ → Bool) (c : Files) → LaysBy m c → SetsBy m after c
 lays-sets None after c h = tt
-lays-sets (Some m) after c h = λ started. leaves-wider (Some m) (λ _. false) (λ _. false) (λ _. false) after c
+lays-sets (Some m) after c h = λ started. leaves-wider m (λ _. false) (λ _. false) (λ _. false) (settled m after) c
     (λ k on. on) (λ k e. cc) (h started)
 
 -- no output was laid out

@@ -61,7 +61,7 @@ pub record WorkerStep (by : State → Hand → State → Hand → Type 0) (turn 
   pub taken : IsTrue old.source.honest → IsTrue old.output.honest → by (state_at old None) hand (state_at new ended)
       now
   pub marks : IsTrue old.source.honest → IsTrue old.output.honest → IsRight (jobs_of old) hand
-      → IsRunningBy (marking_of old) (done_of old.board) old.output.may_leave
+      → IsRunningBy (marking_of old) (done_of old.board) old.output
       → MarksOn (marking_of old) (done_of old.board) old.output (done_of new.board) new.output ended
 
 -- what a worker may do, and the event that it is
@@ -87,7 +87,7 @@ pub record EventRun (old : Snapshot) (had : ℕ → Hand) (events : List BoardEv
   pub run : IsTrue old.source.honest → IsTrue old.output.honest → Leads (λ world next. BoardRun old.plan.marks
       (jobs_of old) world events next) (state_at old None) had (state_at new ended) has
   pub marks : IsTrue old.source.honest → IsTrue old.output.honest → ((v : ℕ) → IsRight (jobs_of old) (had v))
-      → IsRunningBy (marking_of old) (done_of old.board) old.output.may_leave
+      → IsRunningBy (marking_of old) (done_of old.board) old.output
       → MarksOn (marking_of old) (done_of old.board) old.output (done_of new.board) new.output ended
 
 -- the events that are done: these, or as many rounds of the worker 1 as so many jobs can take

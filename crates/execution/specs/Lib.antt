@@ -15,6 +15,8 @@ pub mod Outcome
 pub mod OutcomeLaws
 pub mod Plan
 pub mod Shops
+pub mod Together
+pub mod TogetherLaws
 pub mod Turns
 pub mod View
 pub mod Worlds

@@ -13,7 +13,7 @@ pub record LaysOut (plan : JobPlan) (old new : OutputView) (result : Result (Uni
   pub laid : IsTrue old.honest → (sources : Files) → SourcesFit plan sources
       → OnOk result (AreBlank (jobs_over plan.jobs sources) (plan.whole sources) new.files)
   pub marks : IsTrue old.honest → (sources : Files) → (done : ℕ → Bool) → ((k : ℕ) → k < plan.jobs.count → done k ≡ false)
-      → OnOk result (IsRunningBy (plan.marking sources) done new.may_leave)
+      → OnOk result (IsRunningBy (plan.marking sources) done new)
   pub any_moment : IsTrue old.honest → (sources : Files) → NoneStartedBy (plan.marking sources) old.may_leave
       → CrashesLeave (LaysBy (plan.marking sources)) old new
   pub left : IsTrue old.honest → (sources : Files) → NoneStartedBy (plan.marking sources) old.may_leave
@@ -31,7 +31,7 @@ pub record Finishes (plan : JobPlan) (old new : OutputView) (result : Result (Un
   pub marks_durable : IsTrue old.honest → (sources : Files) (m : Marking) → plan.marking sources ≡ Some m
       → OnOk result (IsDurable m.marks new.files new.may_leave)
   pub marks : IsTrue old.honest → (sources : Files) (done : ℕ → Bool)
-      → IsRunningBy (plan.marking sources) done old.may_leave → IsRunningBy (plan.marking sources) done new.may_leave
+      → IsRunningBy (plan.marking sources) done old → IsRunningBy (plan.marking sources) done new
   pub any_moment : IsTrue old.honest → (sources : Files) (done : ℕ → Bool)
-      → IsRunningBy (plan.marking sources) done old.may_leave
+      → IsRunningBy (plan.marking sources) done old
       → CrashesLeave (LeavesBy (plan.marking sources) done done) old new

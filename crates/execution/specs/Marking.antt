@@ -1,5 +1,5 @@
 -- Marks: which jobs are done, in a file of their own, and what a crash may leave of the output that they speak of.
-use Rattle.std.specs.Prelude.{◌≡◌, ◌≢◌, ℕ, ◌+◌, ◌<◌, ◌≤◌, Bool, true, false, cond, ◌&&◌, ◌==◌, nat_le, Option, None, Some, List, ◌∷◌, length, take, slice_index_or, Result, Ok, Err, ⊤}
+use Rattle.std.specs.Prelude.{◌≡◌, ◌≢◌, ℕ, ◌+◌, ◌<◌, ◌≤◌, Bool, true, false, ◌&&◌, ◌==◌, nat_le, Option, None, Some, List, ◌∷◌, length, take, slice_index_or, Result, Ok, Err, ⊤}
 use Rattle.work_terms.specs.Disk.{Files}
 use Rattle.job_terms.specs.Board.{Board, job_at, is_done}
 use Rattle.job_terms.specs.Workers.{End, Jobs, Hand, Nothing, Made}
@@ -7,9 +7,11 @@ use Rattle.devices.specs.Views.{CrashesLeave, OutputView}
 use Rattle.job_terms.specs.Workers as words
 use Rattle.execution.specs.declared.fault.PlaceFault.{PlaceFault}
 use Rattle.execution.specs.declared.fault.PlaceFault.TheVariants.{Mark, Write}
+use Rattle.execution.specs.Together.{are_done, with_done}
 
 -- an output that is marked block by block: its name, all its bytes, and the span of each block; how many jobs there
--- are, and the blocks of each, from one on up to, and without, another; the marks' name and the bytes 1 to 43
+-- are, and the blocks of each, from one on up to, and without, another; the first of those that are marked together with
+-- each; the marks' name and the bytes 1 to 43
 pub record Marking : Type 0 where
   pub name : List ℕ
   pub whole : List ℕ
@@ -19,6 +21,7 @@ pub record Marking : Type 0 where
   pub jobs : ℕ
   pub from : ℕ → ℕ
   pub end : ℕ → ℕ
+  pub group : ℕ → ℕ
   pub marks : List ℕ
   pub head : List ℕ
 
@@ -42,14 +45,32 @@ pub record IsMarkFile (m : Marking) (marks : List ℕ) : Type 0 where
   pub front : take 44 marks ≡ 1 ∷ m.head
   pub size : length marks ≡ 44 + m.count
 
--- between two events: nothing is pending in the marks, which are set for just the blocks of jobs that are done; what is
--- pending in the output lies in the others
-pub record IsRunning (m : Marking) (done : ℕ → Bool) (outcomes : Files → Type 0) : Type 0 where
+-- the blocks of a job are marked once it is done with all that are marked together with it
+abbrev pub settled : Marking → (ℕ → Bool) → ℕ → Bool
+settled m = are_done m.jobs m.group
+
+-- no job that isn't done has this byte
+abbrev pub IsDoneAt : Marking → (ℕ → Bool) → ℕ → Type 0
+IsDoneAt m done i = (job b : ℕ) → job < m.jobs → m.from job ≤ b → b < m.end job → m.first b ≤ i → i < m.last b
+    → done job ≡ true
+
+-- the bytes of each job that is done stand in the output, marked or not
+pub record HoldsDone (m : Marking) (done : ℕ → Bool) (file : Option (List ℕ)) : Type 0 where
+  pub bytes : List ℕ
+  pub there : file ≡ Some bytes
+  pub size : length bytes ≡ length m.whole
+  pub same : (i : ℕ) → IsDoneAt m done i → slice_index_or bytes i 0 ≡ slice_index_or m.whole i 0
+
+-- between two events: nothing is pending in the marks, which are set for just the blocks of jobs that are done with all
+-- that are marked together with them; what is pending in the output lies in the others; and as it is read it has the
+-- bytes of each job that is done
+pub record IsRunning (m : Marking) (done : ℕ → Bool) (files : Files) (outcomes : Files → Type 0) : Type 0 where
   pub marks : List ℕ
   pub ours : IsMarkFile m marks
-  pub tell : (job b : ℕ) → job < m.jobs → m.from job ≤ b → b < m.end job → is_marked marks b ≡ done job
+  pub tell : (job b : ℕ) → job < m.jobs → m.from job ≤ b → b < m.end job → is_marked marks b ≡ settled m done job
   pub kept : (c : Files) → outcomes c → c m.marks ≡ Some marks
   pub wave : (c : Files) → outcomes c → HoldsIn m (is_marked marks) (c m.name)
+  pub stands : HoldsDone m done (files m.name)
 
 -- the marks of one outcome of a crash are whole marks of the run, and true of another's output: each block that they
 -- mark stands there, and all that is outside the blocks
@@ -63,9 +84,8 @@ pub record AreTrueMarks (m : Marking) (c d : Files) : Type 0 where
 abbrev pub AreTrueOfAll : Marking → (Files → Type 0) → Type 0
 AreTrueOfAll m outcomes = (c d : Files) → outcomes c → outcomes d → AreTrueMarks m c d
 
--- at a moment between two: the marks are this run's and true of the output; those of jobs that were done before are
--- set,
--- and no other but of jobs that are done after
+-- at a moment between two: the marks are this run's and true of the output; those of jobs that were settled before are
+-- set, and no other but of jobs that are settled after
 pub record Leaves (m : Marking) (before after : ℕ → Bool) (c : Files) : Type 0 where
   pub marks : List ℕ
   pub there : c m.marks ≡ Some marks
@@ -76,20 +96,20 @@ pub record Leaves (m : Marking) (before after : ℕ → Bool) (c : Files) : Type
       true
   pub wave : HoldsIn m (is_marked marks) (c m.name)
 
--- a mark failed: in each outcome the marks are set for just the blocks of jobs that are done, but for this one, which
--- is done
--- and of which any may be marked; and they are true of the output of every outcome
+-- a mark failed: in each outcome the marks are set as between two events, but for those of this job, which is done, and
+-- of all that are marked together with it, of which any may be marked; and they are true of the output of every outcome
 pub record IsBroken (m : Marking) (done : ℕ → Bool) (outcomes : Files → Type 0) : Type 0 where
   pub job : ℕ
-  pub is_done : done job ≡ true
+  pub is_done : settled m done job ≡ true
   pub true_of_all : AreTrueOfAll m outcomes
-  pub tell : (c d : Files) (at : outcomes c) (other : outcomes d) (j b : ℕ) → j < m.jobs → j ≢ job → m.from j ≤ b
-      → b < m.end j → is_marked (true_of_all c d at other).marks b ≡ done j
+  pub tell : (c d : Files) (at : outcomes c) (other : outcomes d) (j b : ℕ) → j < m.jobs
+      → m.group j ≢ m.group job → m.from j ≤ b → b < m.end j
+      → is_marked (true_of_all c d at other).marks b ≡ settled m done j
 
 -- a work without marks promises nothing of a crash
-abbrev pub IsRunningBy : Option Marking → (ℕ → Bool) → (Files → Type 0) → Type 0
-IsRunningBy None done outcomes = ⊤
-IsRunningBy (Some m) done outcomes = IsRunning m done outcomes
+abbrev pub IsRunningBy : Option Marking → (ℕ → Bool) → OutputView → Type 0
+IsRunningBy None done view = ⊤
+IsRunningBy (Some m) done view = IsRunning m done view.files view.may_leave
 
 abbrev pub AreTrueOfAllBy : Option Marking → (Files → Type 0) → Type 0
 AreTrueOfAllBy None outcomes = ⊤
@@ -101,18 +121,14 @@ IsBrokenBy (Some m) done outcomes = IsBroken m done outcomes
 
 abbrev pub LeavesBy : Option Marking → (before after : ℕ → Bool) → Files → Type 0
 LeavesBy None before after c = ⊤
-LeavesBy (Some m) before after c = Leaves m before after c
-
--- one job more is done
-abbrev pub with_done : (ℕ → Bool) → ℕ → ℕ → Bool
-with_done done job k = cond (k == job) true (done k)
+LeavesBy (Some m) before after c = Leaves m (settled m before) (settled m after) c
 
 -- with the job done, or as before where it couldn't be written; where its mark failed the blocks of the job stand, and
 -- any of them may be marked
-abbrev pub GoesOn : {X : Type 0} → Option Marking → (ℕ → Bool) → ℕ → (Files → Type 0) → Result X PlaceFault → Type 0
-GoesOn m done job outcomes (Ok _) = IsRunningBy m (with_done done job) outcomes
-GoesOn m done job outcomes (Err Write) = IsRunningBy m done outcomes
-GoesOn m done job outcomes (Err Mark) = IsBrokenBy m (with_done done job) outcomes
+abbrev pub GoesOn : {X : Type 0} → Option Marking → (ℕ → Bool) → ℕ → OutputView → Result X PlaceFault → Type 0
+GoesOn m done job view (Ok _) = IsRunningBy m (with_done done job) view
+GoesOn m done job view (Err Write) = IsRunningBy m done view
+GoesOn m done job view (Err Mark) = IsBrokenBy m (with_done done job) view.may_leave
 
 abbrev pub done_of : Board → ℕ → Bool
 done_of board k = is_done (job_at board k).standing
@@ -124,15 +140,15 @@ IsRight jobs (words.Holds ticket) = ⊤
 IsRight jobs (Made ticket bytes) = bytes ≡ jobs.bytes ticket.job
 
 -- after an event, also where it ended the run by a third fault; where a mark failed, what is marked still stands
-abbrev pub RunsOn : Option Marking → (ℕ → Bool) → (Files → Type 0) → Option End → Type 0
-RunsOn m done outcomes None = IsRunningBy m done outcomes
-RunsOn m done outcomes (Some (words.GivenUp job)) = IsRunningBy m done outcomes
-RunsOn m done outcomes (Some words.MarkFailed) = IsBrokenBy m done outcomes
+abbrev pub RunsOn : Option Marking → (ℕ → Bool) → OutputView → Option End → Type 0
+RunsOn m done view None = IsRunningBy m done view
+RunsOn m done view (Some (words.GivenUp job)) = IsRunningBy m done view
+RunsOn m done view (Some words.MarkFailed) = IsBrokenBy m done view.may_leave
 
 -- what becomes of marks from one moment to a later one, by the jobs that are done at either and by how the run ended
 pub record MarksOn (m : Option Marking) (before : ℕ → Bool) (old : OutputView) (after : ℕ → Bool) (new : OutputView)
     (ended : Option End) : Type 0 where
-  pub now : RunsOn m after new.may_leave ended
+  pub now : RunsOn m after new ended
   pub moments : CrashesLeave (LeavesBy m before after) old new
 
 -- what is done once a job is placed, or wasn't written
@@ -145,7 +161,7 @@ done_by done job (Err Mark) = with_done done job
 pub record Marks {X : Type 0} (m : Option Marking) (done : ℕ → Bool) (job : ℕ) (old new : OutputView)
     (result : Result X PlaceFault)
     : Type 0 where
-  pub goes_on : GoesOn m done job new.may_leave result
+  pub goes_on : GoesOn m done job new result
   pub moments : CrashesLeave (LeavesBy m done (done_by done job result)) old new
 
 -- marks are started once their front is whole and the gate open

@@ -11,7 +11,7 @@ use Rattle.execution.specs.Ends.{StopsBefore, end_of}
 use Rattle.execution.specs.EventRun.{MarkFails, Snapshot, jobs_of, marking_of}
 use Rattle.execution.specs.Filled.{AreApart, AreFilled}
 use Rattle.execution.specs.Laws.{KeepsLaws}
-use Rattle.execution.specs.Marking.{AreLeftBy, IsRunningBy, Leaves, LeavesBy, Marking, NoneStartedBy, RunsOn, done_of, is_started}
+use Rattle.execution.specs.Marking.{AreLeftBy, IsRunningBy, Leaves, LeavesBy, Marking, NoneStartedBy, RunsOn, done_of, is_started, settled}
 use Rattle.execution.specs.Plan.{AreBlank, AreDurable, HoldJobs, HoldLast, IsAt, IsForeign, IsLast, IsOwn, JobPlan, SourcesFit, Stays}
 use Rattle.execution.specs.Worlds.{Leads, state_of}
 use Rattle.execution.specs.declared.fault.ExecutionFault.{ExecutionFault}
@@ -98,12 +98,12 @@ pub data Outcome (Begins : Files → Type 0) (events : List BoardEvent) (old : S
   Stopped : (stale count : ℕ) → EventsDone Begins events old had new.board new.output.files new.source.failures
       new.output.failures stale count (end_of result)
       → StopsWith events count new.board stale result → Writes (Stays old.plan) old.output new.output
-      → RunsOn (marking_of old) (done_of new.board) new.output.may_leave (end_of result)
+      → RunsOn (marking_of old) (done_of new.board) new.output (end_of result)
       → Outcome Begins events old had new untouched result
   NotFinished : (file stale count failures : ℕ) (files : Files) → EventsDone Begins events old had new.board files
       new.source.failures failures stale count None → is_finished new.board ≡ true → result ≡ Err (fault.Output file)
       → ((n : List ℕ) → IsOwn old.plan n → new.output.files n ≡ files n) → Rises failures new.output.failures
-      → IsRunningBy (marking_of old) (done_of new.board) new.output.may_leave
+      → IsRunningBy (marking_of old) (done_of new.board) new.output
       → Outcome Begins events old had new untouched result
   Finished : (stale count : ℕ) (files : Files) → EventsDone Begins events old had new.board files
       new.source.failures new.output.failures stale count None → is_finished new.board ≡ true
@@ -111,7 +111,7 @@ pub data Outcome (Begins : Files → Type 0) (events : List BoardEvent) (old : S
       → ((n : List ℕ) → IsOwn old.plan n → new.output.files n ≡ files n)
       → HoldLast old.plan old.source.files new.output.files
       → AreDurable old.plan new.output.files new.output.may_leave
-      → IsRunningBy (marking_of old) (done_of new.board) new.output.may_leave
+      → IsRunningBy (marking_of old) (done_of new.board) new.output
       → Outcome Begins events old had new untouched result
 
 -- What a whole call leaves: its outcome, where it began so, and what a crash leaves at any moment, where the marks were
@@ -137,7 +137,7 @@ pub record IsUnstarted (old : Snapshot) (had : ℕ → Hand) : Type 0 where
 -- marks that are started: none was set at first, and only those of jobs that are done are
 abbrev pub SetsBy : Option Marking → (ℕ → Bool) → Files → Type 0
 SetsBy None after c = ⊤
-SetsBy (Some m) after c = is_started (c m.marks) ≡ true → Leaves m (λ _. false) after c
+SetsBy (Some m) after c = is_started (c m.marks) ≡ true → Leaves m (λ _. false) (settled m after) c
 
 -- what the whole of a work leaves, from its first write on
 abbrev pub Executed : List BoardEvent → Snapshot → (ℕ → Hand) → Snapshot → Type 0 → Result Progress ExecutionFault
@@ -149,7 +149,7 @@ Executed events old had new untouched result = IsCall (AreBlank (jobs_of old) (w
 -- no worker holds anything, and the marks say what is done
 pub record IsMarked (old : Snapshot) (had : ℕ → Hand) : Type 0 where
   pub idle : (w : ℕ) → had w ≡ Nothing
-  pub running : IsRunningBy (marking_of old) (done_of old.board) old.output.may_leave
+  pub running : IsRunningBy (marking_of old) (done_of old.board) old.output
 
 -- and what is done stands in the outputs
 pub record IsResting (old : Snapshot) (had : ℕ → Hand) : Type 0 where

@@ -21,7 +21,7 @@ pub finished_all : {Begins : Files → Type 0} {events : List BoardEvent} {old n
     → progress.finished ≡ true
     → (is_finished new.board ≡ true) × HoldJobs old.plan old.source.files new.output.files
     × HoldLast old.plan old.source.files new.output.files
-    × IsRunningBy (marking_of old) (done_of new.board) new.output.may_leave
+    × IsRunningBy (marking_of old) (done_of new.board) new.output
 finished_all (NotLaidOut file un is same quiet writes laid) done = absurd (cc)
 finished_all (Stopped stale count did stops writes runs) done =
     absurd (false≢true (sym stops.1 ∙ (rw stops.0 at done)))
@@ -42,10 +42,10 @@ leaves_marks Begins events old had new untouched result (NotLaidOut file un is s
     laid (none un)
 leaves_marks Begins events old had new untouched result (Stopped stale count did stops writes runs) none =
     left_of_all (marking_of old) new.output.may_leave
-    (runs_true (end_of result) (marking_of old) (done_of new.board) new.output.may_leave runs)
+    (runs_true (end_of result) (marking_of old) (done_of new.board) new.output runs)
 leaves_marks Begins events old had new untouched result (NotFinished file stale count failures files did all is own rose
     runs) none = left_of_all (marking_of old) new.output.may_leave
-    (running_true (marking_of old) (done_of new.board) new.output.may_leave runs)
+    (running_true (marking_of old) (done_of new.board) new.output runs)
 leaves_marks Begins events old had new untouched result (Finished stale count files did all is own last durable runs)
     none = left_of_all (marking_of old) new.output.may_leave
-    (running_true (marking_of old) (done_of new.board) new.output.may_leave runs)
+    (running_true (marking_of old) (done_of new.board) new.output runs)

@@ -5,10 +5,12 @@ use Rattle.job_terms.specs.Workers.{Jobs, JobsBy, jobs_over}
 use Rattle.execution.specs.Filled.{AreParts}
 use Rattle.execution.specs.Marking.{Marking}
 
--- its jobs, whether a job that is done gets a mark, the marks and all bytes of each output by what the sources hold;
--- and the names of its outputs by number, of which those from `last` on come last, in this order
+-- its jobs, the first of those that are marked together with each, whether jobs that are done get marks, the marks and
+-- all bytes of each output by what the sources hold; and the names of its outputs by number, of which those from `last`
+-- on come last, in this order
 pub record JobPlan : Type 0 where
   pub jobs : JobsBy
+  pub group : ℕ → ℕ
   pub marks : Bool
   pub marking : Files → Option Marking
   pub whole : Files → List ℕ → List ℕ

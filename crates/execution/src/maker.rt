@@ -7,6 +7,7 @@ ghost use Rattle.execution.specs.Maker.{Finishes, LaysOut};
 ghost use Rattle.execution.specs.Marking.{IsRunningBy, Marking, Marks};
 ghost use Rattle.execution.specs.Noted.{StillIs, StillNoted};
 ghost use Rattle.execution.specs.Plan.{IsAt, IsForeign, JobPlan, Stays};
+ghost use Rattle.execution.specs.Together.{AreGroups, are_done, with_done};
 ghost use Rattle.execution.specs.Worlds.{IsPlaced};
 
 use crate::{OutputFault, PlaceFault};
@@ -32,6 +33,12 @@ pub trait JobMaker {
         requires { job < (plan self.now).jobs.count }
         ensures { result ≡ (plan self.now).jobs.size job };
 
+    /// The first of the jobs that are marked together with this one. All between are marked with them.
+    fn group(&self, job: u32) -> u32
+        requires { job < (plan self.now).jobs.count }
+        ensures first { result ≡ (plan self.now).group job }
+        ensures groups { AreGroups (plan self.now).jobs.count (plan self.now).group };
+
     /// How many frames the job has: what is reported to a watch.
     fn frames(&self, job: u32) -> u64
         requires { job < (plan self.now).jobs.count };
@@ -54,8 +61,15 @@ pub trait JobMaker {
             → noted self.new (S.stored shelf.old) k }
         ensures only_reads { OnlyReads S.Shelf shelf.old shelf.new result (λ _. ⊤) (λ _ failed. ⊤) };
 
-    /// Writes the bytes of the job at its place, and marks it.
-    fn write<B: Bench>(&mut self, job: u32, bytes: &[u8], bench: &mut B) -> Result<(), PlaceFault>
+    /// Writes the bytes of the job at its place; where it is the last of those that are marked together, makes their
+    /// bytes durable and marks them.
+    fn write<B: Bench>(
+        &mut self,
+        job: u32,
+        bytes: &[u8],
+        last: bool,
+        bench: &mut B,
+    ) -> Result<(), PlaceFault>
         requires there { job < (plan self.old).jobs.count }
         requires room { length bytes.now ≡ (plan self.old).jobs.size job }
         ensures placed { IsTrue (B.honest bench.old) → IsPlaced (plan self.old).jobs (plan self.old).marks job bytes.now
@@ -65,7 +79,8 @@ pub trait JobMaker {
         ensures keeps { StillNoted noted self.old self.new }
         ensures marks { IsTrue (B.honest bench.old) → (sources : Files) (done : ℕ → Bool)
             → bytes.now ≡ (plan self.old).jobs.bytes sources job → done job ≡ false
-            → IsRunningBy ((plan self.old).marking sources) done (B.may_leave bench.old)
+            → last ≡ are_done (plan self.old).jobs.count (plan self.old).group (with_done done job) job
+            → IsRunningBy ((plan self.old).marking sources) done (output_view B.Bench bench.old)
             → Marks ((plan self.old).marking sources) done job (output_view B.Bench bench.old)
             (output_view B.Bench bench.new) result }
         ensures only_marks { IsErrOf result PlaceFault.Mark → IsTrue (plan self.old).marks }

@@ -12,6 +12,7 @@ ghost use Rattle.execution.specs.Plan.{Stays};
 ghost use Rattle.execution.specs.EventRun.{MarkFails};
 ghost use Rattle.execution.specs.Desks.{FitsHand, FitsRoom};
 ghost use Rattle.execution.specs.Alone.{Turned};
+ghost use Rattle.execution.specs.Together.{are_done, with_done};
 ghost use Rattle.execution.specs.Turns.{DeliverTurn, WorkTurn};
 ghost use Rattle.execution.specs.Worlds.{state_of};
 ghost use Rattle.devices.specs.Views.{Reads, Writes, output_view, source_view};
@@ -138,6 +139,24 @@ fn accept(board: &mut Board, ticket: Ticket)
     let _ = board.deliver(ticket);
 }
 
+/// Whether all other jobs are done of those that are marked together with this one.
+fn is_last<W: JobMaker>(maker: &W, board: &Board, job: u32) -> bool
+    requires { job < (W.plan maker.now).jobs.count }
+    ensures { result ≡ are_done (W.plan maker.now).jobs.count (W.plan maker.now).group
+        (with_done (done_of board.now) job) job }
+{
+    let first = maker.group(job);
+    for other in first..maker.count() {
+        if maker.group(other) != first {
+            return true;
+        }
+        if other != job && !board.is_done(other) {
+            return false;
+        }
+    }
+    true
+}
+
 /// Writes what the worker made at its place.
 pub fn deliver<W: JobMaker, B: Bench>(
     maker: &mut W,
@@ -155,7 +174,7 @@ pub fn deliver<W: JobMaker, B: Bench>(
         worker.new.hand }
     ensures marks { IsTrue (B.honest bench.old) → (sources : Files)
         → IsRight (jobs_over (W.plan maker.old).jobs sources) worker.old.hand
-        → IsRunningBy ((W.plan maker.old).marking sources) (done_of board.old) (B.may_leave bench.old)
+        → IsRunningBy ((W.plan maker.old).marking sources) (done_of board.old) (output_view B.Bench bench.old)
         → MarksOn ((W.plan maker.old).marking sources) (done_of board.old) (output_view B.Bench bench.old)
         (done_of board.new) (output_view B.Bench bench.new) (ended_of result) }
     ensures turned { ended_of result ≡ None → DeliverTurn board.old worker.old.hand board.new worker.new.hand }
@@ -182,7 +201,8 @@ pub fn deliver<W: JobMaker, B: Bench>(
         *stale += 1;
         return Ok(());
     }
-    match maker.write(ticket.job, &worker.bytes[..worker.size], bench) {
+    let last = is_last(maker, board, ticket.job);
+    match maker.write(ticket.job, &worker.bytes[..worker.size], last, bench) {
         Ok(()) => {
             accept(board, ticket);
             return Ok(());

@@ -17,7 +17,9 @@ use Rattle.rendering.specs.MakerLaws.{started_as}
 use Rattle.rendering.specs.Marked.{MarkedWork, laid_file}
 use Rattle.rendering.proofs.Jobs.{names_apart}
 use Rattle.rendering.proofs.Calls.{Wrote, leaves_as, leaves_both, stays_beside}
-use Rattle.rendering.proofs.Laid.{laid_blank, laid_holds}
+use Rattle.rendering.proofs.Laid.{laid_blank, laid_holds, laid_stands}
+use Rattle.execution.specs.TogetherLaws.{not_done}
+use Rattle.rendering.specs.Cut.{group_at}
 
 -- ---- the rendered file is laid out
 
@@ -64,13 +66,17 @@ module _ {B : Type 0} (g : Ghosts B) (marked : MarkedWork) {old mid : B}
     -- the run begins with them, none of its jobs done
     begun_runs : (done : ℕ → Bool) (o : Files → Type 0) → IsDurable sound_name (g.stored mid) o
         → ((c : Files) → o c → c marks_name ≡ Some (fresh_marks marked.run))
-        → ((k : ℕ) → k < length marked.work.stretches → done k ≡ false) → IsRunning m done o
-    begun_runs done o durable lasts none = record {
+        → ((k : ℕ) → k < length marked.work.stretches → done k ≡ false) → (files : Files)
+        → files sound_name ≡ g.stored mid sound_name → IsRunning m done files o
+    begun_runs done o durable lasts none files same = record {
       marks = fresh_marks marked.run;
       ours = record { front = fresh.ours.front; size = fresh.ours.size };
-      tell = λ job b lt from to. fresh.unmarked b ∙ sym (none job lt);
+      tell = λ job b lt from to. fresh.unmarked b
+          ∙ sym (not_done (length marked.work.stretches) (group_at marked.work.stretches) job done job lt refl
+          (none job lt));
       kept = lasts;
       wave = λ c left. sound_left c (durable c left);
+      stands = laid_stands marked sources is.work files (same ∙ laid) done none;
     }
 
     module _ (durable : IsDurable sound_name (g.stored mid) (g.may_leave mid)) where
@@ -88,8 +94,14 @@ module _ {B : Type 0} (g : Ghosts B) (marked : MarkedWork) {old mid : B}
 
       -- none of them is set
       lays_begun : (c : Files) → Begins c → LaysBy (Some m) c
-      lays_begun c left started = running_leaves (Some m) (λ _. false) Begun c (begun_runs (λ _. false) Begun
-          (λ d is. sound_same d is.0) begun (λ k below. refl)) (left, started)
+      lays_begun c left started = record {
+        marks = fresh_marks marked.run;
+        there = begun c (left, started);
+        ours = record { front = fresh.ours.front; size = fresh.ours.size };
+        still = λ job b lt from to e. cc;
+        only = λ job b lt from to set. sym (fresh.unmarked b) ∙ set;
+        wave = sound_left c (sound_same c left);
+      }
 
       -- and they are true of each outcome
       left_begun : (o : Files → Type 0) → ((c : Files) → o c → Begins c) → AreLeftBy (Some m) o
@@ -116,7 +128,8 @@ module _ {B : Type 0} (g : Ghosts B) (marked : MarkedWork) {old mid : B}
     marks = λ honest sources done none. on_ok_weaker result
         (λ holds. begun_runs sources is fresh (laid honest) done (g.may_leave new)
         (λ c left. w.durable (on honest) sound_name names_apart (durable honest) c left
-        ∙ w.others (on honest) sound_name names_apart) holds.lasts none) (started (on honest));
+        ∙ w.others (on honest) sound_name names_apart) holds.lasts none (g.stored new)
+        (w.others (on honest) sound_name names_apart)) (started (on honest));
     any_moment = λ honest sources none. leaves_both g (lays_sound sources none) beside.moments
         (lays_begun sources is fresh (laid honest) (durable honest)) (moments (on honest) (none_begun none));
     left = λ honest sources none. MatchResult-weaker result (started (on honest)) (λ _ _. tt)
@@ -148,8 +161,8 @@ finishes_by g marked {old} {new} result is durable = record {
       (λ both. record { jobs = λ k below. both.0; last = λ i last. absurd (omega (arith, last)) }) (durable honest);
   marks_durable = λ honest sources m same.
       on_ok_weaker result (λ both. rw (← same_Some (marks_of marked sources) m same) both.1) (durable honest);
-  marks = λ honest sources done run.
-      running_fewer (Some (marks_of marked sources)) done (g.may_leave old) (g.may_leave new) is.crash run;
+  marks = λ honest sources done run. rw is.reads
+      (running_fewer (marks_of marked sources) done (g.stored old) (g.may_leave old) run (g.may_leave new) is.crash);
   any_moment = λ honest sources done run. leaves_as g
-      (λ c at. running_leaves (Some (marks_of marked sources)) done (g.may_leave old) c run at) is.moments;
+      (λ c at. running_leaves (marks_of marked sources) done (g.stored old) (g.may_leave old) run c at) is.moments;
 }

@@ -4,7 +4,7 @@ use Rattle.std.proofs.lemmas.Bool.{cases_lt}
 use Rattle.std.proofs.lemmas.List.{get_or_append_left, get_or_push, length_push}
 use Rattle.std.proofs.lemmas.List.Elements.{All-push}
 use Rattle.rendering.specs.declared.stretch.Stretch.{Stretch}
-use Rattle.rendering.specs.Cut.{AreEven, AreLongest, IsCut, IsShort, IsUniform, even_stretch}
+use Rattle.rendering.specs.Cut.{AreEven, AreGrouped, AreLongest, Begins, GoesOn, IsCut, IsEven, IsGrouped, IsNextGroup, IsShort, IsUniform, group_at, no_stretch, stretch_at}
 
 -- they still follow one another
 pub cut-push : (stretches : List Stretch) (from mid : ℕ) (s : Stretch) → IsCut from stretches mid → s.first ≡ mid
@@ -41,11 +41,11 @@ ends-push most stretches s mark full k d last alike =
 
 -- with the next of them they are still the first
 pub even-push : (most to : ℕ) (stretches : List Stretch) (s : Stretch) → AreEven most to stretches
-    → s ≡ even_stretch most to (length stretches) → AreEven most to (stretches ++ s ∷ [])
-even-push most to stretches s even here k d below = elim (cases_lt k (length stretches)) [
-  | inl before ↦ get_or_append_left stretches (s ∷ []) d k before ∙ even k d before
+    → IsEven most to (length stretches) s → AreEven most to (stretches ++ s ∷ [])
+even-push most to stretches s even here k below = elim (cases_lt k (length stretches)) [
+  | inl before ↦ rw (get_or_append_left stretches (s ∷ []) no_stretch k before) (even k before)
   | inr past ↦ let at : length stretches ≡ k = omega (arith, below, past, length_push stretches s) in
-      get_or_push stretches s d k at ∙ here ∙ ap (even_stretch most to) at
+      rw (get_or_push stretches s no_stretch k at) (rw at at here)
 ]
 
 module _ (most to n : ℕ) {first behind : ℕ} (place : first ≡ min (n * most) to) (some : first < to)
@@ -54,17 +54,82 @@ module _ (most to n : ℕ) {first behind : ℕ} (place : first ≡ min (n * most
   begins = omega (arith, place, some)
 
   -- the next of them
-  pub even-next : record { first = first; end = behind; done = false } ≡ even_stretch most to n
-  even-next = rw (ends, begins) refl
+  pub even-next : (group : ℕ) → IsEven most to n (record { first = first; end = behind; done = false; group = group })
+  even-next group = record { first = begins; end = ends ∙ ap (λ (f : ℕ). min (f + most) to) begins; fresh = refl }
 
   -- where the one behind it begins
   pub place-next : behind ≡ min ((n + 1) * most) to
   place-next = omega (arith, ends, begins)
 
+-- ---- those that are marked together
+
+-- one more behind them is grouped as the next is
+module _ (most : ℕ) (stretches : List Stretch) (s : Stretch) (some : 1 ≤ most) (grouped : AreGrouped most stretches)
+    (next : IsNextGroup most stretches s.done s.group) where
+  abbrev all : List Stretch
+  all = stretches ++ s ∷ []
+
+  before : (k : ℕ) → k < length stretches → stretch_at all k ≡ stretch_at stretches k
+  before k lt = get_or_append_left stretches (s ∷ []) no_stretch k lt
+
+  here : stretch_at all (length stretches) ≡ s
+  here = get_or_push stretches s no_stretch (length stretches) refl
+
+  -- the last one is
+  last-grouped : IsNextGroup most stretches s.done s.group → IsGrouped most all (length stretches)
+  last-grouped (Begins own) = record {
+    first = record {
+      before = omega (arith, ap (λ (x : Stretch). x.group) here, own);
+      between = λ k from to. ap (group_at all) (omega (arith, ap (λ (x : Stretch). x.group) here, own, from, to));
+    };
+    few = omega (arith, ap (λ (x : Stretch). x.group) here, own, some);
+    alike = λ j from to.
+        ap (λ (k : ℕ). (stretch_at all k).done) (omega (arith, ap (λ (x : Stretch). x.group) here, own, from, to));
+  }
+  last-grouped (GoesOn last count same done few) =
+      let is = grouped last (omega (arith, count)) in
+      let group : group_at all (length stretches) ≡ group_at stretches last = ap (λ (x : Stretch). x.group) here ∙ same in
+      record {
+        first = record {
+          before = omega (arith, group, is.first.before, count);
+          between = λ k from to. elim (cases_lt k (length stretches)) [
+            | inl lt ↦ ap (λ (x : Stretch). x.group) (before k lt)
+                ∙ is.first.between k (omega (arith, group, from)) (omega (arith, lt, count)) ∙ sym group
+            | inr past ↦ ap (group_at all) (omega (arith, past, to))
+          ];
+        };
+        few = omega (arith, ap (λ (x : Stretch). x.group) here, count, few);
+        alike = λ j from to. elim (cases_lt j (length stretches)) [
+          | inl lt ↦ ap (λ (x : Stretch). x.done) (before j lt)
+              ∙ is.alike j (omega (arith, group, from)) (omega (arith, lt, count))
+              ∙ done ∙ sym (ap (λ (x : Stretch). x.done) here)
+          | inr past ↦ ap (λ (k : ℕ). (stretch_at all k).done) (omega (arith, past, to))
+        ];
+      }
+
+  pub grouped-push : AreGrouped most all
+  grouped-push k lt = elim (cases_lt k (length stretches)) [
+    | inl less ↦ let is = grouped k less in
+        let group : group_at all k ≡ group_at stretches k = ap (λ (x : Stretch). x.group) (before k less) in
+        record {
+          first = record {
+            before = omega (arith, group, is.first.before);
+            between = λ j from to. ap (λ (x : Stretch). x.group) (before j (omega (arith, to, less)))
+                ∙ is.first.between j (omega (arith, group, from)) to ∙ sym group;
+          };
+          few = omega (arith, group, is.few);
+          alike = λ j from to. ap (λ (x : Stretch). x.done) (before j (omega (arith, to, less)))
+              ∙ is.alike j (omega (arith, group, from)) to ∙ sym (ap (λ (x : Stretch). x.done) (before k less));
+        }
+    | inr past ↦ let at : length stretches ≡ k = omega (arith, lt, past, length_push stretches s) in
+        rw (← at) (last-grouped next)
+  ]
+
 -- ---- cut by marks
 
 -- the stretches of the blocks before `first`; those from there up to, and without, `here` are all marked so
-pub record IsCutSoFar (marked : List Bool) (most first here : ℕ) (done : Bool) (stretches : List Stretch) : Type 0 where
+pub record IsCutSoFar (marked : List Bool) (most together first here : ℕ) (done : Bool) (stretches : List Stretch)
+    : Type 0 where
   pub within : first ≤ here
   pub cut : IsCut 0 stretches first
   pub uniform : All (IsUniform marked) stretches
@@ -74,31 +139,34 @@ pub record IsCutSoFar (marked : List Bool) (most first here : ℕ) (done : Bool)
   pub longest : AreLongest most stretches
   pub begun : 1 ≤ length stretches → first < here
   pub ends : CannotGoOn most stretches done
+  pub grouped : AreGrouped together stretches
 
-module _ {marked : List Bool} {most first here : ℕ} {done : Bool} {stretches : List Stretch}
-    (is : IsCutSoFar marked most first here done stretches) where
-  abbrev last_one : Stretch
-  last_one = record { first = first; end = here; done = done }
+module _ {marked : List Bool} {most together first here : ℕ} {done : Bool} {stretches : List Stretch}
+    (is : IsCutSoFar marked most together first here done stretches) where
+  abbrev last_one : ℕ → Stretch
+  last_one group = record { first = first; end = here; done = done; group = group }
 
   -- they end where the next block is
-  pub cut-here : 1 ≤ most → first < here → (get_or marked here false ≡ done → most ≤ here - first)
-      → IsCutSoFar marked most here (here + 1) (get_or marked here false) (stretches ++ last_one ∷ [])
-  cut-here some begun full = record {
+  pub cut-here : (group : ℕ) → 1 ≤ most → 1 ≤ together → IsNextGroup together stretches done group → first < here
+      → (get_or marked here false ≡ done → most ≤ here - first)
+      → IsCutSoFar marked most together here (here + 1) (get_or marked here false) (stretches ++ last_one group ∷ [])
+  cut-here group some one next begun full = record {
     within = omega arith;
-    cut = cut-push stretches 0 first last_one is.cut refl begun;
-    uniform = All-push (IsUniform marked) stretches last_one is.uniform is.same;
-    short = All-push (IsShort most) stretches last_one is.short is.room;
+    cut = cut-push stretches 0 first (last_one group) is.cut refl begun;
+    uniform = All-push (IsUniform marked) stretches (last_one group) is.uniform is.same;
+    short = All-push (IsShort most) stretches (last_one group) is.short is.room;
     same = λ b from to. ap (λ (k : ℕ). get_or marked k false) (omega (arith, from, to));
     room = omega (arith, some);
-    longest = longest-push most stretches last_one is.longest is.ends;
+    longest = longest-push most stretches (last_one group) is.longest is.ends;
     begun = λ more. omega arith;
-    ends = ends-push most stretches last_one (get_or marked here false)
+    ends = ends-push most stretches (last_one group) (get_or marked here false)
         (λ alike. omega (arith, is.room, full (sym alike)));
+    grouped = grouped-push together stretches (last_one group) one is.grouped next;
   }
 
   -- or go on with it
   pub cut-on : 1 ≤ most → (first < here → (get_or marked here false ≡ done) × (here - first < most))
-      → IsCutSoFar marked most first (here + 1) (get_or marked here false) stretches
+      → IsCutSoFar marked most together first (here + 1) (get_or marked here false) stretches
   cut-on some goes = record {
     within = omega (arith, is.within);
     cut = is.cut;
@@ -115,4 +183,5 @@ module _ {marked : List Bool} {most first here : ℕ} {done : Bool} {stretches :
     longest = is.longest;
     begun = λ more. omega (arith, is.begun more);
     ends = λ k d last alike. is.ends k d last (alike ∙ (goes (is.begun (omega (arith, last)))).0);
+    grouped = is.grouped;
   }

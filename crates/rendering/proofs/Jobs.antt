@@ -1,5 +1,5 @@
 -- The jobs of a rendering: stretches, their bytes in the rendered file, and their blocks.
-use Rattle.std.proofs.Common.{◌≡◌, ◌≢◌, ℕ, zero, suc, ◌+◌, ◌-◌, ◌*◌, ◌/◌, ◌<◌, ◌≤◌, List, ◌++◌, length, inl, inr, refl, sym, ap, ◌∙◌, arith, length-append, ◌⊎◌, min}
+use Rattle.std.proofs.Common.{◌≡◌, ◌≢◌, ℕ, zero, suc, ◌+◌, ◌-◌, ◌*◌, ◌/◌, ◌<◌, ◌≤◌, List, ◌++◌, length, inl, inr, sym, ap, ◌∙◌, arith, length-append, ◌⊎◌, min}
 use Rattle.std.proofs.Math.Nat.{div-mul-le_self, lt-div-mul-add, mul_assoc, mul-le-mul_right}
 use Rattle.std.proofs.lemmas.Bool.{cases_lt}
 use Rattle.std.proofs.lemmas.List.{get_or-append-add, get_or_append_left}
@@ -13,11 +13,13 @@ use Rattle.job_terms.specs.Workers.{jobs_over}
 use Rattle.markfile.specs.Format.{marks_name, sound_name}
 use Rattle.execution.specs.Filled.{AreApart, AreParts}
 use Rattle.rendering.specs.declared.stretch.Stretch.{Stretch}
-use Rattle.rendering.specs.CutLaws.{cut-apart, cut-few, cut-inside}
+use Rattle.rendering.specs.CutLaws.{cut-apart, cut-few, cut-follow, cut-inside, cut-span}
 use Rattle.rendering.specs.Maker.{marks_of}
 use Rattle.rendering.specs.Marked.{IsRunOf, MarkedWork, block_end, block_place}
-use Rattle.rendering.specs.Placed.{IsStretchOf}
-use Rattle.rendering.specs.Work.{IsRenderWork, RenderWork, bytes_for, heard, place_of, stretch_at, whole_of, work_of, IsInRange, no_stretch}
+use Rattle.rendering.specs.Placed.{AreBlocksWith, AreFewBlocks, AreMarkedWith, IsStretchOf}
+use Rattle.rendering.specs.Work.{IsInRange, IsRenderWork, RenderWork, bytes_for, heard, place_of, whole_of, work_of}
+use Rattle.rendering.specs.Cut.{IsLastWith, group_at, no_stretch, stretch_at}
+use Rattle.execution.specs.Together.{IsFirst}
 use Rattle.rendering.specs.Written.{frames_before}
 use Rattle.rendering.proofs.Frames.{length-frames_of, in_file}
 
@@ -48,6 +50,26 @@ module _ (work : RenderWork) (is : IsRenderWork work) where
     | inr past ↦ inr (cut-apart work.stretches 0 (block_count work.planned.range) k j no_stretch is.cut
         (omega (arith, past, other)) first)
   ]
+
+  -- those that are marked together have few blocks
+  pub few_with : (k last : ℕ) → k < length work.stretches → IsLastWith work.stretches k last → AreFewBlocks
+      (stretch_at work.stretches (group_at work.stretches k)).first (stretch_at work.stretches last).end
+  few_with k last below with =
+      let group = group_at work.stretches k in
+      let count = block_count work.planned.range in
+      let first = (is.short.grouped k below).first.before in
+      let n = last - group in
+      let place : group + n ≡ last = omega (arith, with.behind, first) in
+      let span = cut-span work.stretches 0 count is.short.most group n no_stretch is.cut is.short.short
+      (omega (arith, place, with.there)) in
+      let less : n + 1 ≤ is.short.together = omega (arith, (is.short.grouped last with.there).few, with.with, place) in
+      let size : (n + 1) * is.short.most ≤ is.short.together * is.short.most = mul-le-mul_right is.short.most less in
+      record {
+        order = let follow = cut-follow work.stretches 0 count group last no_stretch is.cut (omega (arith, place))
+            with.there in
+            omega (arith, follow.0, (stretch_inside last with.there).some);
+        few = omega (arith, rw place at span, size, is.short.few);
+      }
 
 -- ---- bytes counted from the first of the samples
 
@@ -192,21 +214,63 @@ module _ (work : RenderWork) (sources : Files) (is : IsRenderWork work) where
       mul-le-mul_right wide (omega (arith, to)) in
       (omega (arith, first), rw (end_is b, job_end k below) (omega (arith, last)))
 
--- the blocks of a stretch of a rendering, and its bytes
-pub placed_stretch : (marked : MarkedWork) (k : ℕ) (bytes : List ℕ) (sources : Files) → IsRenderWork marked.work
-    → IsRunOf marked.work marked.run → k < length marked.work.stretches → bytes ≡ (work_of marked.work).bytes sources k
-    → IsStretchOf (marks_of marked sources) k (place_of marked.work.planned.range (stretch_at marked.work.stretches k))
-    bytes (stretch_at marked.work.stretches k).first (stretch_at marked.work.stretches k).end
-placed_stretch marked k bytes sources is run below right =
-    let work = marked.work in
-    let part = are_parts work sources is k below in rw right (record {
-      there = below;
-      inside = omega (arith, (stretch_inside work is k below).there, run.blocks);
-      begins = refl;
-      ends = refl;
-      right = part.part;
-      own = λ b from to. job_own work sources is k b below from to;
-      cover = λ i from to. let b = job_block work sources is k i below from to in
-          (b.block, omega (arith, b.there, run.blocks), b.above, b.below, b.begun, b.ends);
-      others = λ j there other. stretches_apart work is j k there below other;
-    })
+module _ (marked : MarkedWork) (k : ℕ) (sources : Files) (is : IsRenderWork marked.work)
+    (run : IsRunOf marked.work marked.run) (below : k < length marked.work.stretches) where
+  -- the bytes of a stretch of a rendering, and their place
+  pub placed_stretch : (bytes : List ℕ) → bytes ≡ (work_of marked.work).bytes sources k
+      → IsStretchOf (marks_of marked sources) k (place_of marked.work.planned.range (stretch_at marked.work.stretches k))
+      bytes
+  placed_stretch bytes right =
+      let work = marked.work in
+      let part = are_parts work sources is k below in rw right (record {
+        there = below;
+        right = part.part;
+        own = λ b from to. job_own work sources is k b below from to;
+        cover = λ i from to. let b = job_block work sources is k i below from to in
+            (b.block, omega (arith, b.there, run.blocks), b.above, b.below, b.begun, b.ends);
+      })
+
+  -- the blocks of all that are marked together with it
+  pub blocks_with : (s : Stretch) → AreMarkedWith marked.work.stretches k s
+      → AreBlocksWith (marks_of marked sources) k s.first s.end
+  blocks_with s with = rw (with.first, with.end) (record {
+    inside = omega (arith, (stretch_inside marked.work is with.last with.is_last.there).there, run.blocks);
+    few = λ j b lt to. omega (arith, (stretch_inside marked.work is j lt).there, run.blocks, to);
+    own = λ j b lt from to above under. elim (cases_lt j group) [
+      | inl before ↦ absurd (omega (arith, cut-apart stretches 0 count j group no_stretch is.cut before there, to, above))
+      | inr behind ↦ elim (cases_lt with.last j) [
+        | inl past ↦ absurd (omega (arith, cut-apart stretches 0 count with.last j no_stretch is.cut past lt, from, under))
+        | inr within ↦ last.between j (omega (arith, behind, with.is_last.with)) within ∙ with.is_last.with
+      ]
+    ];
+    all = λ j b lt from to same.
+        let own = (is.short.grouped j lt).first in
+        let first = cut-follow stretches 0 count group j no_stretch is.cut (omega (arith, own.before, same)) lt in
+        let end = cut-follow stretches 0 count j with.last no_stretch is.cut (ends j lt same own) with.is_last.there in
+        (omega (arith, first.0, from), omega (arith, end.1, to));
+  })
+    where
+      stretches : List Stretch
+      stretches = marked.work.stretches
+
+      count : ℕ
+      count = block_count marked.work.planned.range
+
+      group : ℕ
+      group = group_at marked.work.stretches k
+
+      last : IsFirst (group_at marked.work.stretches) with.last
+      last = (is.short.grouped with.last with.is_last.there).first
+
+      there : group < length marked.work.stretches
+      there = omega (arith, (is.short.grouped k below).first.before, below)
+
+      -- none behind the last is marked with it
+      ends : (j : ℕ) → j < length marked.work.stretches → group_at marked.work.stretches j ≡ group
+          → IsFirst (group_at marked.work.stretches) j → j ≤ with.last
+      ends j lt same own = elim (cases_lt with.last j) [
+        | inr within ↦ within
+        | inl past ↦ absurd (with.is_last.ends (omega (arith, past, lt))
+            (own.between (with.last + 1) (omega (arith, same, with.is_last.behind, (is.short.grouped k below).first.before))
+            (omega (arith, past)) ∙ same))
+      ]

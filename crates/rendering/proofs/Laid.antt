@@ -11,12 +11,13 @@ use Rattle.work_terms.specs.Disk.{Files}
 use Rattle.job_terms.specs.Workers.{jobs_over}
 use Rattle.markfile.specs.Format.{sound_name}
 use Rattle.execution.specs.Filled.{IsFixedIn}
-use Rattle.execution.specs.Marking.{HoldsIn}
+use Rattle.execution.specs.Marking.{HoldsDone, HoldsIn}
 use Rattle.execution.specs.Plan.{AreBlank}
 use Rattle.rendering.specs.CutLaws.{cut-covers}
 use Rattle.rendering.specs.Maker.{marks_of, plan_of}
 use Rattle.rendering.specs.Marked.{IsRunOf, MarkedWork, laid_file, padded}
-use Rattle.rendering.specs.Work.{IsRenderWork, bytes_for, heard, no_stretch, whole_of, work_of}
+use Rattle.rendering.specs.Work.{IsRenderWork, bytes_for, heard, whole_of, work_of}
+use Rattle.rendering.specs.Cut.{no_stretch}
 use Rattle.rendering.specs.Written.{frames_before}
 use Rattle.rendering.proofs.Jobs.{byte_block, job_block, job_own}
 use Rattle.rendering.proofs.Frames.{length-frames_of}
@@ -100,6 +101,18 @@ module _ (marked : MarkedWork) (sources : Files) (is : IsRenderWork marked.work)
         outside = λ i out. laid_right i (λ k lt named from to. absurd (out k lt named from to));
         zero_within = λ i k lt named from to. zero_behind i (omega (arith, from));
       };
+    }
+
+    -- and so the bytes of what is done stand, which is nothing
+    pub laid_stands : (done : ℕ → Bool) → ((k : ℕ) → k < length marked.work.stretches → done k ≡ false)
+        → HoldsDone (marks_of marked sources) done (files sound_name)
+    laid_stands done none = record {
+      bytes = laid_file range;
+      there = there;
+      size = laid_size;
+      same = λ i fixed. laid_right i (λ k below named from to.
+          let b = job_block marked.work sources is k i below from to in
+          sym (none k below) ∙ fixed k b.block below b.above b.below b.begun b.ends);
     }
 
     -- where no block is marked

@@ -1,4 +1,4 @@
--- A stretch's bytes on the disk, torn and then written, and then its marks.
+-- A job's bytes on the disk, torn and then written, and then the marks of all that are marked together with it.
 use Rattle.std.proofs.Common.{◌≡◌, ◌≢◌, ◌∙◌, ◌⊎◌, ℕ, ◌+◌, ◌-◌, ◌<◌, ◌≤◌, Bool, true, false, Option, Some, None, List, ◌++◌, length, length-append, length-drop, take, drop, get_or, refl, sym, ap, inl, inr, arith}
 use Rattle.std.proofs.lemmas.Bool.{cases_eq, cases_lt}
 use Rattle.std.proofs.lemmas.Bool.Decides.{nat_tests}
@@ -10,12 +10,14 @@ use Rattle.devices.specs.Views.{CrashesLeave, output_view}
 use Rattle.devices.specs.declared.bench.Bench.{Ghosts}
 use Rattle.markfile.specs.Format.{marks_name, sound_name}
 use Rattle.markfile.specs.Started.{AreSet, Lasts, LeavesMarks}
-use Rattle.execution.specs.Marking.{HoldsIn, IsFixed, IsMarkFile, IsRunning, Leaves, Marking, Marks, is_marked, with_done}
+use Rattle.execution.specs.Marking.{HoldsDone, HoldsIn, IsDoneAt, IsFixed, IsMarkFile, IsRunning, Leaves, Marking, Marks, is_marked, settled}
 use Rattle.execution.specs.MarkingLaws.{running_fewer, running_leaves}
+use Rattle.execution.specs.Together.{with_done}
+use Rattle.execution.specs.TogetherLaws.{all_settled, others_settled, settled_done, settled_more, still_settled, unsettled}
 use Rattle.execution.specs.declared.fault.PlaceFault.TheVariants.{Mark, Write}
 use Rattle.rendering.specs.Maker.{marks_of}
 use Rattle.rendering.specs.Marked.{MarkedWork}
-use Rattle.rendering.specs.Placed.{IsStretchOf, IsTornFrom}
+use Rattle.rendering.specs.Placed.{AreBlocksWith, IsStretchOf, IsTornFrom}
 use Rattle.rendering.proofs.Jobs.{names_apart}
 use Rattle.rendering.proofs.Calls.{leaves_as, leaves_both, stays_beside}
 
@@ -93,11 +95,31 @@ holds-over m at n {old = Some f} h (file, there, torn) fewer right =
       };
     }
 
--- ---- one stretch
+-- and so does one in which the bytes of what is done stand
+done-over : (m : Marking) {done more : ℕ → Bool} (at n : ℕ) {old new : Option (List ℕ)} → HoldsDone m done old
+    → IsTorn at n old new
+    → ((i : ℕ) → (at ≤ i → i < at + n → ⊥) → IsDoneAt m more i → IsDoneAt m done i)
+    → ((file : List ℕ) → new ≡ Some file → (i : ℕ) → at ≤ i → i < at + n → IsDoneAt m more i
+    → get_or file i 0 ≡ get_or m.whole i 0)
+    → HoldsDone m more new
+done-over m at n {old = None} h torn fewer right = absurd (none-some h.bytes h.there)
+done-over m at n {old = Some f} h (file, there, torn) fewer right =
+    let was : f ≡ h.bytes = same_Some f h.bytes h.there in record {
+      bytes = file;
+      there = there;
+      size = torn.same_length ∙ ap length was ∙ h.size;
+      same = λ i is. elim (within at (at + n) i) [
+        | inl inside ↦ right file there i inside.0 inside.1 is
+        | inr out ↦ torn-at at n f file torn i out ∙ ap (λ (x : List ℕ). get_or x i 0) was
+            ∙ h.same i (fewer i out is)
+      ];
+    }
+
+-- ---- one job
 
 module _ {B : Type 0} (g : Ghosts B) (marked : MarkedWork) (sources : Files) (done : ℕ → Bool) (job : ℕ)
-    {at first end : ℕ} {bytes : List ℕ} (s : IsStretchOf (marks_of marked sources) job at bytes first end)
-    (open_job : done job ≡ false) {old mid : B} (run : IsRunning (marks_of marked sources) done (g.may_leave old))
+    {at : ℕ} {bytes : List ℕ} (s : IsStretchOf (marks_of marked sources) job at bytes) (left : done job ≡ false)
+    {old mid : B} (run : IsRunning (marks_of marked sources) done (g.stored old) (g.may_leave old))
     (torn : (c : Files) → g.may_leave mid c → IsTornFrom (g.may_leave old) sound_name at (length bytes) c)
     (writes : LeavesOnly g.moment g.left_since old mid (IsTornFrom (g.may_leave old) sound_name at (length bytes)))
   where
@@ -107,142 +129,219 @@ module _ {B : Type 0} (g : Ghosts B) (marked : MarkedWork) (sources : Files) (do
     abbrev Torn : Files → Type 0
     Torn = IsTornFrom (g.may_leave old) sound_name at (length bytes)
 
-    -- the run goes on while its bytes are written
-    torn-runs : IsRunning m done Torn
-    torn-runs = record {
-      marks = run.marks;
-      ours = run.ours;
-      tell = run.tell;
-      kept = λ c t. t.2.others marks_name (λ e. names_apart (sym e)) ∙ run.kept t.0 t.1;
-      wave = λ c t. holds-over m at (length bytes) (run.wave t.0 t.1) t.2.here (λ i out fixed. fixed)
-          (λ file there i from to fixed. let b = s.cover i from to in
-          cc (fixed b.0 b.1 b.4 b.5, run.tell job b.0 s.there b.2 b.3, open_job));
-    }
-
-    -- so a crash leaves its marks
-    torn-leaves : (c : Files) → Torn c → Leaves m done done c
-    torn-leaves c t = running_leaves (Some m) done Torn c torn-runs t
-
-    -- the bytes couldn't be written
-    pub placed-unwritten : Marks {X = ⊤} (Some m) done job (output_view g old) (output_view g mid) (Err Write)
-    placed-unwritten = record {
-      goes_on = running_fewer (Some m) done Torn (g.may_leave mid) torn torn-runs;
-      moments = leaves_as g torn-leaves writes;
-    }
-
-    -- ---- then its blocks are marked, and the job is done
-
     abbrev after : ℕ → Bool
     after = with_done done job
 
     itself : after job ≡ true
     itself = grind (arith, nat_tests)
 
-    other : (j : ℕ) → j ≢ job → after j ≡ done j
-    other j ne = grind (arith, nat_tests, ne)
+    still : (k : ℕ) → done k ≡ true → after k ≡ true
+    still k e = grind (arith, nat_tests, e)
 
-    -- marks that are as they were but for its blocks
-    abbrev Alike : (ℕ → Bool) → Type 0
-    Alike more = (b : ℕ) → (first ≤ b → b < end → ⊥) → more b ≡ is_marked run.marks b
-
-    -- so are those of all other jobs
-    tell : (marks : List ℕ) → Alike (is_marked marks) → (j b : ℕ) → j < m.jobs → j ≢ job → m.from j ≤ b → b < m.end j
-        → is_marked marks b ≡ done j
-    tell marks alike j b lt ne from to = alike b apart ∙ run.tell j b lt from to
+    -- its blocks aren't marked
+    unmarked : (b : ℕ) → m.from job ≤ b → b < m.end job → is_marked run.marks b ≡ false
+    unmarked b from to = go (is_marked run.marks b) refl
       where
-        apart : first ≤ b → b < end → ⊥
-        apart above below = elim (s.others j lt ne) [
-          | inl before ↦ omega (arith, before, to, above, s.begins)
-          | inr past ↦ omega (arith, past, from, below, s.ends)
-        ]
+        go : (v : Bool) → is_marked run.marks b ≡ v → is_marked run.marks b ≡ false
+        go false e = e
+        go true e = absurd (cc (left, settled_done m done job s.there (sym (run.tell job b s.there from to) ∙ e)))
 
-    -- a moment with such marks, over an output that holds for them
-    leave : (c : Files) (marks : List ℕ) → c marks_name ≡ Some marks → IsMarkFile m marks → Alike (is_marked marks)
-        → HoldsIn m (is_marked marks) (c sound_name) → Leaves m done after c
-    leave c marks there ours alike holds = record {
-      marks = marks;
-      there = there;
-      ours = ours;
-      still = λ j b lt from to on. tell marks alike j b lt (λ e. cc (on, ap done e, open_job)) from to ∙ on;
-      only = λ j b lt from to on. elim (cases_eq j job) [
-        | inl same ↦ ap after same ∙ itself
-        | inr ne ↦ other j ne ∙ sym (tell marks alike j b lt ne from to) ∙ on
-      ];
-      wave = holds;
+    -- the marks stay while its bytes are written, and are true
+    torn-kept : (c : Files) → Torn c → c marks_name ≡ Some run.marks
+    torn-kept c t = t.2.others marks_name (λ e. names_apart (sym e)) ∙ run.kept t.0 t.1
+
+    torn-wave : (c : Files) → Torn c → HoldsIn m (is_marked run.marks) (c sound_name)
+    torn-wave c t = holds-over m at (length bytes) (run.wave t.0 t.1) t.2.here (λ i out fixed. fixed)
+        (λ file there i from to fixed. let b = s.cover i from to in
+        cc (fixed b.0 b.1 b.4 b.5, unmarked b.0 b.2 b.3))
+
+    -- so the run goes on
+    torn-runs : {files : Files} → HoldsDone m done (files sound_name) → IsRunning m done files Torn
+    torn-runs stands = record {
+      marks = run.marks;
+      ours = run.ours;
+      tell = run.tell;
+      kept = torn-kept;
+      wave = torn-wave;
+      stands = stands;
     }
 
-    abbrev Left : Files → Type 0
-    Left = LeavesMarks marked.run first end run.marks (g.may_leave mid)
+    -- and a crash leaves its marks
+    torn-leaves : (c : Files) → Torn c → Leaves m (settled m done) (settled m done) c
+    torn-leaves c t = running_leaves m done (g.stored old) Torn (torn-runs {files = g.stored old} run.stands) c t
 
-    module _ (new : B) (wrote : Changes (IsWritten at bytes) sound_name (g.stored old) (g.stored mid))
-        (durable : IsDurable sound_name (g.stored mid) (g.may_leave mid))
-        (marks : Lasts g marked.run run.marks mid → LeavesOnly g.moment g.left_since mid new Left)
-        (crash : Lasts g marked.run run.marks mid → (c : Files) → g.may_leave new c → Left c) where
-      -- the run's marks last meanwhile
-      lasts : Lasts g marked.run run.marks mid
-      unfolding torn-runs
-      lasts = record {
-        ours = record { front = run.ours.front; size = run.ours.size };
-        kept = λ c h. torn-runs.kept c (torn c h);
-      }
+    -- a byte of a job that is done isn't the job's
+    apart : (i : ℕ) → IsDoneAt m done i → at ≤ i → i < at + length bytes → ⊥
+    apart i is from to = let b = s.cover i from to in cc (left, is job b.0 s.there b.2 b.3 b.4 b.5)
 
-      -- the output holds for all marks that are alike
-      wave : (c : Files) → Left c → (more : ℕ → Bool) → Alike more → HoldsIn m more (c sound_name)
-      wave c l more alike =
-          let d = stays_beside (g.may_leave mid) marks_name sound_name c names_apart l.beside in
-          let t = torn d.0 d.1 in
-          rw d.2 (holds-over m at (length bytes) (run.wave t.0 t.1) t.2.here
-          (λ i out fixed b lt from to. elim (within first end b) [
-            | inl own ↦ let inside = s.own b (omega (arith, own.0, s.begins)) (omega (arith, own.1, s.ends)) in
-                absurd (out (omega (arith, inside.0, from)) (omega (arith, inside.1, to)))
-            | inr outside ↦ sym (alike b outside) ∙ fixed b lt from to
+    -- what is done still stands where the job's place is torn
+    stands-torn : Changes (IsTorn at (length bytes)) sound_name (g.stored old) (g.stored mid)
+        → HoldsDone m done (g.stored mid sound_name)
+    stands-torn change = done-over m at (length bytes) run.stands change.here (λ i out is. is)
+        (λ file there i from to is. absurd (apart i is from to))
+
+    -- the bytes couldn't be written
+    pub placed-unwritten : Changes (IsTorn at (length bytes)) sound_name (g.stored old) (g.stored mid)
+        → Marks {X = ⊤} (Some m) done job (output_view g old) (output_view g mid) (Err Write)
+    placed-unwritten change = record {
+      goes_on = running_fewer m done (g.stored mid) Torn (torn-runs {files = g.stored mid} (stands-torn change))
+          (g.may_leave mid) torn;
+      moments = leaves_as g torn-leaves writes;
+    }
+
+    -- ---- the job is done
+
+    module _ (wrote : Changes (IsWritten at bytes) sound_name (g.stored old) (g.stored mid)) where
+      -- its bytes stand with those that did
+      stands-written : HoldsDone m after (g.stored mid sound_name)
+      stands-written = done-over m at (length bytes) run.stands (written-torn at bytes _ _ wrote.here)
+          (λ i out is k b lt from to begun ends. elim (cases_eq k job) [
+            | inl same ↦ let own = s.own b (rw same at from) (rw same at to) in
+                absurd (out (omega (arith, own.0, begun)) (omega (arith, own.1, ends)))
+            | inr ne ↦ unlike k ne ∙ is k b lt from to begun ends
           ])
-          (λ file there i from to fixed. let w = wrote.here in
-          ap (λ (x : List ℕ). get_or x i 0) (same_Some file _ (sym there ∙ durable d.0 d.1 ∙ w.written))
+          (λ file there i from to is. let w = wrote.here in
+          ap (λ (x : List ℕ). get_or x i 0) (same_Some file _ (sym there ∙ w.written))
           ∙ written-in w.file bytes at i w.inside from to ∙ s.right (i - at) (omega (arith, from, to))
-          ∙ ap (λ (k : ℕ). get_or m.whole k 0) (omega (arith, from))))
+          ∙ ap (λ (k : ℕ). get_or m.whole k 0) (omega (arith, from)))
+        where
+          unlike : (k : ℕ) → k ≢ job → done k ≡ after k
+          unlike k ne = grind (arith, nat_tests, ne)
 
-      -- at each moment of both calls the marks are true
-      moments : CrashesLeave (Leaves m done after) (output_view g old) (output_view g new)
-      unfolding torn-runs
-      moments = leaves_both g
-          (λ c t. leave c run.marks (torn-runs.kept c t) run.ours (λ b out. refl) (torn-runs.wave c t)) writes
-          (λ c l. leave c l.marks l.there (record { front = l.ours.front; size = l.ours.size }) l.others
-          (wave c l (is_marked l.marks) l.others)) (marks lasts)
-
-      -- they are marked
-      pub placed-marked : (Lasts g marked.run run.marks mid → end ≤ marked.run.blocks
-          → (now : List ℕ) × AreSet marked.run first end run.marks now × Lasts g marked.run now new)
-          → Marks {X = ⊤} (Some m) done job (output_view g old) (output_view g new) (Ok tt)
-      placed-marked set = let is = set lasts (omega (arith, s.ends, s.inside)) in record {
+      -- others are still to be done that are marked together with it
+      pub placed-unmarked : settled m after job ≡ false
+          → Marks {X = ⊤} (Some m) done job (output_view g old) (output_view g mid) (Ok tt)
+      placed-unmarked more = record {
         goes_on = record {
-          marks = is.0;
-          ours = record { front = is.1.ours.front; size = is.1.ours.size };
-          tell = λ j b lt from to. elim (cases_eq j job) [
-            | inl same ↦ is.1.set b (omega (arith, rw same at from, s.begins)) (omega (arith, rw same at to, s.ends))
-                ∙ sym (ap after same ∙ itself)
-            | inr ne ↦ tell is.0 is.1.others j b lt ne from to ∙ sym (other j ne)
-          ];
-          kept = is.2.kept;
-          wave = λ c h. wave c (crash lasts c h) (is_marked is.0) is.1.others;
+          marks = run.marks;
+          ours = run.ours;
+          tell = λ k b lt from to. run.tell k b lt from to ∙ sym (still_settled m done job s.there left more k);
+          kept = λ c h. torn-kept c (torn c h);
+          wave = λ c h. torn-wave c (torn c h);
+          stands = stands-written;
         };
-        moments = moments;
+        moments = leaves_as g (λ c t. record {
+          marks = run.marks;
+          there = torn-kept c t;
+          ours = run.ours;
+          still = λ k b lt from to on. run.tell k b lt from to ∙ on;
+          only = λ k b lt from to on. settled_more m done after still k (sym (run.tell k b lt from to) ∙ on);
+          wave = torn-wave c t;
+        }) writes;
       }
 
-      -- or they couldn't be: any of them may be set
-      pub placed-broken : Marks {X = ⊤} (Some m) done job (output_view g old) (output_view g new) (Err Mark)
-      placed-broken = record {
-        goes_on = record {
-          job = job;
-          is_done = itself;
-          true_of_all = λ c d at also. let l = crash lasts c at in record {
-            marks = l.marks;
-            there = l.there;
-            ours = record { front = l.ours.front; size = l.ours.size };
-            sound = wave d (crash lasts d also) (is_marked l.marks) l.others;
+    -- ---- the last of those that are marked together with it
+
+    module _ {first end : ℕ} (w : AreBlocksWith (marks_of marked sources) job first end)
+        (all : settled m after job ≡ true) where
+      -- marks that are as they were but for their blocks
+      abbrev Alike : (ℕ → Bool) → Type 0
+      Alike more = (b : ℕ) → (first ≤ b → b < end → ⊥) → more b ≡ is_marked run.marks b
+
+      -- so are those of all other jobs
+      tell : (marks : List ℕ) → Alike (is_marked marks) → (j b : ℕ) → j < m.jobs
+          → m.group j ≢ m.group job → m.from j ≤ b → b < m.end j
+          → is_marked marks b ≡ settled m done j
+      tell marks alike j b lt ne from to =
+          alike b (λ above below. ne (w.own j b lt from to above below)) ∙ run.tell j b lt from to
+
+      others : (j : ℕ) → m.group j ≢ m.group job → settled m after j ≡ settled m done j
+      others j ne = others_settled m done job s.there left j ne
+
+      now-settled : (j : ℕ) → m.group j ≡ m.group job → settled m after j ≡ true
+      now-settled j same = all_settled m done job s.there left all j same
+
+      -- a moment with such marks, over an output that holds for them
+      leave : (c : Files) (marks : List ℕ) → c marks_name ≡ Some marks → IsMarkFile m marks → Alike (is_marked marks)
+          → HoldsIn m (is_marked marks) (c sound_name) → Leaves m (settled m done) (settled m after) c
+      leave c marks there ours alike holds = record {
+        marks = marks;
+        there = there;
+        ours = ours;
+        still = λ j b lt from to on. elim (cases_eq (m.group j) (m.group job)) [
+          | inl same ↦ absurd (cc (on, unsettled m done job s.there left j same))
+          | inr ne ↦ tell marks alike j b lt ne from to ∙ on
+        ];
+        only = λ j b lt from to on. elim (cases_eq (m.group j) (m.group job)) [
+          | inl same ↦ now-settled j same
+          | inr ne ↦ others j ne ∙ sym (tell marks alike j b lt ne from to) ∙ on
+        ];
+        wave = holds;
+      }
+
+      abbrev Left : Files → Type 0
+      Left = LeavesMarks marked.run first end run.marks (g.may_leave mid)
+
+      module _ (new : B) (wrote : Changes (IsWritten at bytes) sound_name (g.stored old) (g.stored mid))
+          (durable : IsDurable sound_name (g.stored mid) (g.may_leave mid))
+          (marks : Lasts g marked.run run.marks mid → LeavesOnly g.moment g.left_since mid new Left)
+          (crash : Lasts g marked.run run.marks mid → (c : Files) → g.may_leave new c → Left c) where
+        -- the run's marks last meanwhile
+        lasts : Lasts g marked.run run.marks mid
+        lasts = record {
+          ours = record { front = run.ours.front; size = run.ours.size };
+          kept = λ c h. torn-kept c (torn c h);
+        }
+
+        -- what is marked by marks that are alike is of jobs that are done
+        marks-done : (more : ℕ → Bool) → Alike more → (i : ℕ) → IsFixed m more i → IsDoneAt m after i
+        marks-done more alike i fixed j b lt from to begun ends = elim (within first end b) [
+          | inl own ↦ settled_done m after j lt (now-settled j (w.own j b lt from to own.0 own.1))
+          | inr outside ↦ still j (settled_done m done j lt (sym (run.tell j b lt from to) ∙ sym (alike b outside)
+              ∙ fixed b (w.few j b lt to) begun ends))
+        ]
+
+        -- the output holds for all of them
+        wave : (c : Files) → Left c → (more : ℕ → Bool) → Alike more → HoldsIn m more (c sound_name)
+        wave c l more alike =
+            let d = stays_beside (g.may_leave mid) marks_name sound_name c names_apart l.beside in
+            let stands = stands-written wrote in record {
+              bytes = stands.bytes;
+              there = d.2 ∙ durable d.0 d.1 ∙ stands.there;
+              holds = record { size = stands.size; same = λ i fixed. stands.same i (marks-done more alike i fixed) };
+            }
+
+        -- at each moment of both calls the marks are true
+        moments : CrashesLeave (Leaves m (settled m done) (settled m after)) (output_view g old) (output_view g new)
+        moments = leaves_both g
+            (λ c t. leave c run.marks (torn-kept c t) run.ours (λ b out. refl) (torn-wave c t)) writes
+            (λ c l. leave c l.marks l.there (record { front = l.ours.front; size = l.ours.size }) l.others
+            (wave c l (is_marked l.marks) l.others)) (marks lasts)
+
+        -- they are marked
+        pub placed-marked : g.stored new sound_name ≡ g.stored mid sound_name
+            → (Lasts g marked.run run.marks mid → end ≤ marked.run.blocks
+            → (now : List ℕ) × AreSet marked.run first end run.marks now × Lasts g marked.run now new)
+            → Marks {X = ⊤} (Some m) done job (output_view g old) (output_view g new) (Ok tt)
+        placed-marked same set = let is = set lasts w.inside in record {
+          goes_on = record {
+            marks = is.0;
+            ours = record { front = is.1.ours.front; size = is.1.ours.size };
+            tell = λ j b lt from to. elim (cases_eq (m.group j) (m.group job)) [
+              | inl same ↦ let own = w.all j b lt from to same in is.1.set b own.0 own.1 ∙ sym (now-settled j same)
+              | inr ne ↦ tell is.0 is.1.others j b lt ne from to ∙ sym (others j ne)
+            ];
+            kept = is.2.kept;
+            wave = λ c h. wave c (crash lasts c h) (is_marked is.0) is.1.others;
+            stands = rw same (stands-written wrote);
           };
-          tell = λ c d at also j b lt ne from to. let l = crash lasts c at in
-              tell l.marks l.others j b lt ne from to ∙ sym (other j ne);
-        };
-        moments = moments;
-      }
+          moments = moments;
+        }
+
+        -- or they couldn't be: any of them may be set
+        pub placed-broken : Marks {X = ⊤} (Some m) done job (output_view g old) (output_view g new) (Err Mark)
+        placed-broken = record {
+          goes_on = record {
+            job = job;
+            is_done = all;
+            true_of_all = λ c d at also. let l = crash lasts c at in record {
+              marks = l.marks;
+              there = l.there;
+              ours = record { front = l.ours.front; size = l.ours.size };
+              sound = wave d (crash lasts d also) (is_marked l.marks) l.others;
+            };
+            tell = λ c d at also j b lt ne from to. let l = crash lasts c at in
+                tell l.marks l.others j b lt ne from to ∙ sym (others j ne);
+          };
+          moments = moments;
+        }

@@ -1,5 +1,5 @@
 -- A marked rendering as an execution sees it: its jobs, its files, and the marks that it goes on with.
-use Rattle.std.proofs.Common.{◌≡◌, ◌∙◌, ℕ, ◌<◌, ◌≤◌, Bool, true, Some, List, [], length, take, get_or, refl, sym, ap, arith, ◌∷◌, None, All, get_or-take}
+use Rattle.std.proofs.Common.{◌≡◌, ◌∙◌, ℕ, ◌<◌, ◌≤◌, Bool, true, false, Some, List, [], length, take, get_or, refl, sym, ap, arith, ◌∷◌, None, All, get_or-take}
 use Rattle.std.specs.Prelude.{⊤, Result, Ok, Err}
 use Rattle.std.proofs.lemmas.Bool.Decides.{nat_tests}
 use Rattle.std.proofs.lemmas.Option.{same_Some}
@@ -7,10 +7,12 @@ use Rattle.sound_terms.specs.Blocks.{block_count}
 use Rattle.work_terms.specs.Disk.{Files}
 use Rattle.job_terms.specs.Workers.{jobs_over}
 use Rattle.markfile.specs.declared.run.RunId.{RunId}
-use Rattle.markfile.specs.Format.{head_of, marks_name}
+use Rattle.markfile.specs.Format.{head_of, marks_name, sound_name}
 use Rattle.markfile.specs.Opened.{AreFound, AreSettled}
 use Rattle.execution.specs.Filled.{AreFilled}
-use Rattle.execution.specs.Marking.{AreLeftBy, IsRunning, Marking, is_started}
+use Rattle.execution.specs.Marking.{AreLeftBy, HoldsIn, IsRunning, Marking, is_marked, is_started}
+use Rattle.execution.specs.Together.{AreGroups, are_done}
+use Rattle.execution.specs.TogetherLaws.{all_done, not_done}
 use Rattle.clipping.specs.declared.tally.Clips.{Clips}
 use Rattle.devices.specs.Frame.{OnlyWrites}
 use Rattle.devices.specs.declared.bench.Bench.{Ghosts}
@@ -18,11 +20,11 @@ use Rattle.execution.specs.Plan.{Stays}
 use Rattle.execution.specs.declared.fault.PlaceFault.{PlaceFault}
 use Rattle.execution.specs.declared.fault.PlaceFault.TheVariants.{Mark}
 use Rattle.rendering.specs.declared.stretch.Stretch.{Stretch}
-use Rattle.rendering.specs.Cut.{IsUniform}
+use Rattle.rendering.specs.Cut.{IsUniform, group_at, no_stretch}
 use Rattle.rendering.specs.CutLaws.{cut-covers}
 use Rattle.rendering.specs.Maker.{marks_of, HasSoundJobs, IsReopened, plan_of}
 use Rattle.rendering.specs.Marked.{IsRunOf, MarkedWork, IsOther}
-use Rattle.rendering.specs.Work.{IsRenderWork, RenderWork, done_before, no_stretch, whole_of, work_of}
+use Rattle.rendering.specs.Work.{IsRenderWork, RenderWork, done_before, whole_of, work_of}
 use Rattle.rendering.specs.MakerLaws.{some_job}
 use Rattle.rendering.proofs.Jobs.{job_own, are_apart, are_parts, job_sized, stretch_inside}
 use Rattle.rendering.proofs.Calls.{writes_as}
@@ -55,6 +57,10 @@ reopened_as {work} {run} {noted} {clips} {stretches} of whole = record {
   jobs = sound_jobs (record { work = record work { stretches = stretches }; run = run; clips = clips }) whole;
 }
 
+-- those that are marked together follow one another
+pub are_groups : (work : RenderWork) → IsRenderWork work → AreGroups (length work.stretches) (group_at work.stretches)
+are_groups work is k lt = (is.short.grouped k lt).first
+
 -- ---- its files
 
 -- a file that stays is neither of the two
@@ -84,23 +90,40 @@ started_by marks rest front long =
     let gate : get_or marks 0 0 ≡ 1 = sym (get_or-take 44 marks 0 0 (omega arith)) ∙ ap (λ x. get_or x 0 0) front in
     grind (arith, nat_tests, gate, long)
 
--- the file is filled as far as the jobs are done whose marks are set
-pub filled_running : (marked : MarkedWork) (sources : Files) → IsRenderWork marked.work → IsRunOf marked.work marked.run
-    → {done : ℕ → Bool} {o : Files → Type 0} {files : Files} → IsRunning (marks_of marked sources) done o → o files
+-- the file is filled as far as the jobs are done
+pub filled_running : (marked : MarkedWork) (sources : Files) → IsRenderWork marked.work
+    → {done : ℕ → Bool} {o : Files → Type 0} {files : Files} → IsRunning (marks_of marked sources) done files o
     → AreFilled (jobs_over (work_of marked.work) sources) (λ _. whole_of marked.work sources) done files
-filled_running marked sources is run {files = files} runs now = record {
-  each = λ j below. let sound = runs.wave files now in record {
-    bytes = sound.bytes;
-    there = sound.there;
-    size = sound.holds.size;
-    same = λ i fixed. sound.holds.same i (λ b few from to.
-        let job = cut-covers marked.work.stretches 0 (block_count marked.work.planned.range) b no_stretch is.cut
-        (omega arith) (omega (arith, few, run.blocks)) in
-        let own = job_own marked.work sources is job.place b job.there job.behind_first job.before_end in
-        runs.tell job.place b job.there job.behind_first job.before_end
-        ∙ fixed job.place job.there refl (omega (arith, own.0, from)) (omega (arith, own.1, to)));
+filled_running marked sources is runs = record {
+  each = λ j below. record {
+    bytes = runs.stands.bytes;
+    there = runs.stands.there;
+    size = runs.stands.size;
+    same = λ i fixed. runs.stands.same i (λ k b lt from to begun ends.
+        let own = job_own marked.work sources is k b lt from to in
+        fixed k lt refl (omega (arith, own.0, begun)) (omega (arith, own.1, ends)));
   };
 }
+
+-- what is marked of stretches that are done together is just what is done
+settled_before : (work : RenderWork) → IsRenderWork work → (done : ℕ → Bool)
+    → ((k : ℕ) → k < length work.stretches → done k ≡ done_before work k) → (k : ℕ) → k < length work.stretches
+    → are_done (length work.stretches) (group_at work.stretches) done k ≡ done k
+settled_before work is done agrees k lt = go (done k) refl
+  where
+    alike : (j : ℕ) → j < length work.stretches → group_at work.stretches j ≡ group_at work.stretches k
+        → done j ≡ done k
+    alike j below same =
+        let one = is.short.grouped j below in
+        let other = is.short.grouped k lt in
+        let group = group_at work.stretches k in
+        agrees j below ∙ sym (one.alike group (omega (arith, same)) (omega (arith, same, one.first.before)))
+        ∙ other.alike group (omega arith) other.first.before ∙ sym (agrees k lt)
+
+    go : (b : Bool) → done k ≡ b → are_done (length work.stretches) (group_at work.stretches) done k ≡ done k
+    go true e = all_done (length work.stretches) (group_at work.stretches) k done (λ j below same. alike j below same ∙ e)
+        ∙ sym e
+    go false e = not_done (length work.stretches) (group_at work.stretches) k done k lt refl e ∙ sym e
 
 -- marks that were found, and stretches into which they cut the blocks
 module _ {work : RenderWork} {stretches : List Stretch} {run : RunId} (sources : Files)
@@ -114,23 +137,38 @@ module _ {work : RenderWork} {stretches : List Stretch} {run : RunId} (sources :
   -- the jobs whose blocks are marked are done
   pub goes_on_running : {old new : Files → Type 0} {files : Files} {told : List Bool} → AreFound run files told
       → AreLeftBy (Some before) old → ((c : Files) → new c → old c) → ((c : Files) → new c → AreSettled files c)
-      → All (IsUniform told) stretches → (done : ℕ → Bool)
+      → new files → All (IsUniform told) stretches → (done : ℕ → Bool)
       → ((k : ℕ) → k < length stretches → done k ≡ done_before (record work { stretches = stretches }) k)
-      → IsRunning now done new
-  goes_on_running {old} {new} found left back settled uniform done agrees = record {
+      → IsRunning now done files new
+  goes_on_running {old} {new} {files} found left back settled is_left uniform done agrees = record {
     marks = found.marks;
     ours = record { front = found.ours.front; size = found.ours.size };
     tell = λ job b lt from to.
         let inside = stretch_inside (record work { stretches = stretches }) whole job lt in
         sym (found.each b (omega (arith, to, inside.there, of.blocks))) ∙ uniform job no_stretch lt b from to
-        ∙ sym (agrees job lt);
+        ∙ sym (agrees job lt)
+        ∙ sym (settled_before (record work { stretches = stretches }) whole done agrees job lt);
     kept = kept;
-    wave = λ c at.
-        let is = left c c (back c at) (back c at) (ap is_started (kept c at)
-        ∙ started_by found.marks (head_of run) found.ours.front (omega (arith, found.ours.size))) in
-        let h = rw (same_Some is.marks found.marks (sym is.there ∙ kept c at)) at is.sound in
-        record { bytes = h.bytes; there = h.there; holds = record { size = h.holds.size; same = h.holds.same } };
+    wave = wave;
+    stands = let h = wave files is_left in record {
+      bytes = h.bytes;
+      there = h.there;
+      size = h.holds.size;
+      same = λ i is. h.holds.same i (λ b few from to.
+          let job = cut-covers stretches 0 (block_count work.planned.range) b no_stretch whole.cut (omega arith)
+          (omega (arith, few, of.blocks)) in
+          sym (found.each b few) ∙ uniform job.place no_stretch job.there b job.behind_first job.before_end
+          ∙ sym (agrees job.place job.there)
+          ∙ is job.place b job.there job.behind_first job.before_end from to);
+    };
   }
     where
       kept : (c : Files) → new c → c marks_name ≡ Some found.marks
       kept c at = rw found.there at (settled c at).marks
+
+      wave : (c : Files) → new c → HoldsIn now (is_marked found.marks) (c sound_name)
+      wave c at =
+          let is = left c c (back c at) (back c at) (ap is_started (kept c at)
+          ∙ started_by found.marks (head_of run) found.ours.front (omega (arith, found.ours.size))) in
+          let h = rw (same_Some is.marks found.marks (sym is.there ∙ kept c at)) at is.sound in
+          record { bytes = h.bytes; there = h.there; holds = record { size = h.holds.size; same = h.holds.same } }

@@ -8,7 +8,8 @@ use Rattle.sound_terms.specs.Render.{Range}
 use Rattle.markfile.specs.declared.fault.MarkFault.{MarkFault}
 use Rattle.work_terms.specs.Disk.{Files}
 use Rattle.rendering.specs.declared.stretch.Stretch.{Stretch}
-use Rattle.rendering.specs.Work.{RenderWork, heard, stretch_at}
+use Rattle.rendering.specs.Cut.{stretch_at}
+use Rattle.rendering.specs.Work.{RenderWork, heard}
 use Rattle.rendering.specs.Written.{frames_before}
 
 -- the exact sums of n frames, from this time on

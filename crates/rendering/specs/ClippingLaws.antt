@@ -9,8 +9,8 @@ use Rattle.clipping.specs.Laws.{block_sums-alike}
 use Rattle.sound_terms.specs.Blocks.{block_length}
 use Rattle.sound_terms.specs.Render.{Range}
 use Rattle.rendering.specs.Clipping.{Clip, ClipsUnmarked, sums_from, unmarked}
-use Rattle.rendering.specs.Cut.{IsUniform}
-use Rattle.rendering.specs.Work.{RenderWork, done_before, no_stretch}
+use Rattle.rendering.specs.Cut.{IsUniform, no_stretch}
+use Rattle.rendering.specs.Work.{RenderWork, done_before}
 
 -- mixes that are the same have the same sums
 pub sums_same : (range : Range) (mix other : ℕ → ℕ → ℤ) (time n : ℕ)

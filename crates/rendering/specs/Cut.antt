@@ -1,10 +1,22 @@
 -- Blocks cut into stretches.
-use Rattle.std.specs.Prelude.{◌≡◌, ℕ, ◌+◌, ◌-◌, ◌*◌, ◌/◌, ◌<◌, ◌≤◌, Bool, false, cond, nat_le, max, min, List, [], ◌∷◌, Vec, length, slice_index_or}
+use Rattle.std.specs.Prelude.{◌≡◌, ◌≢◌, ℕ, ◌+◌, ◌-◌, ◌*◌, ◌/◌, ◌<◌, ◌≤◌, Bool, false, cond, nat_le, max, min, List, [], ◌∷◌, Vec, length, slice_index_or}
 use Rattle.std.specs.List.{All}
 use Rattle.std.specs.declared.alloc.Global.{Global}
 use Rattle.rendering.specs.declared.job_length.JobLength.{JobLength}
 use Rattle.rendering.specs.declared.job_length.JobLength.TheVariants as length_of_jobs
 use Rattle.rendering.specs.declared.stretch.Stretch.{Stretch}
+use Rattle.execution.specs.Together.{IsFirst}
+
+-- what stands behind the last stretch
+abbrev pub no_stretch : Stretch
+no_stretch = record { first = 0; end = 0; done = false; group = 0 }
+
+abbrev pub stretch_at : List Stretch → ℕ → Stretch
+stretch_at stretches k = slice_index_or stretches k no_stretch
+
+-- the first of those that are marked together with a stretch
+abbrev pub group_at : List Stretch → ℕ → ℕ
+group_at stretches k = (stretch_at stretches k).group
 
 -- the stretches follow one another, from one block on up to, and without, another; each has at least one block
 abbrev pub IsCut : ℕ → List Stretch → ℕ → Type 0
@@ -24,13 +36,46 @@ abbrev pub AreShort : ℕ → Vec Stretch Global → Type 0
 AreShort most stretches = All (IsShort most) stretches.items
 
 -- the stretch of this number, counted from 0, where each but the last has so many blocks
-abbrev pub even_stretch : (most to : ℕ) → ℕ → Stretch
-even_stretch most to k = record { first = k * most; end = min (k * most + most) to; done = false }
+pub record IsEven (most to k : ℕ) (s : Stretch) : Type 0 where
+  pub first : s.first ≡ k * most
+  pub end : s.end ≡ min (k * most + most) to
+  pub fresh : s.done ≡ false
 
 -- these are the first of them
 abbrev pub AreEven : (most to : ℕ) → List Stretch → Type 0
-AreEven most to stretches = (k : ℕ) (d : Stretch) → k < length stretches
-    → slice_index_or stretches k d ≡ even_stretch most to k
+AreEven most to stretches = (k : ℕ) → k < length stretches → IsEven most to k (stretch_at stretches k)
+
+-- It goes by the number of the first stretch of those that are marked together with it, which are at most so many. All
+-- between are marked with it, and all are done or none.
+pub record IsGrouped (most : ℕ) (stretches : List Stretch) (k : ℕ) : Type 0 where
+  pub first : IsFirst (group_at stretches) k
+  pub few : k < group_at stretches k + most
+  pub alike : (j : ℕ) → group_at stretches k ≤ j → j ≤ k → (stretch_at stretches j).done ≡ (stretch_at stretches k).done
+
+abbrev pub AreGrouped : ℕ → List Stretch → Type 0
+AreGrouped most stretches = (k : ℕ) → k < length stretches → IsGrouped most stretches k
+
+-- the last of those that follow a stretch in turn and are marked together with it
+pub record IsLastWith (stretches : List Stretch) (k last : ℕ) : Type 0 where
+  pub behind : k ≤ last
+  pub there : last < length stretches
+  pub with : group_at stretches last ≡ group_at stretches k
+  pub ends : last + 1 < length stretches → group_at stretches (last + 1) ≢ group_at stretches k
+
+-- such a stretch behind these is marked together with the last of them, where that is done as it is and they are fewer
+-- than so many, or else begins others
+pub data IsNextGroup (most : ℕ) (stretches : List Stretch) (done : Bool) (group : ℕ) : Type 0 where
+  GoesOn : (last : ℕ) → length stretches ≡ last + 1 → group ≡ group_at stretches last
+      → (stretch_at stretches last).done ≡ done → last + 1 < group + most → IsNextGroup most stretches done group
+  Begins : group ≡ length stretches → IsNextGroup most stretches done group
+
+-- those that are marked together have at most 2048 blocks
+pub record AreFewTogether (stretches : List Stretch) : Type 0 where
+  pub together : ℕ
+  pub grouped : AreGrouped together stretches
+  pub most : ℕ
+  pub short : All (IsShort most) stretches
+  pub few : together * most ≤ 2048
 
 -- the stretch is done where its blocks are marked, all or none
 abbrev pub IsUniform : List Bool → Stretch → Type 0
@@ -42,9 +87,19 @@ AreLongest most stretches = (k : ℕ) (d : Stretch) → k + 1 < length stretches
     → (slice_index_or stretches k d).done ≡ (slice_index_or stretches (k + 1) d).done
     → (slice_index_or stretches k d).end - (slice_index_or stretches k d).first ≡ most
 
--- how many blocks of so many bytes a job has: one; or, for speed, where there are more than 64, a thirty-second of them,
--- but at most 16 MiB, and at least 1 MiB and one block
-abbrev pub blocks_in_job : JobLength → (blocks block_size : ℕ) → ℕ
-blocks_in_job length_of_jobs.OneBlock blocks block_size = 1
-blocks_in_job length_of_jobs.Longer blocks block_size =
+-- of how many blocks of so many bytes the marks are set together: of one; or, for speed, where there are more than 64, of
+-- a thirty-second of them, but of at most 16 MiB, and at least 1 MiB and one block
+abbrev pub blocks_together : JobLength → (blocks block_size : ℕ) → ℕ
+blocks_together length_of_jobs.OneBlock blocks block_size = 1
+blocks_together length_of_jobs.Longer blocks block_size =
     cond (nat_le blocks 64) 1 (max (max (min (blocks / 32) (16777216 / block_size)) (1048576 / block_size)) 1)
+
+-- how many of these a job has: as many as make 256 KiB, and at least one; more where there were more than 65,536 jobs
+abbrev pub blocks_in_job : JobLength → (blocks block_size : ℕ) → ℕ
+blocks_in_job jobs blocks block_size =
+    min (blocks_together jobs blocks block_size) (max (max (262144 / block_size) (blocks / 65536)) 1)
+
+-- so many jobs have these blocks
+abbrev pub jobs_together : JobLength → (blocks block_size : ℕ) → ℕ
+jobs_together jobs blocks block_size =
+    blocks_together jobs blocks block_size / blocks_in_job jobs blocks block_size

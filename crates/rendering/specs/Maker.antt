@@ -9,7 +9,8 @@ use Rattle.execution.specs.Marking.{Marking}
 use Rattle.execution.specs.Plan.{JobPlan, SourcesFit}
 use Rattle.rendering.specs.Clipping.{ClipsJob}
 use Rattle.rendering.specs.Marked.{IsRunOf, MarkedWork, block_end, block_place}
-use Rattle.rendering.specs.Work.{IsRenderWork, stretch_at, whole_of, work_of}
+use Rattle.rendering.specs.Work.{IsRenderWork, whole_of, work_of}
+use Rattle.rendering.specs.Cut.{group_at, stretch_at}
 
 -- the rendered file, block by block, and its marks
 abbrev pub marks_of : MarkedWork → Files → Marking
@@ -22,6 +23,7 @@ marks_of marked sources = record {
   jobs = length marked.work.stretches;
   from = λ k. (stretch_at marked.work.stretches k).first;
   end = λ k. (stretch_at marked.work.stretches k).end;
+  group = group_at marked.work.stretches;
   marks = marks_name;
   head = head_of marked.run;
 }
@@ -30,6 +32,7 @@ marks_of marked sources = record {
 abbrev pub plan_of : MarkedWork → JobPlan
 plan_of marked = record {
   jobs = work_of marked.work;
+  group = group_at marked.work.stretches;
   marks = true;
   marking = λ sources. Some (marks_of marked sources);
   whole = λ sources name. whole_of marked.work sources;

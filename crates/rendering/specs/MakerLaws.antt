@@ -8,10 +8,12 @@ use Rattle.rendering.specs.CutLaws.{IsInside, cut-covers}
 use Rattle.markfile.specs.declared.run.RunId.{RunId}
 use Rattle.markfile.specs.Format.{head_of, marks_name, sound_name}
 use Rattle.markfile.specs.Started as mark_file
-use Rattle.execution.specs.Marking.{AreLeftBy, HoldsIn, IsRunning, Leaves, Marking, is_marked, is_started}
+use Rattle.execution.specs.Marking.{AreLeftBy, HoldsIn, IsRunning, Leaves, Marking, is_marked, is_started, settled}
+use Rattle.execution.specs.TogetherLaws.{all_done}
 use Rattle.rendering.specs.Maker.{IsMarkedWork, marks_of}
 use Rattle.rendering.specs.Marked.{IsAllMarked, IsLeftByRun, MarkedWork, full_marks}
-use Rattle.rendering.specs.Work.{IsRenderWork, RenderWork, no_stretch}
+use Rattle.rendering.specs.Work.{IsRenderWork, RenderWork}
+use Rattle.rendering.specs.Cut.{no_stretch}
 
 -- whether marks are started, by the words of either crate
 pub started_as : (file : Option (List ℕ)) → is_started file ≡ mark_file.is_started file
@@ -43,20 +45,22 @@ module _ (marked : MarkedWork) (sources : Files) (is : IsMarkedWork marked) wher
   m = marks_of marked sources
 
   -- where all jobs are done each block is marked
-  pub finished_marks : (done : ℕ → Bool) (outcomes : Files → Type 0) → IsRunning m done outcomes
+  pub finished_marks : (done : ℕ → Bool) (files : Files) (outcomes : Files → Type 0) → IsRunning m done files outcomes
       → ((k : ℕ) → k < length marked.work.stretches → done k ≡ true) → (c : Files) → outcomes c
       → IsAllMarked marked.run (c marks_name)
-  finished_marks done outcomes runs all c left = record {
+  finished_marks done files outcomes runs all c left = record {
     marks = runs.marks;
     there = runs.kept c left;
     ours = record { front = runs.ours.front; size = runs.ours.size };
     all = λ b lt. let job = block_job marked is b lt in
-        runs.tell job.place b job.there job.behind_first job.before_end ∙ all job.place job.there;
+        runs.tell job.place b job.there job.behind_first job.before_end
+        ∙ all_done m.jobs m.group job.place done (λ k below same. all k below);
   }
 
   -- what was marked stands at each later moment
   pub marked_stays : (before after : ℕ → Bool) (outcomes : Files → Type 0) (files c : Files) (marks : List ℕ)
-      → IsRunning m before outcomes → outcomes files → files marks_name ≡ Some marks → Leaves m before after c
+      → IsRunning m before files outcomes → outcomes files → files marks_name ≡ Some marks
+      → Leaves m (settled m before) (settled m after) c
       → HoldsIn m (is_marked marks) (c sound_name)
   marked_stays before after outcomes files c marks runs now there left = record {
     bytes = left.wave.bytes;

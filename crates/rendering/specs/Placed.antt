@@ -1,26 +1,41 @@
 -- A stretch of blocks with its bytes.
-use Rattle.std.specs.Prelude.{◌≡◌, ◌≢◌, ◌⊎◌, ℕ, ◌+◌, ◌<◌, ◌≤◌, List, Option, Result, Ok, Err, length, slice_index_or}
+use Rattle.std.specs.Prelude.{◌≡◌, ℕ, ◌+◌, ◌<◌, ◌≤◌, List, Option, Result, Ok, Err, length, slice_index_or}
 use Rattle.work_terms.specs.Disk.{Files, Changes, IsTorn, IsWritten}
 use Rattle.execution.specs.declared.fault.PlaceFault.{PlaceFault}
 use Rattle.execution.specs.declared.fault.PlaceFault.TheVariants.{Mark, Write}
 use Rattle.execution.specs.Marking.{Marking}
+use Rattle.rendering.specs.declared.stretch.Stretch.{Stretch}
+use Rattle.rendering.specs.Cut.{IsLastWith, group_at, stretch_at}
 
--- the blocks of the job, and its bytes at their position in the output, which are just those of its blocks
-pub record IsStretchOf (m : Marking) (job at : ℕ) (bytes : List ℕ) (first end : ℕ) : Type 0 where
+-- the bytes of a job at their position in the output, which are just those of its blocks
+pub record IsStretchOf (m : Marking) (job at : ℕ) (bytes : List ℕ) : Type 0 where
   pub there : job < m.jobs
-  pub inside : m.end job ≤ m.count
-  pub begins : first ≡ m.from job
-  pub ends : end ≡ m.end job
   pub right : (i : ℕ) → i < length bytes → slice_index_or bytes i 0 ≡ slice_index_or m.whole (at + i) 0
   pub own : (b : ℕ) → m.from job ≤ b → b < m.end job → (at ≤ m.first b) × (m.last b ≤ at + length bytes)
   pub cover : (i : ℕ) → at ≤ i → i < at + length bytes
       → (b : ℕ) × (b < m.count) × (m.from job ≤ b) × (b < m.end job) × (m.first b ≤ i) × (i < m.last b)
-  pub others : (j : ℕ) → j < m.jobs → j ≢ job → (m.end j ≤ m.from job) ⊎ (m.end job ≤ m.from j)
+
+-- the blocks of the jobs that are marked together with this one; each block is a job's
+pub record AreBlocksWith (m : Marking) (job first end : ℕ) : Type 0 where
+  pub inside : end ≤ m.count
+  pub few : (j b : ℕ) → j < m.jobs → b < m.end j → b < m.count
+  pub own : (j b : ℕ) → j < m.jobs → m.from j ≤ b → b < m.end j → first ≤ b → b < end
+      → m.group j ≡ m.group job
+  pub all : (j b : ℕ) → j < m.jobs → m.from j ≤ b → b < m.end j → m.group j ≡ m.group job
+      → (first ≤ b) × (b < end)
 
 -- the blocks from one on up to, and without, another, not too many of them
 pub record AreFewBlocks (first end : ℕ) : Type 0 where
   pub order : first ≤ end
   pub few : end ≤ first + 2048
+
+-- the blocks of all stretches that are marked together with one
+pub record AreMarkedWith (stretches : List Stretch) (k : ℕ) (s : Stretch) : Type 0 where
+  pub last : ℕ
+  pub is_last : IsLastWith stretches k last
+  pub first : s.first ≡ (stretch_at stretches (group_at stretches k)).first
+  pub end : s.end ≡ (stretch_at stretches last).end
+  pub few : AreFewBlocks s.first s.end
 
 -- an outcome of before with one file torn
 abbrev pub IsTornFrom : (Files → Type 0) → List ℕ → (at n : ℕ) → Files → Type 0

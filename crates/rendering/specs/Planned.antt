@@ -10,23 +10,25 @@ use Rattle.list_terms.specs.Heard.{project_mix, reading_of, sounds_of}
 use Rattle.list_terms.specs.Project.{ListProject}
 use Rattle.job_terms.specs.Workers.{jobs_over}
 use Rattle.execution.specs.Filled.{AreApart, AreParts}
-use Rattle.rendering.specs.Cut.{AreEven, IsCut}
+use Rattle.rendering.specs.Cut.{AreEven, AreGrouped, IsCut}
 use Rattle.rendering.specs.declared.job_length.JobLength.{JobLength}
 use Rattle.sound_terms.specs.Blocks.{block_count}
-use Rattle.rendering.specs.Work.{RenderWork, done_before, heard, job_blocks, whole_of, work_of}
+use Rattle.rendering.specs.Work.{RenderWork, done_before, heard, job_blocks, marked_jobs, whole_of, work_of}
 
 -- the pieces sound like the bound project, over any files
 abbrev pub MixAs : ListProject → Binding → List Piece → Type 0
 MixAs project binding pieces = (files : Files) (channel time : ℕ)
     → sum_of (reading_of files binding) pieces channel time ≡ project_mix files project binding channel time
 
--- it plays these opened files as the project does, in the chosen range, in jobs of this length, to a file that reads back
+-- it plays these opened files as the project does, in the chosen range, in jobs of this length, no more of which are
+-- marked together than of such jobs, to a file that reads back
 pub record IsPlanFor (jobs : JobLength) (project : ListProject) (binding : Binding) (values : OptionValues)
     (work : RenderWork) : Type 0 where
   pub range : work.planned.range ≡ range_of project values
   pub sounds : work.sounds ≡ sounds_of binding
   pub mixes : MixAs project binding work.planned.pieces
   pub even : AreEven (job_blocks jobs work.planned.range) (block_count work.planned.range) work.stretches
+  pub grouped : AreGrouped (marked_jobs jobs work.planned.range) work.stretches
   pub reads_back : (mix : ℕ → ℕ → ℤ)
       → ReadsBack (range_of project values) mix (rendering_of (range_of project values) mix)
 
@@ -37,6 +39,7 @@ pub record IsRenderingOf (jobs : JobLength) (project : ListProject) (binding : B
   pub range : work.planned.range ≡ range_of project values
   pub cut : IsCut 0 work.stretches (block_count work.planned.range)
   pub even : AreEven (job_blocks jobs work.planned.range) (block_count work.planned.range) work.stretches
+  pub grouped : AreGrouped (marked_jobs jobs work.planned.range) work.stretches
   pub some : 0 < (work_of work).count
   pub fresh : (k : ℕ) → done_before work k ≡ false
   pub parts : (sources : Files) → AreParts (jobs_over (work_of work) sources) (λ _. whole_of work sources)

@@ -1,5 +1,5 @@
 -- A rendering as jobs: stretches of its blocks, each a place of the rendered file.
-use Rattle.std.specs.Prelude.{◌≡◌, ℕ, ◌+◌, ◌-◌, ◌*◌, ◌/◌, ◌<◌, ◌≤◌, ℤ, Bool, List, Vec, length, slice_index_or, codes, false}
+use Rattle.std.specs.Prelude.{◌≡◌, ℕ, ◌+◌, ◌-◌, ◌*◌, ◌/◌, ◌<◌, ◌≤◌, ℤ, Bool, List, Vec, length, codes}
 use Rattle.std.specs.List.{All}
 use Rattle.std.specs.declared.alloc.Global.{Global}
 use Rattle.sound_terms.specs.Blocks.{block_count, block_frames, block_length}
@@ -17,7 +17,7 @@ use Rattle.job_terms.specs.Workers.{JobsBy}
 use Rattle.workboard.specs.Indexed.{IsOrder}
 use Rattle.rendering.specs.declared.job_length.JobLength.{JobLength}
 use Rattle.rendering.specs.declared.stretch.Stretch.{Stretch}
-use Rattle.rendering.specs.Cut.{AreLongest, IsCut, IsShort, IsUniform, blocks_in_job}
+use Rattle.rendering.specs.Cut.{AreFewTogether, AreGrouped, AreLongest, IsCut, IsShort, IsUniform, blocks_in_job, jobs_together, stretch_at}
 use Rattle.rendering.specs.Written.{bytes_of_blocks, frames_before}
 
 -- a plan over opened files
@@ -43,11 +43,11 @@ pub record RenderWork : Type 0 where
   pub sounds : List SoundFacts
   pub stretches : List Stretch
 
--- all its blocks, not too many in one stretch, of a file that fits
+-- all its blocks, not too many of which are marked together, of a file that fits
 pub record IsRenderWork (work : RenderWork) : Type 0 where
   pub planned : IsPlan work.planned
   pub cut : IsCut 0 work.stretches (block_count work.planned.range)
-  pub short : All (IsShort 2048) work.stretches
+  pub short : AreFewTogether work.stretches
   pub fits : Fits (render_info work.planned.range)
 
 -- what the plan's pieces sound like over these sources
@@ -67,17 +67,10 @@ pub record HasRoom (range : Range) (k room : ℕ) : Type 0 where
   pub there : k < block_count range
   pub exact : room ≡ bytes_for range (block_frames range k)
 
--- what stands behind the last stretch
-abbrev pub no_stretch : Stretch
-no_stretch = record { first = 0; end = 0; done = false }
-
 -- it has a block, and lies among those of a range
 pub record IsInRange (range : Range) (s : Stretch) : Type 0 where
   pub some : s.first < s.end
   pub there : s.end ≤ block_count range
-
-abbrev pub stretch_at : List Stretch → ℕ → Stretch
-stretch_at stretches k = slice_index_or stretches k no_stretch
 
 abbrev pub stretch_frames : Range → Stretch → ℕ
 stretch_frames range s = frames_before range s.end - frames_before range s.first
@@ -96,12 +89,18 @@ pub record HasRoomAt (range : Range) (s : Stretch) (at room : ℕ) : Type 0 wher
 abbrev pub job_blocks : JobLength → Range → ℕ
 job_blocks jobs range = blocks_in_job jobs (block_count range) (bytes_for range block_length)
 
--- these are all its blocks, each stretch marked whole or not at all, and as long as such a job can be
+-- how many jobs of a range are marked together
+abbrev pub marked_jobs : JobLength → Range → ℕ
+marked_jobs jobs range = jobs_together jobs (block_count range) (bytes_for range block_length)
+
+-- these are all its blocks, each stretch marked whole or not at all, and as long as such a job can be; and no more of them
+-- are marked together than of such jobs
 pub record AreCutBy (jobs : JobLength) (marked : List Bool) (work : RenderWork) : Type 0 where
   pub cut : IsCut 0 work.stretches (block_count work.planned.range)
   pub uniform : All (IsUniform marked) work.stretches
   pub short : All (IsShort (job_blocks jobs work.planned.range)) work.stretches
   pub longest : AreLongest (job_blocks jobs work.planned.range) work.stretches
+  pub grouped : AreGrouped (marked_jobs jobs work.planned.range) work.stretches
 
 -- where a stretch begins in the rendered file
 abbrev pub place_of : Range → Stretch → ℕ

@@ -145,7 +145,7 @@ impl<'a> Blocks<'a> {
     pub fn length_of(&self, frames: usize) -> usize
         requires { frames ≤ 4147200000 }
         ensures bytes { result ≡ bytes_for self.now.planned.range frames }
-        ensures some { frames ≤ result }
+        ensures some { frames * 2 ≤ result }
         ensures few { result ≤ frames * 256 }
     {
         let format = self.plan.format();
@@ -344,7 +344,7 @@ impl<'a> Blocks<'a> {
             let tried = Stretch {
                 first: next,
                 end: next + ahead.min(stretch.end - next),
-                done: false,
+                ..*stretch
             };
             let played = self.play_next(&tried, shelf, bytes, end)?;
             let before = u64::from(next - stretch.first) * BLOCK_LENGTH as u64 * channels;

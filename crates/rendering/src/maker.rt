@@ -16,18 +16,18 @@ ghost use Rattle.execution.specs.Marking.{AreLeftBy, IsRunningBy, NoneStartedBy}
 ghost use Rattle.execution.specs.Plan.{IsAt, Stays};
 ghost use Rattle.rendering.specs.Fault.{refusal_of};
 ghost use Rattle.rendering.specs.Clipping.{ClipsIn, ClipsUnmarked};
-ghost use Rattle.rendering.specs.Cut.{IsUniform};
+ghost use Rattle.rendering.specs.Cut.{IsUniform, stretch_at};
 ghost use Rattle.rendering.specs.Maker.{HasClips, HasSoundJobs, IsMarkedWork, IsReopened, plan_of};
 ghost use Rattle.rendering.specs.Marked.{IsFoundAs, run_of};
 ghost use Rattle.rendering.specs.Planned.{IsRenderingOf};
 ghost use Rattle.rendering.specs.Rendering.{HasRange, HaveChannels, render_fault, values_of};
-ghost use Rattle.rendering.specs.Work.{AreCutBy, IsInRange, done_before, heard, stretch_at, work_of};
+ghost use Rattle.rendering.specs.Work.{AreCutBy, IsInRange, done_before, heard, work_of};
 ghost use Rattle.rendering.specs.Written.{frames_before};
 
 use crate::blocks::BLOCK_LENGTH;
 use crate::job_length::JobLength;
 use crate::marked::count_of;
-use crate::placement::place_marked;
+use crate::placement::{place, place_marked};
 use crate::stretch::Stretch;
 use crate::{Options, Order, RenderFault, Rendered, Rendering};
 use clipping::Clips;
@@ -46,8 +46,8 @@ const SOUND_OUTPUT: u32 = 0;
 const MARKS_OUTPUT: u32 = 1;
 
 /// A rendering whose blocks are marked, as an execution does it: the rendered file is laid out and its marks are begun,
-/// each job's bytes are written and synced before its blocks are marked, and both files are synced at the end. Another
-/// run of the same list goes on where this one stopped. It notes what is clipped of each job. It holds its marks as they
+/// each job's bytes are written, once those of all jobs that are marked together are written they are synced and their
+/// blocks marked, and both files are synced at the end. Another run of the same list goes on where this one stopped. It notes what is clipped of each job. It holds its marks as they
 /// are begun, so that no memory is taken once it is planned and its marks are opened.
 #[derive(Drop)]
 pub struct RenderingWork<'a> {
@@ -152,6 +152,10 @@ impl<'a> JobMaker for RenderingWork<'a> {
         self.rendering.job_size(job)
     }
 
+    fn group(&self, job: u32) -> u32 {
+        self.rendering.stretch(job).group
+    }
+
     fn frames(&self, job: u32) -> u64 {
         self.rendering.job_frames(job)
     }
@@ -171,10 +175,20 @@ impl<'a> JobMaker for RenderingWork<'a> {
         }
     }
 
-    fn write<B: Bench>(&mut self, job: u32, bytes: &[u8], bench: &mut B) -> Result<(), PlaceFault> {
+    fn write<B: Bench>(
+        &mut self,
+        job: u32,
+        bytes: &[u8],
+        last: bool,
+        bench: &mut B,
+    ) -> Result<(), PlaceFault> {
         let stretch = self.rendering.stretch(job);
         let at = self.rendering.place_at(&stretch);
-        place_marked(bench, at, bytes, stretch.first, stretch.end)
+        if !last {
+            return place(bench, at, bytes);
+        }
+        let blocks = self.rendering.blocks_with(job);
+        place_marked(bench, at, bytes, blocks.first, blocks.end)
     }
 
     fn lay_out<B: Bench>(&mut self, bench: &mut B) -> Result<(), OutputFault> {
@@ -258,7 +272,7 @@ impl<'a> RenderingWork<'a> {
             → AreLeftBy ((plan_of self.old).marking sources) (B.may_leave bench.old)
             → (done : ℕ → Bool) → ((k : ℕ) → k < (plan_of self.new).jobs.count → done k ≡ done_before self.new.work k)
             → IfOk result (λ found. IfSome found (λ _. IsRunningBy ((plan_of self.new).marking sources) done
-            (B.may_leave bench.new))) }
+            (output_view B.Bench bench.new))) }
         ensures filled { IsTrue (B.honest bench.old) → (sources : Files)
             → AreLeftBy ((plan_of self.old).marking sources) (B.may_leave bench.old)
             → (done : ℕ → Bool) → ((k : ℕ) → k < (plan_of self.new).jobs.count → done k ≡ done_before self.new.work k)
@@ -325,7 +339,7 @@ impl<'a> RenderingWork<'a> {
     }
 
     /// The order in which its jobs are handed out, of the project that it was planned of: by time, or by the source of
-    /// the first block in which something sounds. Want of memory is the only error.
+    /// the first block in which something sounds of those that are marked together. Want of memory is the only error.
     pub fn order(
         &self,
         alloc: Global,

@@ -1,5 +1,5 @@
 // A rendering whose blocks are marked as they come to stand on the disk.
-ghost use Rattle.std.specs.Prelude.{◌≡◌, ◌<◌, ◌≤◌, ◌+◌, ◌^◌, ⊤, IfOk, IsTrue, OnOk, Some, length, map};
+ghost use Rattle.std.specs.Prelude.{◌≡◌, ◌<◌, ◌-◌, ◌^◌, ⊤, IfOk, IsTrue, OnOk, Some, length, map};
 ghost use Rattle.sha2.specs.Sha256.{sha256};
 ghost use Rattle.sound_terms.specs.Blocks.{block_count};
 ghost use Rattle.work_terms.specs.Disk.{IsDurable};
@@ -7,13 +7,15 @@ ghost use Rattle.devices.specs.Frame.{OnlyReads};
 ghost use Rattle.markfile.specs.Format.{run_bytes, sound_name};
 ghost use Rattle.rendering.specs.Marked.{file_length, laid_file, marked_count};
 ghost use Rattle.rendering.specs.Clipping.{ClipsJob};
-ghost use Rattle.rendering.specs.Work.{AreCutBy, IsInRange, IsRenderWork, place_of, stretch_at, work_of};
+ghost use Rattle.rendering.specs.Placed.{AreMarkedWith};
+ghost use Rattle.rendering.specs.Cut.{stretch_at};
+ghost use Rattle.rendering.specs.Work.{AreCutBy, IsInRange, IsRenderWork, place_of, work_of};
 ghost use Rattle.rendering.specs.Written.{Spares, WritesRendering};
 
 use crate::Rendering;
 use crate::blocks::BLOCK_LENGTH;
-use crate::job_length::{JobLength, blocks_in_job, stretches_of};
-use crate::stretch::Stretch;
+use crate::job_length::{JobLength, blocks_in_job, jobs_together, stretches_of};
+use crate::stretch::{Stretch, last_with};
 use clipping::Clips;
 use devices::{Bench, DeviceFault, Shelf};
 use markfile::RunId;
@@ -25,9 +27,21 @@ impl<'a> Rendering<'a> {
         requires { job < (work_of self.now).count }
         ensures stretch { result ≡ stretch_at self.now.stretches job }
         ensures inside { IsInRange self.now.planned.range result }
-        ensures few { result.end ≤ result.first + 2048 }
     {
         self.stretches[job as usize]
+    }
+
+    /// The blocks of all jobs that are marked together with this one.
+    pub(crate) fn blocks_with(&self, job: u32) -> Stretch
+        requires { job < (work_of self.now).count }
+        ensures { AreMarkedWith self.now.stretches job result }
+    {
+        let first = self.stretches[job as usize].group as usize;
+        let last = last_with(self.stretches.as_slice(), job as usize);
+        Stretch {
+            end: self.stretches[last].end,
+            ..self.stretches[first]
+        }
     }
 
     /// Makes the bytes of this job; gives what was clipped of them.
@@ -100,9 +114,11 @@ impl<'a> Rendering<'a> {
         ensures cut { IfOk result (λ cut. AreCutBy jobs marked.now (record self.now { stretches = cut.items })) }
         ensures whole { IfOk result (λ cut. IsRenderWork (record self.now { stretches = cut.items })) }
     {
+        let count = self.blocks.count();
         let block = self.blocks.length_of(BLOCK_LENGTH) as u32;
-        let most = blocks_in_job(jobs, self.blocks.count(), block);
-        stretches_of(alloc, marked, most)
+        let most = blocks_in_job(jobs, count, block);
+        let stretches = stretches_of(alloc, marked, most, jobs_together(jobs, count, block))?;
+        Ok(stretches)
     }
 
     /// Has these jobs from now on.

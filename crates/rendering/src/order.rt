@@ -8,7 +8,7 @@ ghost use Rattle.rendering.specs.Work.{IsOrderOf, work_of};
 
 use crate::Rendering;
 use crate::blocks::Blocks;
-use crate::stretch::Stretch;
+use crate::stretch::{Stretch, last_with};
 use execution::{in_order_of, in_turn};
 use job_terms::Order;
 use projectcheck::Checked;
@@ -26,7 +26,7 @@ fn key_of(source: Option<(u32, u64)>, homes: &[Home]) -> u64 {
     }
 }
 
-/// The key of each stretch.
+/// The key of each stretch: that of all blocks that are marked together with it.
 fn keys_of(
     alloc: Global,
     blocks: &Blocks,
@@ -37,15 +37,23 @@ fn keys_of(
     ensures { IfOk result (λ keys. length keys.items ≡ length stretches.now) }
 {
     let mut keys = Vec::new(alloc);
-    for stretch in stretches {
-        keys.push(key_of(blocks.source_of(stretch), homes))?;
+    let mut key = u64::MAX;
+    for (i, stretch) in stretches.iter().enumerate() {
+        if stretch.group as usize == i {
+            let whole = Stretch {
+                end: stretches[last_with(stretches, i)].end,
+                ..*stretch
+            };
+            key = key_of(blocks.source_of(&whole), homes);
+        }
+        keys.push(key)?;
     }
     Ok(keys)
 }
 
 impl<'a> Rendering<'a> {
     /// The order in which its jobs are handed out, of the project that it was planned of: by time, or by the source of
-    /// the first block in which something sounds. Want of memory is the only error.
+    /// the first block in which something sounds of those that are marked together. Want of memory is the only error.
     pub fn order(
         &self,
         alloc: Global,

@@ -10,15 +10,15 @@ ghost use Rattle.list_terms.specs.Accepted as accepted;
 ghost use Rattle.list_terms.specs.Heard.{sounds_of};
 ghost use Rattle.markfile.specs.Range as marks;
 ghost use Rattle.wavwrite.specs.Info.{Fits};
-ghost use Rattle.rendering.specs.Cut.{AreEven, AreShort, IsCut};
+ghost use Rattle.rendering.specs.Cut.{AreEven, AreFewTogether, AreGrouped, IsCut};
 ghost use Rattle.rendering.specs.Fault.{ComesFirst, WantsMemory, refusal_of};
 ghost use Rattle.rendering.specs.Planned.{IsPlanFor, IsRenderingOf, MixAs};
 ghost use Rattle.rendering.specs.Rendering.{HasRange, HaveChannels, IsSpan, render_fault, values_of};
-ghost use Rattle.rendering.specs.Work.{IsRenderWork, job_blocks};
+ghost use Rattle.rendering.specs.Work.{IsRenderWork, job_blocks, marked_jobs};
 ghost use Rattle.rendering.specs.declared.fault.RenderFault.TheVariants.{Memory};
 
 use crate::blocks::{BLOCK_LENGTH, Blocks};
-use crate::job_length::{JobLength, blocks_in_job, fresh_stretches};
+use crate::job_length::{JobLength, blocks_in_job, fresh_stretches, jobs_together};
 use crate::span::span_of;
 use crate::stretch::Stretch;
 use crate::{Options, RenderFault};
@@ -144,12 +144,14 @@ fn stretches_of(
     ensures cut { IfOk result (λ stretches. IsCut 0 stretches.items (block_count blocks.now.planned.range)) }
     ensures even { IfOk result (λ stretches. AreEven (job_blocks jobs blocks.now.planned.range)
         (block_count blocks.now.planned.range) stretches.items) }
-    ensures short { IfOk result (AreShort 2048) }
+    ensures grouped { IfOk result (λ stretches. AreGrouped (marked_jobs jobs blocks.now.planned.range) stretches.items) }
+    ensures short { IfOk result (λ stretches. AreFewTogether stretches.items) }
     ensures only_memory { IfErr result WantsMemory }
 {
     let count = blocks.count();
-    let most = blocks_in_job(jobs, count, blocks.length_of(BLOCK_LENGTH) as u32);
-    let stretches = fresh_stretches(alloc, count, most)?;
+    let block = blocks.length_of(BLOCK_LENGTH) as u32;
+    let most = blocks_in_job(jobs, count, block);
+    let stretches = fresh_stretches(alloc, count, most, jobs_together(jobs, count, block))?;
     Ok(stretches)
 }
 

@@ -12,6 +12,7 @@ plan_of = record {
     size = λ _. 1;
     bytes = λ _ _. 7 ∷ [];
   };
+  group = λ k. k;
   marks = false;
   marking = λ _. None;
   whole = λ _ name. cond (bytes_eq (codes "list") name) (1 ∷ []) (replicate 64 7);

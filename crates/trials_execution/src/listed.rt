@@ -53,6 +53,10 @@ impl JobMaker for Listed {
         1
     }
 
+    fn group(&self, job: u32) -> u32 {
+        job
+    }
+
     fn frames(&self, _job: u32) -> u64 {
         1
     }
@@ -67,7 +71,13 @@ impl JobMaker for Listed {
         Ok(())
     }
 
-    fn write<B: Bench>(&mut self, job: u32, bytes: &[u8], bench: &mut B) -> Result<(), PlaceFault> {
+    fn write<B: Bench>(
+        &mut self,
+        job: u32,
+        bytes: &[u8],
+        _last: bool,
+        bench: &mut B,
+    ) -> Result<(), PlaceFault> {
         match bench.write_at(OUT, job as u64, bytes) {
             Ok(()) => return Ok(()),
             Err(_) => return Err(PlaceFault::Write),

@@ -259,7 +259,8 @@ impl Job {
         Ok(job)
     }
 
-    /// The rendering of 200 blocks of two channels of 24 bits, in longer jobs, the first of which has 170 blocks.
+    /// The rendering of 200 blocks of two channels of 24 bits, in longer jobs of ten, the marks of four of which are set
+    /// together.
     pub(crate) fn of_many_blocks(alloc: Global) -> Result<Self, Fail> {
         let source = sound(alloc, MANY_FRAMES)?;
         let mut job = Job::over(alloc, Call::Render, MANY_BLOCKS, source, MANY_FRAMES)?;

@@ -1,5 +1,6 @@
 use Rattle.std.proofs.Common.{rules, ◌∙◌, None, refl, sym}
 use Rattle.job_terms.specs.Workers.{CantMark, CantWrite, Delivers, IsStale}
+use Rattle.execution.specs.Marking.{done_of}
 use Rattle.execution.specs.Worlds.{state_of}
 use Rattle.execution.proofs.Changes.{alike-after, current-undone, done-accepted}
 use Rattle.execution.proofs.Firsts.{mark-is, raised, worker-hand}
@@ -47,16 +48,16 @@ pub returns-in-Ok-clause-marks : goal.returns-in-Ok-clause-marks
 returns-in-Ok-clause-marks g c honest sources right run =
     let current = sym c.is_current.ensures ∙ c.if-not-is_current.false in
     let made = rw (worker-hand _ _ _ c.worker.view_is c.in-Some.is c.if-not-worker.false) at right in
-    let marks = c.in-Ok.ensures.marks honest sources _ (rw c.deref.ensures.value made)
-    (current-undone c.args.board.now c.in-Some.ticket current) run in
+    let marks = c.in-Ok.ensures.marks honest sources (done_of c.args.board.now) (rw c.deref.ensures.value made)
+    (current-undone c.args.board.now c.in-Some.ticket current) c.is_last-last.ensures run in
     marks-placed (done-accepted c.args.board.now _ c.in-Some.ticket current c.accept.ensures.done) marks.goes_on marks
 
 pub returns-in-Err-Mark-clause-marks : goal.returns-in-Err-Mark-clause-marks
 returns-in-Err-Mark-clause-marks g c honest sources right run =
     let current = sym c.is_current.ensures ∙ c.if-not-is_current.false in
     let made = rw (worker-hand _ _ _ c.worker.view_is c.in-Some.is c.if-not-worker.false) at right in
-    let marks = rw c.in-Err-Mark.field-0-is at (c.in-Err-Mark.ensures.marks honest sources _
-    (rw c.deref.ensures.value made) (current-undone c.args.board.now c.in-Some.ticket current) run) in
+    let marks = rw c.in-Err-Mark.field-0-is at (c.in-Err-Mark.ensures.marks honest sources (done_of c.args.board.now)
+    (rw c.deref.ensures.value made) (current-undone c.args.board.now c.in-Some.ticket current) c.is_last-last.ensures run) in
     marks-placed (done-accepted c.args.board.now _ c.in-Some.ticket current c.accept-in-Err-Mark.ensures.done)
     marks.goes_on marks
 
@@ -64,8 +65,8 @@ pub returns-in-Err-Write-clause-marks : goal.returns-in-Err-Write-clause-marks
 returns-in-Err-Write-clause-marks g c honest sources right run =
     let current = sym c.is_current.ensures ∙ c.if-not-is_current.false in
     let made = rw (worker-hand _ _ _ c.worker.view_is c.in-Some.is c.if-not-worker.false) at right in
-    let marks = rw c.in-Err-Write.field-0-is at (c.in-Err-Write.ensures.marks honest sources _
-    (rw c.deref.ensures.value made) (current-undone c.args.board.now c.in-Some.ticket current) run) in
+    let marks = rw c.in-Err-Write.field-0-is at (c.in-Err-Write.ensures.marks honest sources (done_of c.args.board.now)
+    (rw c.deref.ensures.value made) (current-undone c.args.board.now c.in-Some.ticket current) c.is_last-last.ensures run) in
     let alike = alike-after (state_of c.args.board.now (λ _. None) 0 0 0 None) c.in-Some.ticket
     (c.failed.ensures.step (λ _. None) 0 0 0) in
     marks-placed (λ j. sym (alike.done j))

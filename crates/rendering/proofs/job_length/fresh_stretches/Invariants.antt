@@ -1,5 +1,5 @@
 use Rattle.std.proofs.Common.{◌≡◌, ◌*◌, ◌≤◌, ◌-◌, length, All, min}
-use Rattle.rendering.specs.Cut.{AreEven, IsCut, IsFresh, IsShort}
+use Rattle.rendering.specs.Cut.{AreEven, AreGrouped, IsCut, IsFresh, IsShort}
 use Rattle.rendering.proofs.job_length.fresh_stretches.Given as goal
 
 abbrev pub invariant-loop-first : goal.invariant-loop-first
@@ -10,6 +10,7 @@ invariant-loop-first l = record {
   even : AreEven l.most l.blocks l.stretches.items;
   fresh : All IsFresh l.stretches.items;
   short : All (IsShort l.most) l.stretches.items;
+  grouped : AreGrouped l.together l.stretches.items;
 }
 
 abbrev pub decreases-loop-first : goal.decreases-loop-first

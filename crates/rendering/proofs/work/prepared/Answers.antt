@@ -10,6 +10,7 @@ returns-clause-prepared c =
     let fits = c.reads_back.ensures.short c.info_of-info.ensures.short in
     rw made (record {
       even = rw made at c.in_ok-stretches.ensures.even;
+      grouped = rw made at c.in_ok-stretches.ensures.grouped;
       range = c.in_ok-plan.ensures.range ∙ chosen;
       sounds = c.sounds.ensures.sounds ∙ ap sounds_of c.bound.ensures;
       mixes = c.in_ok-plan.ensures.mixes;

@@ -2,7 +2,8 @@ use Rattle.std.proofs.Common.{◌≡◌, ◌-◌, ◌<◌, ◌≤◌, length, ar
 use Rattle.std.proofs.lemmas.List.{drop_all, drop_more}
 use Rattle.sound_terms.specs.Blocks.{block_count, block_start}
 use Rattle.rendering.specs.Clipping.{unmarked}
-use Rattle.rendering.specs.Work.{heard, no_stretch, stretch_at}
+use Rattle.rendering.specs.Cut.{no_stretch, stretch_at}
+use Rattle.rendering.specs.Work.{heard}
 use Rattle.rendering.specs.Written.{frames_before}
 use Rattle.rendering.proofs.Clipped.{clips_after, clips_none}
 use Rattle.rendering.proofs.Jobs.{stretch_inside}

@@ -1,7 +1,8 @@
 use Rattle.std.proofs.Common.{sym}
 use Rattle.std.proofs.lemmas.List.{get_or_read_under}
 use Rattle.rendering.specs.Maker.{no_clips}
-use Rattle.rendering.specs.Work.{heard, no_stretch, stretch_at}
+use Rattle.rendering.specs.Cut.{no_stretch, stretch_at}
+use Rattle.rendering.specs.Work.{heard}
 use Rattle.rendering.proofs.Clipped.{done_kept, open_sums}
 use Rattle.rendering.proofs.maker.RenderingWork.clips_in.Goals as goal
 

@@ -12,9 +12,11 @@ invariant_of-self g c = rw c.take_up.ensures (
 pub returns-clause-running : goal.returns-clause-running
 returns-clause-running g c honest sources left done agrees =
     let cut = c.in-Ok-cut_by.ensures in
-    rw c.take_up.ensures (goes_on_running sources cut.whole c.self.invariant.1
+    rw (c.take_up.ensures, c.in-Ok.ensures.only_reads.same) (goes_on_running sources cut.whole c.self.invariant.1
     (rw c.in-Some.is at (c.in-Ok.ensures.whole honest)) (rw (← c.self.view_is) at left) c.in-Ok.ensures.untouched.crash
     (rw c.in-Ok.ensures.only_reads.same at (c.in-Ok.ensures.settled honest))
+    (rw c.in-Ok.ensures.only_reads.same at (g.met.B.Bench.reads_now c.open_marks.new.bench
+    (rw c.in-Ok.ensures.only_reads.honest_same honest)))
     (rw c.as_slice.ensures.value at cut.cut.uniform) done (rw c.take_up.ensures at agrees))
 
 pub returns-clause-filled : goal.returns-clause-filled
@@ -22,9 +24,7 @@ returns-clause-filled g c honest sources left done agrees = filled_running (reco
   work = c.take_up.new.self;
   run = c.self.inside.run;
   clips = c.in-Ok-unclipped.clips.items;
-}) sources (invariant_of-self g c).0 (invariant_of-self g c).1
-    (returns-clause-running g c honest sources left done agrees)
-    (g.met.B.Bench.reads_now _ (rw c.in-Ok.ensures.only_reads.honest_same honest))
+}) sources (invariant_of-self g c).0 (returns-clause-running g c honest sources left done agrees)
 
 -- ---- its blocks are cut anew, or as they were
 

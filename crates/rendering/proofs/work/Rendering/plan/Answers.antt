@@ -6,7 +6,7 @@ use Rattle.sound_terms.specs.Render.{rendering_of}
 use Rattle.list_terms.specs.Accepted.{range_of}
 use Rattle.rendering.specs.MakerLaws.{some_job}
 use Rattle.rendering.specs.Rendering.{values_of}
-use Rattle.rendering.specs.Work.{no_stretch}
+use Rattle.rendering.specs.Cut.{no_stretch}
 use Rattle.rendering.proofs.Jobs.{are_apart, are_parts}
 use Rattle.rendering.proofs.work.Rendering.plan.Goals as goal
 
@@ -21,9 +21,10 @@ returns-clause-planned c =
       range = is.range;
       cut = whole.cut;
       even = is.even;
+      grouped = is.grouped;
       some = some_job work whole;
       fresh = λ k. elim (cases_lt k (length work.stretches)) [
-        | inl below ↦ rw (is.even k no_stretch below) refl
+        | inl below ↦ (is.even k below).fresh
         | inr past ↦ rw (get_or_past work.stretches k no_stretch past) refl
       ];
       parts = λ sources. are_parts work sources whole;

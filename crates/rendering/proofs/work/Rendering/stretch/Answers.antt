@@ -1,5 +1,5 @@
 use Rattle.std.proofs.lemmas.List.{get_or_read}
-use Rattle.rendering.specs.Work.{no_stretch}
+use Rattle.rendering.specs.Cut.{no_stretch}
 use Rattle.rendering.proofs.Jobs.{stretch_inside}
 use Rattle.rendering.proofs.work.Rendering.stretch.Goals as goal
 
