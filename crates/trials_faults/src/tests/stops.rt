@@ -232,7 +232,7 @@ fn crashes_that_keep_all(rt: HostRuntime) -> Result<(), Fail> {
 
 #[test]
 fn crashes_within_jobs_of_many_blocks(rt: HostRuntime) -> Result<(), Fail> {
-    let mut runs = Runs::new(Job::of_many_blocks(rt.alloc())?, 3)?;
+    let mut runs = Runs::new(Job::of_many_blocks(rt.alloc())?, 5)?;
     let calls = runs.stop_each(&rt, Call::Render, &LEFT)?;
     assert!(rt; calls > 20, "{calls}");
     assert!(rt; runs.ended > 120, "{}", runs.ended);
