@@ -6,3 +6,6 @@ pub mod OneSide
 pub mod SameReads
 pub mod GroupLength
 pub mod EntryMix
+pub mod Packing
+pub mod Three
+pub mod Lengthened

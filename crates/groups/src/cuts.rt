@@ -6,8 +6,7 @@ ghost use Rattle.sound_terms.specs.Groups.{IsGroup, IsPiece, mix_of, reads};
 ghost use Rattle.groups.specs.Apart.{IsApart};
 ghost use Rattle.sound_terms.specs.Passes.{as_group, cut_group, cut_groups, piece_before, piece_behind};
 
-use crate::group::Pieces;
-use crate::{Group, IntervalFault, Intervals, Piece};
+use crate::{Group, IntervalFault, Intervals, Piece, Pieces};
 use sampletime::SampleTime;
 use std::alloc::AllocError;
 
@@ -89,7 +88,7 @@ impl Group {
             before: Pieces::new(alloc),
             after: Pieces::new(alloc),
         };
-        for piece in self.pieces() {
+        for piece in self.pieces().as_slice() {
             push_piece(&mut cut.before, before(piece, time))?;
             push_piece(&mut cut.after, after(piece, time))?;
         }

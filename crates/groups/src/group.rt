@@ -1,22 +1,25 @@
 // Pieces that continue one another.
-ghost use Rattle.std.specs.Prelude.{◌≡◌, ◌≢◌, MatchOption, IfSome, ◌++◌, ◌∷◌, [], IsTrue, IsSome, OnErr, OnOk, Some};
+ghost use Rattle.std.specs.Prelude.{◌≡◌, ◌≢◌, MatchOption, IfSome, ◌++◌, ◌∷◌, [], IsTrue, IsSome, Some};
 ghost use Rattle.std.specs.List.{All};
 ghost use Rattle.sound_terms.specs.Groups.{IsGroup, IsPiece, start_of};
 ghost use Rattle.sound_terms.specs.Passes.{is_followed_by, lengthened};
+ghost use Rattle.groups.specs.Packed.{pieces_in};
 
+use crate::packed::Packed;
 use smallvec::SmallVec;
 use sound_terms::Piece;
-use std::alloc::{AllocError, Global};
+use std::alloc::Global;
 use std::marker::Model;
 
-/// The pieces of a group. Most groups have one, which needs no memory of its own.
-pub(crate) type Pieces = SmallVec<Piece, 1>;
+/// The pieces of a group, which take no memory of their own.
+pub type Pieces = SmallVec<Piece, 3>;
 
 /// One to three pieces that continue one another in destination and source: a rise, a flat part and a fall, each at
 /// most once. A clause sees the list of its pieces.
 #[derive(Debug, Drop)]
 pub struct Group {
-    pieces: Pieces,
+    alloc: Global,
+    packed: Packed,
 }
 
 impl Model for Group {
@@ -24,12 +27,13 @@ impl Model for Group {
     ghost use Rattle.std.specs.List.{All};
     ghost use Rattle.sound_terms.specs.declared.piece.Piece.{Piece};
     ghost use Rattle.sound_terms.specs.Groups.{IsGroup, IsPiece};
+    ghost use Rattle.groups.specs.Packed.{pieces_in};
 
     ghost Value = { List Piece };
 
-    ghost view = { λ group. group.pieces.items };
+    ghost view = { λ group. pieces_in group.packed };
 
-    ghost invariant = { λ group. IsGroup group.pieces.items × All IsPiece group.pieces.items };
+    ghost invariant = { λ group. IsGroup (pieces_in group.packed) × All IsPiece (pieces_in group.packed) };
 }
 
 impl Group {
@@ -38,9 +42,8 @@ impl Group {
         requires { IsPiece piece }
         ensures { result ≡ piece ∷ [] }
     {
-        let mut pieces = SmallVec::new(alloc);
-        pieces.push_reserved(piece);
-        Group { pieces }
+        let packed = Packed::alone(&piece);
+        Group { alloc, packed }
     }
 
     /// These pieces as a group; `None` where there is none.
@@ -50,46 +53,49 @@ impl Group {
         ensures pieces { MatchOption result (pieces.items ≡ []) (λ group. group ≡ pieces.items) }
         ensures formed { IfSome result (λ group. IsGroup group × All IsPiece group) }
     {
-        if pieces.is_empty() {
-            return None;
-        }
-        Some(Group { pieces })
+        let packed = Packed::of(pieces.as_slice())?;
+        Group::unpacked(*pieces.allocator(), packed)
     }
 
-    /// Where it takes its memory.
+    /// The pieces of this record as a group; `None` where there is none.
+    pub(crate) fn unpacked(alloc: Global, packed: Packed) -> Option<Self>
+        requires { pieces_in packed ≢ [] → IsGroup (pieces_in packed) × All IsPiece (pieces_in packed) }
+        ensures pieces { MatchOption result (pieces_in packed ≡ []) (λ group. group ≡ pieces_in packed) }
+        ensures formed { IfSome result (λ group. IsGroup group × All IsPiece group) }
+    {
+        if packed.is_empty() {
+            return None;
+        }
+        Some(Group { alloc, packed })
+    }
+
+    /// Where what is made of it takes its memory.
     pub(crate) fn allocator(&self) -> Global {
-        *self.pieces.allocator()
+        self.alloc
     }
 
     /// Its pieces, in order.
-    pub fn pieces(&self) -> &[Piece]
-        ensures lent { result.now ≡ self.now }
+    pub fn pieces(&self) -> Pieces
+        ensures pieces { result.items ≡ self.now }
         ensures group { IsGroup self.now }
         ensures sound { All IsPiece self.now }
     {
-        self.pieces.as_slice()
+        self.packed.pieces(self.alloc)
     }
 
     /// The time at which it begins, in samples.
     pub fn start(&self) -> u64
         ensures { result ≡ start_of self.now }
     {
-        match self.pieces.as_slice() {
-            [first, ..] => first.start,
-            [] => 0,
-        }
+        self.packed.start()
     }
 
-    /// Adds the pieces of a group that may follow this one, and makes room for just these.
-    pub fn append(&mut self, later: Group) -> Result<(), AllocError>
+    /// Adds the pieces of a group that may follow this one.
+    pub fn append(&mut self, later: Group)
         requires { IsTrue (is_followed_by self.old later) }
-        ensures appended { OnOk result (self.new ≡ self.old ++ later) }
-        ensures unchanged { OnErr result (self.new ≡ self.old) }
+        ensures { self.new ≡ self.old ++ later }
     {
-        let pieces = later.pieces.as_slice();
-        self.pieces.reserve_exact(pieces.len())?;
-        self.pieces.extend_from_slice(pieces)?;
-        Ok(())
+        self.packed = self.packed.followed_by(&later.packed);
     }
 
     /// Lengthens its one flat piece by a flat one that it goes on with.
@@ -98,8 +104,6 @@ impl Group {
         requires sound { IsPiece later }
         ensures { lengthened later self.old ≡ Some self.new }
     {
-        if let [piece] = self.pieces.as_mut_slice() {
-            piece.length += later.length;
-        }
+        self.packed = self.packed.lengthened(&later);
     }
 }

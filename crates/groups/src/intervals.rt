@@ -85,7 +85,8 @@ impl Intervals {
 fn is_whole_group(group: &Group) -> bool
     ensures { result ≡ list_all spec.is_whole group.now }
 {
-    group.pieces().iter().all(is_whole)
+    let pieces = group.pieces();
+    pieces.as_slice().iter().all(is_whole)
 }
 
 /// Whether the piece is flat, or a ramp of its whole length.

@@ -5,11 +5,12 @@ mod cuts;
 mod fault;
 mod group;
 mod intervals;
+mod packed;
 mod parts;
 mod placed;
 
 pub use fault::IntervalFault;
-pub use group::Group;
+pub use group::{Group, Pieces};
 pub use intervals::Intervals;
 pub use parts::group_of;
 pub use sound_terms::{Piece, Placed, Shape};

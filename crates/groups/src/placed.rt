@@ -68,7 +68,8 @@ impl Group {
     fn placed(&self) -> Option<Placed>
         ensures { option_to_list result ≡ event_of self.now }
     {
-        let pieces = self.pieces();
+        let parts = self.pieces();
+        let pieces = parts.as_slice();
         let first = pieces.first()?;
         let Ramps { rise, fall } = ramps_of(pieces);
         Some(Placed {

@@ -3,5 +3,5 @@
 
 mod sound;
 
-pub use groups::{Group, IntervalFault, Intervals, Piece, Placed, Shape, group_of};
+pub use groups::{Group, IntervalFault, Intervals, Piece, Pieces, Placed, Shape, group_of};
 pub use sound::from_checked;

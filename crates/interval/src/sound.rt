@@ -33,7 +33,7 @@ fn push_group(
         ≡ contribution_at reading (Some index.now) event.now channel time }
     ensures whole { IsTrue (list_all is_whole (parts_of index.now event.now)) }
 {
-    if let Some(group) = group_of(alloc, index, event)? {
+    if let Some(group) = group_of(alloc, index, event) {
         groups.push(group)?;
     }
     Ok(())

@@ -101,7 +101,7 @@ pub fn spans_of(
 {
     let mut spans = Vec::new(alloc);
     for group in intervals.groups() {
-        push_spans(group.pieces(), homes, handle, &mut spans)?;
+        push_spans(group.pieces().as_slice(), homes, handle, &mut spans)?;
     }
     Ok(spans)
 }

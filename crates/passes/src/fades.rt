@@ -13,7 +13,7 @@ fn push_each(group: &Group, groups: &mut Vec<Group>) -> Result<(), AllocError>
     ensures { OnOk result (groups.new.items ≡ groups.old.items ++ each_alone group.now) }
 {
     let alloc = *groups.allocator();
-    for piece in group.pieces() {
+    for piece in group.pieces().as_slice() {
         groups.push(Group::alone(alloc, *piece))?;
     }
     Ok(())

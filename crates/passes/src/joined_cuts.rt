@@ -19,7 +19,8 @@ use std::alloc::{AllocError, Global};
 fn flat_alone(group: &Group) -> Option<Piece>
     ensures { result ≡ ends.flat_alone group.now }
 {
-    match group.pieces() {
+    let pieces = group.pieces();
+    match pieces.as_slice() {
         [piece] if piece.shape == Shape::Flat => Some(*piece),
         _ => None,
     }

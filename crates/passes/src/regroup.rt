@@ -28,7 +28,8 @@ fn earlier(one: Option<usize>, other: Option<usize>) -> Option<usize>
 fn end_of(group: &Group) -> Option<End>
     ensures { result ≡ group_end group.now }
 {
-    let last = group.pieces().last()?;
+    let pieces = group.pieces();
+    let last = pieces.as_slice().last()?;
     Some(End::of(last))
 }
 
@@ -51,7 +52,8 @@ fn first_before(ends: &Marks, piece: &Piece) -> Option<usize>
 fn place_for(ends: &Marks, group: &Group) -> Option<usize>
     ensures { IsFirst (group_follows group.now) ends.now result }
 {
-    match group.pieces() {
+    let pieces = group.pieces();
+    match pieces.as_slice() {
         [first, ..] => first_before(ends, first),
         [] => None,
     }
@@ -70,7 +72,7 @@ fn append(
     ensures ends { OnOk result (HasLastEnds output.new) }
     ensures put { OnOk result (output.new.groups.items ≡ spec.put_grouped output.old.groups.items group) }
 {
-    output.groups[position].append(group)?;
+    output.groups[position].append(group);
     output.ends.set(position, end)
 }
 

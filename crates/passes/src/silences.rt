@@ -58,7 +58,7 @@ fn ask_groups<P: Samples>(
 {
     let mut silent = Vec::new(alloc);
     for group in intervals.groups() {
-        push_silences(group.pieces(), samples, &mut silent)?;
+        push_silences(group.pieces().as_slice(), samples, &mut silent)?;
     }
     Ok(silent)
 }

@@ -58,7 +58,7 @@ fn pieces_of(alloc: Global, intervals: &Intervals) -> Result<Vec<Piece>, AllocEr
 {
     let mut pieces = Vec::new(alloc);
     for group in intervals.groups() {
-        pieces.extend_from_slice(group.pieces())?;
+        pieces.extend_from_slice(group.pieces().as_slice())?;
     }
     Ok(pieces)
 }

@@ -12,7 +12,7 @@ pub fn pieces_of(alloc: Global, intervals: &Intervals) -> Result<Vec<Piece>, All
 {
     let mut pieces = Vec::new(alloc);
     for group in intervals.groups() {
-        pieces.extend_from_slice(group.pieces())?;
+        pieces.extend_from_slice(group.pieces().as_slice())?;
     }
     Ok(pieces)
 }

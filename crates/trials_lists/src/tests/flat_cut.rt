@@ -20,7 +20,8 @@ fn halves(time: u64, group: &Group) -> Option<(Piece, Piece)>
         (λ halves. spec.flat_cut time group.now ≡ (halves.0 ∷ []) ∷ (halves.1 ∷ []) ∷ []) }
     ensures sound { IfSome result (λ halves. IsPiece halves.0 × IsPiece halves.1) }
 {
-    match group.pieces() {
+    let pieces = group.pieces();
+    match pieces.as_slice() {
         [piece]
             if piece.shape == Shape::Flat
                 && piece.start < time

@@ -66,7 +66,7 @@ pub(crate) fn intervals(rt: &HostRuntime, event: &Event) -> Result<Intervals, Fa
 {
     let alloc = rt.alloc();
     let mut groups = Vec::new(alloc);
-    if let Some(group) = group_of(alloc, &MIDNIGHT, event)? {
+    if let Some(group) = group_of(alloc, &MIDNIGHT, event) {
         groups.push(group)?;
     }
     Ok(Intervals::ordered(groups)?)
@@ -132,8 +132,9 @@ fn an_in_fade_that_is_cut_goes_on_where_it_was(rt: HostRuntime) -> Result<(), Fa
         .iter()
         .zip([(RAMP, [0, 250]), (REST, [500, 750])])
     {
-        assert_eq!(rt; group.pieces(), [piece].as_slice());
-        assert_eq!(rt; group.pieces().first().and_then(finished), Some(samples));
+        let pieces = group.pieces();
+        assert_eq!(rt; pieces.as_slice(), [piece].as_slice());
+        assert_eq!(rt; pieces.as_slice().first().and_then(finished), Some(samples));
     }
     Ok(())
 }

@@ -19,7 +19,7 @@ fn one_side() -> Table {
 /// How long a group is.
 fn length_of(group: &Group) -> u64 {
     let mut length: u64 = 0;
-    for piece in group.pieces() {
+    for piece in group.pieces().as_slice() {
         length = length.saturating_add(piece.length);
     }
     length

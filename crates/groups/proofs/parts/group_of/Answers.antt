@@ -1,16 +1,16 @@
 use Rattle.groups.proofs.EntryMix.{parts_add, parts_are_whole}
-use Rattle.groups.proofs.PartPieces.{parts_are_pieces}
+use Rattle.groups.proofs.PartPieces.{parts_are_group, parts_are_pieces}
 use Rattle.groups.proofs.parts.group_of.Goals as goal
 
-pub of-requires-clause-sound : goal.of-requires-clause-sound
-of-requires-clause-sound c = rw c.in_ok-pieces.ensures (parts_are_pieces c.args.index.now c.args.event.now c.requires)
+pub unpacked-requires : goal.unpacked-requires
+unpacked-requires c =
+    rw c.parts_of.ensures (λ some. (
+      parts_are_group c.args.index.now c.args.event.now c.requires some,
+      parts_are_pieces c.args.index.now c.args.event.now c.requires,
+    ))
 
 pub returns-clause-same_sum : goal.returns-clause-same_sum
 returns-clause-same_sum c reading channel time =
-    parts_add reading c.args.index.now c.args.event.now channel time c.requires
-
-pub returns-in_err-pieces-clause-same_sum : goal.returns-in_err-pieces-clause-same_sum
-returns-in_err-pieces-clause-same_sum c reading channel time =
     parts_add reading c.args.index.now c.args.event.now channel time c.requires
 
 pub returns-clause-whole : goal.returns-clause-whole

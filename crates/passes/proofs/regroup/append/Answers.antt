@@ -29,10 +29,10 @@ returns-clause-ends c =
     c.index_mut.result.now c.requires.first in
     let end = end-append c.args.group c.index_mut.result.now (rw (← c.index_mut.ensures.value) at there.1) in
     let same = map-set group_end c.args.output.now.groups.items c.args.position c.append.new.self in
-    rw (same, c.in_ok-append.ensures.appended, end, ← c.requires.end, ← c.requires.ends) c.set.ensures
+    rw (same, c.append.ensures, end, ← c.requires.end, ← c.requires.ends) c.set.ensures
 
 pub returns-clause-put : goal.returns-clause-put
 returns-clause-put c =
     let put = grouped_there c.args.group c.args.output.now.groups.items _ c.requires.ends c.args.position
     c.index_mut.result.now c.requires.first in
-    on_ok c.set.result _ (rw (c.in_ok-append.ensures.appended, c.index_mut.ensures.value) (sym put))
+    on_ok c.set.result _ (rw (c.append.ensures, c.index_mut.ensures.value) (sym put))

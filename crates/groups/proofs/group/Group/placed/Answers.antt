@@ -7,11 +7,11 @@ use Rattle.groups.proofs.group.Group.placed.Goals as goal
 
 pub length_of-requires : goal.length_of-requires
 length_of-requires c =
-    rw c.pieces-pieces.ensures.lent (length_in_day c.args.self.now c.pieces-pieces.ensures.group
-    c.pieces-pieces.ensures.sound)
+    rw (c.as_slice-pieces.ensures, c.pieces-parts.ensures.pieces) (length_in_day c.args.self.now c.pieces-parts.ensures.group
+    c.pieces-parts.ensures.sound)
 
 pub ramps_of-rise-requires : goal.ramps_of-rise-requires
 ramps_of-rise-requires c =
     let whole : length_of_group c.args.self.now ≤ day =
-    length_in_day c.args.self.now c.pieces-pieces.ensures.group c.pieces-pieces.ensures.sound in
-    rw c.pieces-pieces.ensures.lent (omega (arith, whole, fades_within c.args.self.now))
+    length_in_day c.args.self.now c.pieces-parts.ensures.group c.pieces-parts.ensures.sound in
+    rw (c.as_slice-pieces.ensures, c.pieces-parts.ensures.pieces) (omega (arith, whole, fades_within c.args.self.now))

@@ -1,0 +1,30 @@
+-- A group in one record, as the list of its pieces.
+use Rattle.std.specs.Prelude.{ℕ, ◌+◌, nat_lt, List, [], ◌∷◌, ◌++◌, if◌then◌else◌}
+use Rattle.sound_terms.specs.declared.piece.Piece.{Piece}
+use Rattle.sound_terms.specs.declared.piece.Shape.{Shape}
+use Rattle.sound_terms.specs.declared.piece.Shape.TheVariants.{Flat, Rise, Fall}
+use Rattle.groups.specs.declared.packed.Packed.{Packed}
+
+-- n samples of the group, from its sample `at` on, in this shape
+abbrev pub piece_in : Packed → (at n : ℕ) → Shape → Piece
+piece_in group at n shape = record {
+  start = group.start + at;
+  length = n;
+  frame = group.frame + at;
+  file = group.file;
+  first = group.first;
+  dest = group.dest;
+  width = group.width;
+  shape = shape;
+}
+
+-- none where n is 0
+abbrev pub part_in : Packed → (at n : ℕ) → Shape → List Piece
+part_in group at n shape = if nat_lt 0 n then piece_in group at n shape ∷ [] else []
+
+-- its rise, its flat part and its fall, the empty ones left out
+abbrev pub pieces_in : Packed → List Piece
+pieces_in group =
+    part_in group 0 group.rise.length (Rise group.rise.offset group.rise.den)
+    ++ (part_in group group.rise.length group.middle Flat
+    ++ part_in group (group.rise.length + group.middle) group.fall.length (Fall group.fall.offset group.fall.den))

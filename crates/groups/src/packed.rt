@@ -1,0 +1,186 @@
+// The pieces of a group in one record.
+ghost use Rattle.std.specs.Prelude.{◌≡◌, ◌≢◌, ◌≤◌, ◌<◌, ◌+◌, ◌^◌, ◌++◌, ◌∷◌, ◌↔◌, [], IfSome, IsSome, IsTrue, MatchOption, Some};
+ghost use Rattle.std.specs.List.{All};
+ghost use Rattle.smallvec.specs.SmallVec.{small_vec_len};
+ghost use Rattle.sound_terms.specs.Groups.{IsGroup, IsPiece, start_of};
+ghost use Rattle.sound_terms.specs.Passes.{is_followed_by, lengthened};
+ghost use Rattle.groups.specs.Packed.{part_in, pieces_in};
+
+use crate::{Piece, Pieces, Shape};
+use smallvec::SmallVec;
+use std::alloc::Global;
+
+/// A ramp of a group, in samples: `length` of them, from sample `offset` on of the `den` that it had as a whole. Where
+/// the group has no such ramp its length is 0.
+#[derive(Clone, Copy, Debug)]
+pub struct Ramp {
+    pub length: u32,
+    pub offset: u32,
+    pub den: u32,
+}
+
+/// The ramp of a group that has none.
+const NO_RAMP: Ramp = Ramp {
+    length: 0,
+    offset: 0,
+    den: 0,
+};
+
+/// A rise, a flat part of `middle` samples and a fall that continue one another, those that have samples. A day's samples
+/// fit in 32 bits.
+#[derive(Clone, Copy, Debug)]
+pub struct Packed {
+    pub start: u32,
+    pub frame: u32,
+    pub file: u32,
+    pub rise: Ramp,
+    pub middle: u32,
+    pub fall: Ramp,
+    pub first: u8,
+    pub dest: u8,
+    pub width: u8,
+}
+
+impl Packed {
+    /// A piece alone.
+    pub fn alone(piece: &Piece) -> Self
+        requires { IsPiece piece.now }
+        ensures { pieces_in result ≡ piece.now ∷ [] }
+    {
+        let length = piece.length as u32;
+        let bare = Packed {
+            start: piece.start as u32,
+            frame: piece.frame as u32,
+            file: piece.file,
+            rise: NO_RAMP,
+            middle: 0,
+            fall: NO_RAMP,
+            first: piece.first,
+            dest: piece.dest,
+            width: piece.width,
+        };
+        match piece.shape {
+            Shape::Flat => Packed {
+                middle: length,
+                ..bare
+            },
+            Shape::Rise { offset, den } => Packed {
+                rise: Ramp {
+                    length,
+                    offset: offset as u32,
+                    den: den as u32,
+                },
+                ..bare
+            },
+            Shape::Fall { offset, den } => Packed {
+                fall: Ramp {
+                    length,
+                    offset: offset as u32,
+                    den: den as u32,
+                },
+                ..bare
+            },
+        }
+    }
+
+    /// These pieces, and behind them those of a group that may follow.
+    pub fn followed_by(self, later: &Packed) -> Self
+        requires { IsTrue (is_followed_by (pieces_in self) (pieces_in later.now)) }
+        ensures { pieces_in result ≡ pieces_in self ++ pieces_in later.now }
+    {
+        Packed {
+            middle: self.middle + later.middle,
+            fall: later.fall,
+            ..self
+        }
+    }
+
+    /// The pieces of a group; `None` where there is none.
+    pub fn of(pieces: &[Piece]) -> Option<Self>
+        requires group { pieces.now ≢ [] → IsGroup pieces.now }
+        requires sound { All IsPiece pieces.now }
+        ensures pieces { MatchOption result (pieces.now ≡ []) (λ packed. pieces_in packed ≡ pieces.now) }
+        ensures formed { IfSome result (λ packed. IsGroup (pieces_in packed) × All IsPiece (pieces_in packed)) }
+    {
+        match pieces {
+            [] => None,
+            [only] => Some(Packed::alone(only)),
+            [first, second] => Some(Packed::alone(first).followed_by(&Packed::alone(second))),
+            [first, second, third, ..] => Some(
+                Packed::alone(first)
+                    .followed_by(&Packed::alone(second))
+                    .followed_by(&Packed::alone(third)),
+            ),
+        }
+    }
+
+    /// Whether it has no piece.
+    pub fn is_empty(&self) -> bool
+        ensures { IsTrue result ↔ (pieces_in self.now ≡ []) }
+    {
+        self.rise.length == 0 && self.middle == 0 && self.fall.length == 0
+    }
+
+    /// Its one flat piece, longer by a flat one that it goes on with.
+    pub fn lengthened(self, later: &Piece) -> Self
+        requires joins { IsSome (lengthened later.now (pieces_in self)) }
+        requires sound { IsPiece later.now }
+        ensures { lengthened later.now (pieces_in self) ≡ Some (pieces_in result) }
+    {
+        Packed {
+            middle: self.middle + later.length as u32,
+            ..self
+        }
+    }
+
+    /// Adds the part of so many samples, from its sample `at` on, in this shape, where it has any.
+    fn push_part(&self, pieces: &mut Pieces, at: u64, length: u32, shape: Shape)
+        requires at { at < 2 ^ 63 }
+        requires room { small_vec_len pieces.old + 1 ≤ pieces.old.capacity }
+        ensures items { pieces.new.items ≡ pieces.old.items ++ part_in self.now at length shape }
+        ensures few { small_vec_len pieces.new ≤ small_vec_len pieces.old + 1 }
+        ensures capacity { pieces.new.capacity ≡ pieces.old.capacity }
+    {
+        if length > 0 {
+            pieces.push_reserved(Piece {
+                start: u64::from(self.start) + at,
+                length: u64::from(length),
+                frame: u64::from(self.frame) + at,
+                file: self.file,
+                first: self.first,
+                dest: self.dest,
+                width: self.width,
+                shape,
+            });
+        }
+    }
+
+    /// Its pieces, in order. They take no memory of their own.
+    pub fn pieces(&self, alloc: Global) -> Pieces
+        ensures { result.items ≡ pieces_in self.now }
+    {
+        let mut pieces = SmallVec::new(alloc);
+        let rise = u64::from(self.rise.length);
+        let middle = u64::from(self.middle);
+        let rising = Shape::Rise {
+            offset: u64::from(self.rise.offset),
+            den: u64::from(self.rise.den),
+        };
+        let falling = Shape::Fall {
+            offset: u64::from(self.fall.offset),
+            den: u64::from(self.fall.den),
+        };
+        self.push_part(&mut pieces, 0, self.rise.length, rising);
+        self.push_part(&mut pieces, rise, self.middle, Shape::Flat);
+        self.push_part(&mut pieces, rise + middle, self.fall.length, falling);
+        pieces
+    }
+
+    /// The time at which it begins, in samples.
+    pub fn start(&self) -> u64
+        requires { IsGroup (pieces_in self.now) }
+        ensures { result ≡ start_of (pieces_in self.now) }
+    {
+        u64::from(self.start)
+    }
+}
