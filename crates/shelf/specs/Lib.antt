@@ -1,5 +1,4 @@
 pub mod Crashes
-pub mod FileName
 pub mod Files
 pub mod Folder
 pub mod History

@@ -3,7 +3,6 @@ mod bench;
 mod failures;
 mod handle;
 mod identity;
-mod name;
 mod open_files;
 mod search;
 mod sources;

@@ -1,13 +1,13 @@
 // The open files of a folder.
 ghost use Rattle.std.specs.Prelude.{◌≡◌, ◌++◌, codes, string_bytes, IfOk};
-ghost use Rattle.shelf.specs.FileName.{RefusesName};
+ghost use Rattle.filename.specs.FileName.{RefusesName};
 ghost use Rattle.shelf.specs.Folder.{folder_named};
 ghost use Rattle.shelf.specs.declared.folder.open_files.TheConstants.{OPEN_FILES};
 
 use super::handle::Handle;
 use super::identity::Identity;
-use super::name::{FileName, require_file_name};
 use super::state::State;
+use filename::{FileName, require_file_name};
 use lru::LruCache;
 use std::alloc::{AllocError, Global};
 use std::collections::BTreeMap;
@@ -471,9 +471,7 @@ where
         ensures { IfOk result (λ path. string_bytes path ≡ string_bytes self.now.folder
             ++ (codes "/" ++ name.entry.text.now)) }
     {
-        let folder = self.folder.as_str();
-        let name = name.text;
-        format!(in self.alloc; "{folder}/{name}")
+        name.path_in(self.alloc, self.folder.as_str())
     }
 
     /// Keeps the file open, in place of the one that wasn't used for the longest time.

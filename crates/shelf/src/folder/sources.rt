@@ -1,15 +1,15 @@
 // Sources in a folder.
 ghost use Rattle.std.specs.Prelude.{◌≡◌, false, None, Ok, IfOk, IsOk, IsErr, ⊤};
 ghost use Rattle.work_terms.specs.Disk.{HasCause};
-ghost use Rattle.shelf.specs.FileName.{is_file_name};
+ghost use Rattle.filename.specs.FileName.{is_file_name};
 ghost use Rattle.shelf.specs.Folder.{folder_named};
 
 use super::failures::Failures;
-use super::name::is_file_name;
 use super::open_files::{Access, OpenFiles};
 use super::search::{FilesBelow, FoundBelow, files_below};
 use crate::reason::{Reason, Reasons};
 use devices::{DeviceFault, Shelf, ShelfFault};
+use filename::is_file_name;
 use std::alloc::{AllocError, Global};
 use std::fs::Files;
 use std::io;

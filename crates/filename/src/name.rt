@@ -1,7 +1,8 @@
 // Which names a file right inside a folder can have.
-ghost use Rattle.std.specs.Prelude.{◌≡◌, true, false, IfOk, OnOk, OnErr};
-ghost use Rattle.shelf.specs.FileName as spec;
+ghost use Rattle.std.specs.Prelude.{◌≡◌, ◌++◌, true, false, IfOk, OnOk, OnErr, codes, string_bytes};
+ghost use Rattle.filename.specs.FileName as spec;
 
+use std::alloc::{AllocError, Global};
 use std::io;
 use std::io::{Error, ErrorKind};
 
@@ -10,6 +11,16 @@ use std::io::{Error, ErrorKind};
 pub struct FileName<'a> {
     pub text: &'a str,
     ghost named: { spec.is_file_name text.now ≡ true },
+}
+
+impl FileName<'_> {
+    /// The path of the file of this name in a folder.
+    pub fn path_in(&self, alloc: Global, folder: &str) -> Result<String, AllocError>
+        ensures { IfOk result (λ path. string_bytes path ≡ folder.now ++ (codes "/" ++ self.now.text.now)) }
+    {
+        let name = self.text;
+        format!(in alloc; "{folder}/{name}")
+    }
 }
 
 /// Whether a file right inside a folder can have the name: it isn't empty, `.` or `..`, and has no slash and no NUL.

@@ -1,8 +1,8 @@
 use Rattle.std.proofs.Common.{◌≡◌, false, rules, tests}
 use Rattle.std.proofs.lemmas.Iterator.{YieldsList-from_slice}
 use Rattle.std.proofs.lemmas.Iterator.Search.{all_from_yields_List}
-use Rattle.shelf.specs.FileName.{is_dots, is_file_name_byte}
-use Rattle.shelf.proofs.folder.name.is_file_name.Goals as goal
+use Rattle.filename.specs.FileName.{is_dots, is_file_name_byte}
+use Rattle.filename.proofs.name.is_file_name.Goals as goal
 
 pub returns-then-not-is_dots : goal.returns-then-not-is_dots
 returns-then-not-is_dots c =
