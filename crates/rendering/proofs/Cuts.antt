@@ -4,7 +4,7 @@ use Rattle.std.proofs.lemmas.Bool.{cases_lt}
 use Rattle.std.proofs.lemmas.List.{get_or_append_left, get_or_push, length_push}
 use Rattle.std.proofs.lemmas.List.Elements.{All-push}
 use Rattle.rendering.specs.declared.stretch.Stretch.{Stretch}
-use Rattle.rendering.specs.Cut.{AreEven, AreGrouped, AreLongest, Begins, GoesOn, IsCut, IsEven, IsGrouped, IsNextGroup, IsShort, IsUniform, group_at, no_stretch, stretch_at}
+use Rattle.rendering.specs.Cut.{AreEven, AreGrouped, AreLongest, IsCut, IsEven, IsNextGroup, IsShort, IsUniform, no_stretch}
 
 -- they still follow one another
 pub cut-push : (stretches : List Stretch) (from mid : ℕ) (s : Stretch) → IsCut from stretches mid → s.first ≡ mid
@@ -61,70 +61,6 @@ module _ (most to n : ℕ) {first behind : ℕ} (place : first ≡ min (n * most
   pub place-next : behind ≡ min ((n + 1) * most) to
   place-next = omega (arith, ends, begins)
 
--- ---- those that are marked together
-
--- one more behind them is grouped as the next is
-module _ (most : ℕ) (stretches : List Stretch) (s : Stretch) (some : 1 ≤ most) (grouped : AreGrouped most stretches)
-    (next : IsNextGroup most stretches s.done s.group) where
-  abbrev all : List Stretch
-  all = stretches ++ s ∷ []
-
-  before : (k : ℕ) → k < length stretches → stretch_at all k ≡ stretch_at stretches k
-  before k lt = get_or_append_left stretches (s ∷ []) no_stretch k lt
-
-  here : stretch_at all (length stretches) ≡ s
-  here = get_or_push stretches s no_stretch (length stretches) refl
-
-  -- the last one is
-  last-grouped : IsNextGroup most stretches s.done s.group → IsGrouped most all (length stretches)
-  last-grouped (Begins own) = record {
-    first = record {
-      before = omega (arith, ap (λ (x : Stretch). x.group) here, own);
-      between = λ k from to. ap (group_at all) (omega (arith, ap (λ (x : Stretch). x.group) here, own, from, to));
-    };
-    few = omega (arith, ap (λ (x : Stretch). x.group) here, own, some);
-    alike = λ j from to.
-        ap (λ (k : ℕ). (stretch_at all k).done) (omega (arith, ap (λ (x : Stretch). x.group) here, own, from, to));
-  }
-  last-grouped (GoesOn last count same done few) =
-      let is = grouped last (omega (arith, count)) in
-      let group : group_at all (length stretches) ≡ group_at stretches last = ap (λ (x : Stretch). x.group) here ∙ same in
-      record {
-        first = record {
-          before = omega (arith, group, is.first.before, count);
-          between = λ k from to. elim (cases_lt k (length stretches)) [
-            | inl lt ↦ ap (λ (x : Stretch). x.group) (before k lt)
-                ∙ is.first.between k (omega (arith, group, from)) (omega (arith, lt, count)) ∙ sym group
-            | inr past ↦ ap (group_at all) (omega (arith, past, to))
-          ];
-        };
-        few = omega (arith, ap (λ (x : Stretch). x.group) here, count, few);
-        alike = λ j from to. elim (cases_lt j (length stretches)) [
-          | inl lt ↦ ap (λ (x : Stretch). x.done) (before j lt)
-              ∙ is.alike j (omega (arith, group, from)) (omega (arith, lt, count))
-              ∙ done ∙ sym (ap (λ (x : Stretch). x.done) here)
-          | inr past ↦ ap (λ (k : ℕ). (stretch_at all k).done) (omega (arith, past, to))
-        ];
-      }
-
-  pub grouped-push : AreGrouped most all
-  grouped-push k lt = elim (cases_lt k (length stretches)) [
-    | inl less ↦ let is = grouped k less in
-        let group : group_at all k ≡ group_at stretches k = ap (λ (x : Stretch). x.group) (before k less) in
-        record {
-          first = record {
-            before = omega (arith, group, is.first.before);
-            between = λ j from to. ap (λ (x : Stretch). x.group) (before j (omega (arith, to, less)))
-                ∙ is.first.between j (omega (arith, group, from)) to ∙ sym group;
-          };
-          few = omega (arith, group, is.few);
-          alike = λ j from to. ap (λ (x : Stretch). x.done) (before j (omega (arith, to, less)))
-              ∙ is.alike j (omega (arith, group, from)) to ∙ sym (ap (λ (x : Stretch). x.done) (before k less));
-        }
-    | inr past ↦ let at : length stretches ≡ k = omega (arith, lt, past, length_push stretches s) in
-        rw (← at) (last-grouped next)
-  ]
-
 -- ---- cut by marks
 
 -- the stretches of the blocks before `first`; those from there up to, and without, `here` are all marked so
@@ -147,10 +83,10 @@ module _ {marked : List Bool} {most together first here : ℕ} {done : Bool} {st
   last_one group = record { first = first; end = here; done = done; group = group }
 
   -- they end where the next block is
-  pub cut-here : (group : ℕ) → 1 ≤ most → 1 ≤ together → IsNextGroup together stretches done group → first < here
+  pub cut-here : (group : ℕ) → 1 ≤ most → IsNextGroup together stretches done group → first < here
       → (get_or marked here false ≡ done → most ≤ here - first)
       → IsCutSoFar marked most together here (here + 1) (get_or marked here false) (stretches ++ last_one group ∷ [])
-  cut-here group some one next begun full = record {
+  cut-here group some next begun full = record {
     within = omega arith;
     cut = cut-push stretches 0 first (last_one group) is.cut refl begun;
     uniform = All-push (IsUniform marked) stretches (last_one group) is.uniform is.same;
@@ -161,7 +97,7 @@ module _ {marked : List Bool} {most together first here : ℕ} {done : Bool} {st
     begun = λ more. omega arith;
     ends = ends-push most stretches (last_one group) (get_or marked here false)
         (λ alike. omega (arith, is.room, full (sym alike)));
-    grouped = grouped-push together stretches (last_one group) one is.grouped next;
+    grouped = next (last_one group) refl refl;
   }
 
   -- or go on with it

@@ -1,5 +1,5 @@
 -- Blocks cut into stretches.
-use Rattle.std.specs.Prelude.{◌≡◌, ◌≢◌, ℕ, ◌+◌, ◌-◌, ◌*◌, ◌/◌, ◌<◌, ◌≤◌, Bool, false, cond, nat_le, max, min, List, [], ◌∷◌, Vec, length, slice_index_or}
+use Rattle.std.specs.Prelude.{◌≡◌, ◌≢◌, ℕ, ◌+◌, ◌-◌, ◌*◌, ◌/◌, ◌<◌, ◌≤◌, Bool, false, cond, nat_le, max, min, List, [], ◌∷◌, ◌++◌, Vec, length, slice_index_or}
 use Rattle.std.specs.List.{All}
 use Rattle.std.specs.declared.alloc.Global.{Global}
 use Rattle.rendering.specs.declared.job_length.JobLength.{JobLength}
@@ -46,11 +46,14 @@ abbrev pub AreEven : (most to : ℕ) → List Stretch → Type 0
 AreEven most to stretches = (k : ℕ) → k < length stretches → IsEven most to k (stretch_at stretches k)
 
 -- It goes by the number of the first stretch of those that are marked together with it, which are at most so many. All
--- between are marked with it, and all are done or none.
+-- between are marked with it, and all are done or none. The next one is too if it is done as this one is and they are
+-- fewer than so many.
 pub record IsGrouped (most : ℕ) (stretches : List Stretch) (k : ℕ) : Type 0 where
   pub first : IsFirst (group_at stretches) k
   pub few : k < group_at stretches k + most
   pub alike : (j : ℕ) → group_at stretches k ≤ j → j ≤ k → (stretch_at stretches j).done ≡ (stretch_at stretches k).done
+  pub goes_on : k + 1 < length stretches → (stretch_at stretches (k + 1)).done ≡ (stretch_at stretches k).done
+      → k + 1 < group_at stretches k + most → group_at stretches (k + 1) ≡ group_at stretches k
 
 abbrev pub AreGrouped : ℕ → List Stretch → Type 0
 AreGrouped most stretches = (k : ℕ) → k < length stretches → IsGrouped most stretches k
@@ -62,12 +65,10 @@ pub record IsLastWith (stretches : List Stretch) (k last : ℕ) : Type 0 where
   pub with : group_at stretches last ≡ group_at stretches k
   pub ends : last + 1 < length stretches → group_at stretches (last + 1) ≢ group_at stretches k
 
--- such a stretch behind these is marked together with the last of them, where that is done as it is and they are fewer
--- than so many, or else begins others
-pub data IsNextGroup (most : ℕ) (stretches : List Stretch) (done : Bool) (group : ℕ) : Type 0 where
-  GoesOn : (last : ℕ) → length stretches ≡ last + 1 → group ≡ group_at stretches last
-      → (stretch_at stretches last).done ≡ done → last + 1 < group + most → IsNextGroup most stretches done group
-  Begins : group ≡ length stretches → IsNextGroup most stretches done group
+-- by this number goes one more behind these, which is done or not
+abbrev pub IsNextGroup : ℕ → List Stretch → Bool → ℕ → Type 0
+IsNextGroup most stretches done group =
+    (s : Stretch) → s.done ≡ done → s.group ≡ group → AreGrouped most (stretches ++ s ∷ [])
 
 -- those that are marked together have at most 2048 blocks
 pub record AreFewTogether (stretches : List Stretch) : Type 0 where

@@ -12,9 +12,9 @@ use std::alloc::{AllocError, Global};
 pub enum JobLength {
     /// One block, as the rule of the board has it: whatever is lost with a job is lost of one block.
     OneBlock,
-    /// For speed, where there are more than 64 blocks: as many as make 256 KiB, and one at least; else one. Of more than
-    /// 65,536 such jobs each is longer. The marks of a thirty-second of all blocks are set together, but of no more than
-    /// make 16 MiB, of no fewer than make 1 MiB, and of one at least.
+    /// For speed, where there are more than 64 blocks: as many as make 256 KiB, and one at least; else one. Of more
+    /// than 65,536 such jobs each is longer. The marks of a thirty-second of all blocks are set together, but of no
+    /// more than make 16 MiB, of no fewer than make 1 MiB, and of one at least.
     Longer,
 }
 
@@ -73,8 +73,8 @@ pub fn jobs_together(jobs: JobLength, blocks: u32, block_size: u32) -> u32
     blocks_together(jobs, blocks, block_size) / blocks_in_job(jobs, blocks, block_size)
 }
 
-/// The first of those that are marked together with the next stretch, which is done or not: the first of those of the last
-/// one where that is as well and they are fewer than so many, and else itself.
+/// The first of those that are marked together with the next stretch, which is done or not: the first of those of the
+/// last one where that is as well and they are fewer than so many, and else itself.
 fn group_of_next(stretches: &[Stretch], done: bool, together: u32) -> u32
     requires some { 1 ≤ together }
     requires few { length stretches.now < 2 ^ 32 }
@@ -88,7 +88,8 @@ fn group_of_next(stretches: &[Stretch], done: bool, together: u32) -> u32
     }
 }
 
-/// All blocks, none of which is done, so many in each stretch but the last, and at most so many of these marked together.
+/// All blocks, none of which is done, so many in each stretch but the last, and at most so many of these marked
+/// together.
 pub fn fresh_stretches(
     alloc: Global,
     blocks: u32,

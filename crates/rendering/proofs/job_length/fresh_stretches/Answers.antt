@@ -3,7 +3,7 @@ use Rattle.std.proofs.lemmas.List.{length_push}
 use Rattle.std.proofs.lemmas.List.Elements.{All-push}
 use Rattle.rendering.specs.declared.stretch.Stretch.{Stretch}
 use Rattle.rendering.specs.Cut.{IsFresh, IsShort}
-use Rattle.rendering.proofs.Cuts.{cut-push, even-next, even-push, grouped-push, place-next}
+use Rattle.rendering.proofs.Cuts.{cut-push, even-next, even-push, place-next}
 use Rattle.rendering.proofs.job_length.fresh_stretches.Goals as goal
 
 pub loop-first-preserved : goal.loop-first-preserved
@@ -28,6 +28,5 @@ loop-first-preserved c =
           (even-next c.args.most c.args.blocks (length before) is.place c.loop-first-test.true goes s.group);
       fresh = All-push IsFresh before s is.fresh refl;
       short = All-push (IsShort c.args.most) before s is.short (omega (arith, ends, far));
-      grouped = grouped-push c.args.together before s c.requires.together is.grouped
-          (rw c.as_slice.ensures.value at c.group_of_next-group.ensures);
+      grouped = rw c.as_slice.ensures.value at (c.group_of_next-group.ensures s refl refl);
     })
