@@ -86,7 +86,7 @@ clips_none range mix first none =
 -- ---- stretches, some of whose blocks are marked
 
 module _ (range : Range) (mix : ℕ → ℕ → ℤ) (marked : List Bool) (s : Stretch) (uniform : IsUniform marked s)
-    (inside : IsInRange range s) where
+    (inside : IsInRange range s.first s.end) where
   abbrev from : ℕ
   from = block_start range s.first
 

@@ -116,7 +116,7 @@ pub record IsInFile (range : Range) (mix : ℕ → ℕ → ℤ) (s : Stretch) : 
   pub whole : rendering_of range mix ≡ front ++ (bytes_of_blocks range mix s.first s.end ++ back)
   pub place : length front ≡ place_of range s
 
-pub in_file : (range : Range) (mix : ℕ → ℕ → ℤ) (s : Stretch) → IsInRange range s → IsInFile range mix s
+pub in_file : (range : Range) (mix : ℕ → ℕ → ℤ) (s : Stretch) → IsInRange range s.first s.end → IsInFile range mix s
 unfolding rendering_of file_of
 in_file range mix s is =
     let depth = bits_of range.depth in

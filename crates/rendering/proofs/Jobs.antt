@@ -31,7 +31,8 @@ names_apart e = cc
 
 module _ (work : RenderWork) (is : IsRenderWork work) where
   -- each lies in the range
-  pub stretch_inside : (k : ℕ) → k < length work.stretches → IsInRange work.planned.range (stretch_at work.stretches k)
+  pub stretch_inside : (k : ℕ) → k < length work.stretches
+      → IsInRange work.planned.range (stretch_at work.stretches k).first (stretch_at work.stretches k).end
   stretch_inside k below =
       let inside = cut-inside work.stretches 0 (block_count work.planned.range) k no_stretch is.cut below in
       record { some = inside.1; there = inside.2 }
@@ -231,9 +232,9 @@ module _ (marked : MarkedWork) (k : ℕ) (sources : Files) (is : IsRenderWork ma
       })
 
   -- the blocks of all that are marked together with it
-  pub blocks_with : (s : Stretch) → AreMarkedWith marked.work.stretches k s
-      → AreBlocksWith (marks_of marked sources) k s.first s.end
-  blocks_with s with = rw (with.first, with.end) (record {
+  pub blocks_with : (from to : ℕ) → AreMarkedWith marked.work.stretches k from to
+      → AreBlocksWith (marks_of marked sources) k from to
+  blocks_with from to with = rw (with.first, with.end) (record {
     inside = omega (arith, (stretch_inside marked.work is with.last with.is_last.there).there, run.blocks);
     few = λ j b lt to. omega (arith, (stretch_inside marked.work is j lt).there, run.blocks, to);
     own = λ j b lt from to above under. elim (cases_lt j group) [

@@ -1,11 +1,17 @@
 -- A stretch of blocks with its bytes.
-use Rattle.std.specs.Prelude.{◌≡◌, ℕ, ◌+◌, ◌<◌, ◌≤◌, List, Option, Result, Ok, Err, length, slice_index_or}
+use Rattle.std.specs.Prelude.{◌≡◌, ℕ, ◌+◌, ◌<◌, ◌≤◌, Bool, false, List, Option, Some, Result, Ok, Err, length, slice_index_or, ⊤}
 use Rattle.work_terms.specs.Disk.{Files, Changes, IsTorn, IsWritten}
+use Rattle.devices.specs.Frame.{OnlyWrites}
+use Rattle.devices.specs.Views.{output_view}
+use Rattle.devices.specs.declared.bench.Bench as output
+use Rattle.markfile.specs.Format.{marks_name}
 use Rattle.execution.specs.declared.fault.PlaceFault.{PlaceFault}
 use Rattle.execution.specs.declared.fault.PlaceFault.TheVariants.{Mark, Write}
-use Rattle.execution.specs.Marking.{Marking}
+use Rattle.execution.specs.Marking.{IsRunning, Marking, Marks, settled}
+use Rattle.execution.specs.Together.{with_done}
 use Rattle.rendering.specs.declared.stretch.Stretch.{Stretch}
 use Rattle.rendering.specs.Cut.{IsLastWith, group_at, stretch_at}
+use Rattle.rendering.specs.Marked.{IsOther}
 
 -- the bytes of a job at their position in the output, which are just those of its blocks
 pub record IsStretchOf (m : Marking) (job at : ℕ) (bytes : List ℕ) : Type 0 where
@@ -29,13 +35,13 @@ pub record AreFewBlocks (first end : ℕ) : Type 0 where
   pub order : first ≤ end
   pub few : end ≤ first + 2048
 
--- the blocks of all stretches that are marked together with one
-pub record AreMarkedWith (stretches : List Stretch) (k : ℕ) (s : Stretch) : Type 0 where
+-- the blocks of all stretches that are marked together with one, from one on up to, and without, another
+pub record AreMarkedWith (stretches : List Stretch) (k from to : ℕ) : Type 0 where
   pub last : ℕ
   pub is_last : IsLastWith stretches k last
-  pub first : s.first ≡ (stretch_at stretches (group_at stretches k)).first
-  pub end : s.end ≡ (stretch_at stretches last).end
-  pub few : AreFewBlocks s.first s.end
+  pub first : from ≡ (stretch_at stretches (group_at stretches k)).first
+  pub end : to ≡ (stretch_at stretches last).end
+  pub few : AreFewBlocks from to
 
 -- an outcome of before with one file torn
 abbrev pub IsTornFrom : (Files → Type 0) → List ℕ → (at n : ℕ) → Files → Type 0
@@ -47,3 +53,16 @@ abbrev pub HasPlaced : {X : Type 0} → (at : ℕ) (bytes : List ℕ) (old new :
 HasPlaced at bytes old new (Ok _) = IsWritten at bytes old new
 HasPlaced at bytes old new (Err Write) = IsTorn at (length bytes) old new
 HasPlaced at bytes old new (Err Mark) = IsWritten at bytes old new
+
+-- a job that isn't done yet is placed while a run goes on; it is the last, or not, of those that are marked together
+abbrev pub PlacesJob : {B : Type 0} → output.Ghosts B → B → B → Marking → (ℕ → Bool) → (job : ℕ) → (last : Bool)
+    → (at : ℕ) → List ℕ → Result ⊤ PlaceFault → Type 0
+PlacesJob bench old new m done job last at bytes result =
+    IsStretchOf m job at bytes → done job ≡ false → settled m (with_done done job) job ≡ last
+    → IsRunning m done (bench.stored old) (bench.may_leave old)
+    → Marks (Some m) done job (output_view bench old) (output_view bench new) result
+
+-- a call that writes the rendered file and its marks alone, and tells where a mark failed
+abbrev pub WritesJob : {B : Type 0} → output.Ghosts B → B → B → Result ⊤ PlaceFault → Type 0
+WritesJob bench old new result =
+    OnlyWrites bench IsOther old new result (λ _. ⊤) (λ fault failed. fault ≡ Mark → failed marks_name)

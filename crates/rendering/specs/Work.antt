@@ -67,23 +67,23 @@ pub record HasRoom (range : Range) (k room : ℕ) : Type 0 where
   pub there : k < block_count range
   pub exact : room ≡ bytes_for range (block_frames range k)
 
--- it has a block, and lies among those of a range
-pub record IsInRange (range : Range) (s : Stretch) : Type 0 where
-  pub some : s.first < s.end
-  pub there : s.end ≤ block_count range
+-- a range has the blocks from one on up to, and without, another, and there are some
+pub record IsInRange (range : Range) (first end : ℕ) : Type 0 where
+  pub some : first < end
+  pub there : end ≤ block_count range
 
-abbrev pub stretch_frames : Range → Stretch → ℕ
-stretch_frames range s = frames_before range s.end - frames_before range s.first
+abbrev pub frames_of_blocks : Range → (first end : ℕ) → ℕ
+frames_of_blocks range first end = frames_before range end - frames_before range first
 
--- such a stretch, and just room for its bytes
-pub record HasRoomFor (range : Range) (s : Stretch) (room : ℕ) : Type 0 where
-  pub inside : IsInRange range s
-  pub exact : room ≡ bytes_for range (stretch_frames range s)
+-- such blocks, and just room for their bytes
+pub record HasRoomFor (range : Range) (first end room : ℕ) : Type 0 where
+  pub inside : IsInRange range first end
+  pub exact : room ≡ bytes_for range (frames_of_blocks range first end)
 
--- such a stretch, and room for its bytes from here on
-pub record HasRoomAt (range : Range) (s : Stretch) (at room : ℕ) : Type 0 where
-  pub inside : IsInRange range s
-  pub enough : at + bytes_for range (stretch_frames range s) ≤ room
+-- such blocks, and room for their bytes from here on
+pub record HasRoomAt (range : Range) (first end at room : ℕ) : Type 0 where
+  pub inside : IsInRange range first end
+  pub enough : at + bytes_for range (frames_of_blocks range first end) ≤ room
 
 -- how many blocks a job of a range has
 abbrev pub job_blocks : JobLength → Range → ℕ
@@ -116,7 +116,8 @@ work_of work = record {
   count = length work.stretches;
   name = λ _. codes "render.wav";
   at = λ k. place_of work.planned.range (stretch_at work.stretches k);
-  size = λ k. bytes_for work.planned.range (stretch_frames work.planned.range (stretch_at work.stretches k));
+  size = λ k. bytes_for work.planned.range (frames_of_blocks work.planned.range
+      (stretch_at work.stretches k).first (stretch_at work.stretches k).end);
   bytes = λ sources k. bytes_of_blocks work.planned.range (heard work.planned work.sounds sources)
       (stretch_at work.stretches k).first (stretch_at work.stretches k).end;
 }

@@ -7,12 +7,12 @@ ghost use Rattle.devices.specs.Frame.{OnlyReads};
 ghost use Rattle.renderplan.specs.Sources.{IsInDay};
 ghost use Rattle.rendering.specs.Clipping.{Clip, sums_of_blocks};
 ghost use Rattle.rendering.specs.Fault.{WantsMemory};
-ghost use Rattle.rendering.specs.Work.{CanPlay, HasRoom, HasRoomAt, HasRoomFor, IsInRange, bytes_for, heard, stretch_frames};
+ghost use Rattle.rendering.specs.Work.{CanPlay, HasRoom, HasRoomAt, HasRoomFor, IsInRange, bytes_for, frames_of_blocks, heard, job_blocks, marked_jobs};
 ghost use Rattle.rendering.specs.Written.{block_bytes, bytes_of_blocks, frames_before};
 ghost use Rattle.rendering.specs.declared.fault.RenderFault.TheVariants.{Memory};
 
 use crate::RenderFault;
-use crate::stretch::Stretch;
+use crate::job_length::{JobLength, JobLimits, blocks_in_job, jobs_together};
 use blockmachine::{Machine, copy_alone};
 use clipping::Clips;
 use devices::{DeviceFault, Shelf};
@@ -91,17 +91,13 @@ fn play_block<S: Shelf>(
     }
 }
 
-/// How many blocks are tried at once after these were, of which those before `next` were played: twice as many where
-/// these were all, else one.
-fn blocks_ahead(tried: &Stretch, next: u32) -> u32
+/// How many blocks are tried at once after those from `first` on up to, and without, `end` were, of which those before
+/// `next` were played: twice as many where these were all, else one.
+fn blocks_ahead(first: u32, end: u32, next: u32) -> u32
     ensures { 1 ≤ result }
 {
-    if next == tried.end {
-        tried
-            .end
-            .saturating_sub(tried.first)
-            .saturating_mul(2)
-            .max(1)
+    if next == end {
+        end.saturating_sub(first).saturating_mul(2).max(1)
     } else {
         1
     }
@@ -152,23 +148,38 @@ impl<'a> Blocks<'a> {
         frames * usize::from(format.channels) * usize::from(format.depth.bits() / 8)
     }
 
-    /// How many frames a stretch of them has.
-    pub fn frames_in(&self, stretch: &Stretch) -> usize
-        requires { IsInRange self.now.planned.range stretch.now }
-        ensures frames { result ≡ stretch_frames self.now.planned.range stretch.now }
-        ensures few { result ≤ 4147200000 }
+    /// How many of them a job of this length has at most, and how many such jobs are marked together at most.
+    pub fn limits(&self, jobs: JobLength) -> JobLimits
+        ensures blocks { result.blocks ≡ job_blocks jobs self.now.planned.range }
+        ensures together { result.together ≡ marked_jobs jobs self.now.planned.range }
+        ensures some { (1 ≤ result.blocks) × (1 ≤ result.together) }
+        ensures few { result.together * result.blocks ≤ 2048 }
     {
-        let last = stretch.end - 1;
-        (last - stretch.first) as usize * BLOCK_LENGTH
-            + self.plan.frames_of(u64::from(last)) as usize
+        let count = self.count();
+        let block = self.length_of(BLOCK_LENGTH) as u32;
+        JobLimits {
+            blocks: blocks_in_job(jobs, count, block),
+            together: jobs_together(jobs, count, block),
+        }
     }
 
-    /// Where the first block of a stretch in which something sounds begins in its file; `None` where all are silent.
-    pub fn source_of(&self, stretch: &Stretch) -> Option<(u32, u64)>
-        requires { stretch.now.end ≤ block_count self.now.planned.range }
+    /// How many frames those from `first` on up to, and without, `end` have.
+    pub fn frames_in(&self, first: u32, end: u32) -> usize
+        requires { IsInRange self.now.planned.range first end }
+        ensures frames { result ≡ frames_of_blocks self.now.planned.range first end }
+        ensures few { result ≤ 4147200000 }
+    {
+        let last = end - 1;
+        (last - first) as usize * BLOCK_LENGTH + self.plan.frames_of(u64::from(last)) as usize
+    }
+
+    /// Where the first of those from `first` on up to, and without, `end` in which something sounds begins in its file;
+    /// `None` where all are silent.
+    pub fn source_of(&self, first: u32, end: u32) -> Option<(u32, u64)>
+        requires { end ≤ block_count self.now.planned.range }
         ensures in_day { IfSome result IsInDay }
     {
-        for k in stretch.first as u64..stretch.end as u64 {
+        for k in first as u64..end as u64 {
             let source = self.plan.source_of(k);
             if source.is_some() {
                 return source;
@@ -243,38 +254,38 @@ impl<'a> Blocks<'a> {
         })
     }
 
-    /// Writes the samples of a stretch of some blocks over `bytes` from `at` on, where one file fills all of them as it
-    /// is. `None` where more is to be done; what comes before `at` stays. A file that can't be read fails it.
+    /// Writes the samples of the blocks from `first` on up to, and without, `end` over `bytes` from `at` on, where one
+    /// file fills all of them as it is. `None` where more is to be done; what comes before `at` stays. A file that
+    /// can't be read fails it.
     fn copy_at<S: Shelf>(
         &mut self,
-        stretch: &Stretch,
+        first: u32,
+        end: u32,
         shelf: &mut S,
         bytes: &mut [u8],
         at: usize,
     ) -> Result<Option<Played>, DeviceFault>
-        requires { HasRoomAt self.old.planned.range stretch.now at (length bytes.old) }
+        requires { HasRoomAt self.old.planned.range first end at (length bytes.old) }
         ensures played { IsTrue (S.honest shelf.old) → IfOk result (λ copied. IfSome copied (λ some.
             take some.end bytes.new ≡ take at bytes.old ++ bytes_of_blocks self.old.planned.range
-            (heard self.old.planned self.old.sounds (S.stored shelf.old)) stretch.now.first stretch.now.end)) }
+            (heard self.old.planned self.old.sounds (S.stored shelf.old)) first end)) }
         ensures clips { IsTrue (S.honest shelf.old) → IfOk result (λ copied. IfSome copied (λ some.
             Clip self.old.planned.range (sums_of_blocks self.old.planned.range
-            (heard self.old.planned self.old.sounds (S.stored shelf.old)) stretch.now.first stretch.now.end) some.clips)) }
-        ensures ended { IfOk result (λ copied. IfSome copied (λ some. (some.next ≡ stretch.now.end) × (some.end
-            ≡ at + bytes_for self.old.planned.range (stretch_frames self.old.planned.range stretch.now)))) }
+            (heard self.old.planned self.old.sounds (S.stored shelf.old)) first end) some.clips)) }
+        ensures ended { IfOk result (λ copied. IfSome copied (λ some. (some.next ≡ end) × (some.end
+            ≡ at + bytes_for self.old.planned.range (frames_of_blocks self.old.planned.range first end)))) }
         ensures front { IfOk result (λ copied. copied ≡ None → take at bytes.new ≡ take at bytes.old) }
         ensures ready { self.new ≡ self.old }
         ensures only_reads { OnlyReads S.Shelf shelf.old shelf.new result (λ _. ⊤) (λ _ failed. ⊤) }
     {
-        if stretch.end - stretch.first == 1 {
+        if end - first == 1 {
             return Ok(None);
         }
-        let end = at + self.length_of(self.frames_in(stretch));
+        let to = at + self.length_of(self.frames_in(first, end));
         let program = &mut self.program;
         let format = self.plan.format();
-        let frames = self
-            .plan
-            .fill_span(stretch.first.into(), stretch.end.into(), program);
-        let room = &mut bytes[at..end];
+        let frames = self.plan.fill_span(first.into(), end.into(), program);
+        let room = &mut bytes[at..to];
         let copied = match copy_alone(program, frames, format, self.sounds, shelf, room) {
             Ok(copied) => copied,
             Err(_) => return Err(DeviceFault),
@@ -282,75 +293,76 @@ impl<'a> Blocks<'a> {
         let Some(clips) = copied else {
             return Ok(None);
         };
-        let next = stretch.end;
-        Ok(Some(Played { next, end, clips }))
+        let next = end;
+        Ok(Some(Played {
+            next,
+            end: to,
+            clips,
+        }))
     }
 
-    /// Writes the samples of the blocks of a stretch over `bytes` from `at` on at once, where one file fills all of them as
-    /// it is; else those of the first one. A file that can't be read fails it.
+    /// Writes the samples of the blocks from `first` on up to, and without, `end` over `bytes` from `at` on at once,
+    /// where one file fills all of them as it is; else those of the first one. A file that can't be read fails it.
     fn play_next<S: Shelf>(
         &mut self,
-        stretch: &Stretch,
+        first: u32,
+        end: u32,
         shelf: &mut S,
         bytes: &mut [u8],
         at: usize,
     ) -> Result<Played, DeviceFault>
-        requires { HasRoomAt self.old.planned.range stretch.now at (length bytes.old) }
+        requires { HasRoomAt self.old.planned.range first end at (length bytes.old) }
         ensures played { IsTrue (S.honest shelf.old) → IfOk result (λ some. take some.end bytes.new
             ≡ take at bytes.old ++ bytes_of_blocks self.old.planned.range
-            (heard self.old.planned self.old.sounds (S.stored shelf.old)) stretch.now.first some.next) }
+            (heard self.old.planned self.old.sounds (S.stored shelf.old)) first some.next) }
         ensures clips { IsTrue (S.honest shelf.old) → IfOk result (λ some. Clip self.old.planned.range (sums_of_blocks
-            self.old.planned.range (heard self.old.planned self.old.sounds (S.stored shelf.old)) stretch.now.first
+            self.old.planned.range (heard self.old.planned self.old.sounds (S.stored shelf.old)) first
             some.next) some.clips) }
         ensures ended { IfOk result (λ some. some.end ≡ at + bytes_for self.old.planned.range
-            (frames_before self.old.planned.range some.next - frames_before self.old.planned.range stretch.now.first)) }
-        ensures next { IfOk result (λ some. (stretch.now.first < some.next) × (some.next ≤ stretch.now.end)) }
+            (frames_before self.old.planned.range some.next - frames_before self.old.planned.range first)) }
+        ensures next { IfOk result (λ some. (first < some.next) × (some.next ≤ end)) }
         ensures ready { self.new ≡ self.old }
         ensures only_reads { OnlyReads S.Shelf shelf.old shelf.new result (λ _. ⊤) (λ _ failed. ⊤) }
     {
-        match self.copy_at(stretch, shelf, bytes, at)? {
+        match self.copy_at(first, end, shelf, bytes, at)? {
             Some(played) => return Ok(played),
             None => {}
         }
-        let played = self.play_at(stretch.first, shelf, bytes, at)?;
+        let played = self.play_at(first, shelf, bytes, at)?;
         Ok(played)
     }
 
-    /// Sums the blocks of a stretch and writes their samples over `bytes`, which has room for just these; gives what was
-    /// clipped of them. A file that can't be read fails it. As long as one file fills the blocks as it is, twice as many
-    /// are tried at once, all of them at first.
+    /// Sums the blocks from `first` on up to, and without, `end` and writes their samples over `bytes`, which has room
+    /// for just these; gives what was clipped of them. A file that can't be read fails it. As long as one file fills
+    /// the blocks as it is, twice as many are tried at once, all of them at first.
     pub fn play_stretch<S: Shelf>(
         &mut self,
-        stretch: &Stretch,
+        first: u32,
+        end: u32,
         shelf: &mut S,
         bytes: &mut [u8],
     ) -> Result<Clips, DeviceFault>
-        requires { HasRoomFor self.old.planned.range stretch.now (length bytes.old) }
+        requires { HasRoomFor self.old.planned.range first end (length bytes.old) }
         ensures played { IsTrue (S.honest shelf.old) → OnOk result (bytes.new
             ≡ bytes_of_blocks self.old.planned.range
-            (heard self.old.planned self.old.sounds (S.stored shelf.old)) stretch.now.first stretch.now.end) }
+            (heard self.old.planned self.old.sounds (S.stored shelf.old)) first end) }
         ensures clips { IsTrue (S.honest shelf.old) → IfOk result (Clip self.old.planned.range (sums_of_blocks
-            self.old.planned.range (heard self.old.planned self.old.sounds (S.stored shelf.old))
-            stretch.now.first stretch.now.end)) }
+            self.old.planned.range (heard self.old.planned self.old.sounds (S.stored shelf.old)) first end)) }
         ensures ready { self.new ≡ self.old }
         ensures only_reads { OnlyReads S.Shelf shelf.old shelf.new result (λ _. ⊤) (λ _ failed. ⊤) }
     {
         let channels = u64::from(self.plan.format().channels);
-        let mut next = stretch.first;
-        let mut ahead = stretch.end - stretch.first;
-        let mut end = 0;
+        let mut next = first;
+        let mut ahead = end - first;
+        let mut at = 0;
         let mut clips = Clips::none();
-        while next < stretch.end {
-            let tried = Stretch {
-                first: next,
-                end: next + ahead.min(stretch.end - next),
-                ..*stretch
-            };
-            let played = self.play_next(&tried, shelf, bytes, end)?;
-            let before = u64::from(next - stretch.first) * BLOCK_LENGTH as u64 * channels;
+        while next < end {
+            let to = next + ahead.min(end - next);
+            let played = self.play_next(next, to, shelf, bytes, at)?;
+            let before = u64::from(next - first) * BLOCK_LENGTH as u64 * channels;
             clips = clips.joined(played.clips, before);
-            ahead = blocks_ahead(&tried, played.next);
-            end = played.end;
+            ahead = blocks_ahead(next, to, played.next);
+            at = played.end;
             next = played.next;
         }
         Ok(clips)

@@ -18,6 +18,13 @@ pub enum JobLength {
     Longer,
 }
 
+/// How many blocks a job has at most, and how many jobs are marked together at most.
+#[derive(Clone, Copy)]
+pub struct JobLimits {
+    pub blocks: u32,
+    pub together: u32,
+}
+
 /// The most blocks that are each a job where there are no more.
 const FEW: u32 = 64;
 

@@ -47,8 +47,9 @@ const MARKS_OUTPUT: u32 = 1;
 
 /// A rendering whose blocks are marked, as an execution does it: the rendered file is laid out and its marks are begun,
 /// each job's bytes are written, once those of all jobs that are marked together are written they are synced and their
-/// blocks marked, and both files are synced at the end. Another run of the same list goes on where this one stopped. It notes what is clipped of each job. It holds its marks as they
-/// are begun, so that no memory is taken once it is planned and its marks are opened.
+/// blocks marked, and both files are synced at the end. Another run of the same list goes on where this one stopped. It
+/// notes what is clipped of each job. It holds its marks as they are begun, so that no memory is taken once it is
+/// planned and its marks are opened.
 #[derive(Drop)]
 pub struct RenderingWork<'a> {
     rendering: Rendering<'a>,
@@ -84,13 +85,13 @@ impl<'a> Rendering<'a> {
         ensures { result ≡ (work_of self.now).size job }
     {
         let stretch = self.stretch(job);
-        let frames = self.blocks.frames_in(&stretch);
+        let frames = self.blocks.frames_in(stretch.first, stretch.end);
         self.blocks.length_of(frames)
     }
 
     /// How many samples come before this stretch, frame by frame.
     fn samples_before(&self, stretch: &Stretch) -> u64
-        requires { IsInRange self.now.planned.range stretch.now }
+        requires { IsInRange self.now.planned.range stretch.now.first stretch.now.end }
         ensures { result ≡ frames_before self.now.planned.range stretch.now.first * self.now.planned.range.channels }
     {
         let frames = u64::from(stretch.first) * BLOCK_LENGTH as u64;
@@ -102,7 +103,7 @@ impl<'a> Rendering<'a> {
         requires { job < (work_of self.now).count }
     {
         let stretch = self.stretch(job);
-        self.blocks.frames_in(&stretch) as u64
+        self.blocks.frames_in(stretch.first, stretch.end) as u64
     }
 }
 
@@ -187,8 +188,8 @@ impl<'a> JobMaker for RenderingWork<'a> {
         if !last {
             return place(bench, at, bytes);
         }
-        let blocks = self.rendering.blocks_with(job);
-        place_marked(bench, at, bytes, blocks.first, blocks.end)
+        let (first, end) = self.rendering.blocks_with(job);
+        place_marked(bench, at, bytes, first, end)
     }
 
     fn lay_out<B: Bench>(&mut self, bench: &mut B) -> Result<(), OutputFault> {

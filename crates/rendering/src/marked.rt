@@ -14,7 +14,7 @@ ghost use Rattle.rendering.specs.Written.{Spares, WritesRendering};
 
 use crate::Rendering;
 use crate::blocks::BLOCK_LENGTH;
-use crate::job_length::{JobLength, blocks_in_job, jobs_together, stretches_of};
+use crate::job_length::{JobLength, stretches_of};
 use crate::stretch::{Stretch, last_with};
 use clipping::Clips;
 use devices::{Bench, DeviceFault, Shelf};
@@ -26,22 +26,19 @@ impl<'a> Rendering<'a> {
     pub(crate) fn stretch(&self, job: u32) -> Stretch
         requires { job < (work_of self.now).count }
         ensures stretch { result ≡ stretch_at self.now.stretches job }
-        ensures inside { IsInRange self.now.planned.range result }
+        ensures inside { IsInRange self.now.planned.range result.first result.end }
     {
         self.stretches[job as usize]
     }
 
-    /// The blocks of all jobs that are marked together with this one.
-    pub(crate) fn blocks_with(&self, job: u32) -> Stretch
+    /// The blocks of all jobs that are marked together with this one: the first, and the one behind the last.
+    pub(crate) fn blocks_with(&self, job: u32) -> (u32, u32)
         requires { job < (work_of self.now).count }
-        ensures { AreMarkedWith self.now.stretches job result }
+        ensures { AreMarkedWith self.now.stretches job result.0 result.1 }
     {
         let first = self.stretches[job as usize].group as usize;
         let last = last_with(self.stretches.as_slice(), job as usize);
-        Stretch {
-            end: self.stretches[last].end,
-            ..self.stretches[first]
-        }
+        (self.stretches[first].first, self.stretches[last].end)
     }
 
     /// Makes the bytes of this job; gives what was clipped of them.
@@ -61,7 +58,8 @@ impl<'a> Rendering<'a> {
         ensures only_reads { OnlyReads S.Shelf shelf.old shelf.new result (λ _. ⊤) (λ _ failed. ⊤) }
     {
         let stretch = self.stretch(job);
-        self.blocks.play_stretch(&stretch, shelf, bytes)
+        self.blocks
+            .play_stretch(stretch.first, stretch.end, shelf, bytes)
     }
 
     /// Where a stretch begins in the rendered file.
@@ -114,10 +112,8 @@ impl<'a> Rendering<'a> {
         ensures cut { IfOk result (λ cut. AreCutBy jobs marked.now (record self.now { stretches = cut.items })) }
         ensures whole { IfOk result (λ cut. IsRenderWork (record self.now { stretches = cut.items })) }
     {
-        let count = self.blocks.count();
-        let block = self.blocks.length_of(BLOCK_LENGTH) as u32;
-        let most = blocks_in_job(jobs, count, block);
-        let stretches = stretches_of(alloc, marked, most, jobs_together(jobs, count, block))?;
+        let limits = self.blocks.limits(jobs);
+        let stretches = stretches_of(alloc, marked, limits.blocks, limits.together)?;
         Ok(stretches)
     }
 

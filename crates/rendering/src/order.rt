@@ -40,11 +40,8 @@ fn keys_of(
     let mut key = u64::MAX;
     for (i, stretch) in stretches.iter().enumerate() {
         if stretch.group as usize == i {
-            let whole = Stretch {
-                end: stretches[last_with(stretches, i)].end,
-                ..*stretch
-            };
-            key = key_of(blocks.source_of(&whole), homes);
+            let end = stretches[last_with(stretches, i)].end;
+            key = key_of(blocks.source_of(stretch.first, end), homes);
         }
         keys.push(key)?;
     }

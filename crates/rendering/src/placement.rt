@@ -1,14 +1,11 @@
 // A stretch of blocks that is written, and then marked.
-ghost use Rattle.std.specs.Prelude.{◌≡◌, ◌≢◌, ◌+◌, ◌≤◌, ℕ, Bool, IsTrue, OnErr, OnOk, Some, false, length, true, ⊤};
+ghost use Rattle.std.specs.Prelude.{ℕ, Bool, IsTrue, OnErr, OnOk, false, length, true, ⊤};
 ghost use Rattle.work_terms.specs.Disk.{Changes, Files, IsDurable, IsTorn, IsWritten, LeavesOnly};
-ghost use Rattle.devices.specs.Frame.{OnlyWrites};
-ghost use Rattle.devices.specs.Views.{output_view};
-ghost use Rattle.markfile.specs.Format.{marks_name, sound_name};
-ghost use Rattle.execution.specs.Marking.{IsRunning, Marks, settled};
-ghost use Rattle.execution.specs.Together.{with_done};
+ghost use Rattle.markfile.specs.Format.{sound_name};
 ghost use Rattle.rendering.specs.Maker.{marks_of};
 ghost use Rattle.rendering.specs.Marked.{MarkedWork};
-ghost use Rattle.rendering.specs.Placed.{AreBlocksWith, AreFewBlocks, HasPlaced, IsStretchOf, IsTornFrom};
+ghost use Rattle.rendering.specs.Placed.{AreBlocksWith, AreFewBlocks, HasPlaced, IsTornFrom, PlacesJob, WritesJob};
+ghost use Rattle.rendering.specs.Written.{WritesRendering};
 
 use devices::{Bench, DeviceFault};
 use execution::PlaceFault;
@@ -24,8 +21,7 @@ fn write_bytes<B: Bench>(bench: &mut B, at: u64, bytes: &[u8]) -> Result<(), Dev
         (IsTornFrom (B.may_leave bench.old) sound_name at (length bytes.now)) }
     ensures unsure { IsTrue (B.honest bench.old) → OnErr result (Changes (IsTorn at (length bytes.now)) sound_name
         (B.stored bench.old) (B.stored bench.new)) }
-    ensures only_writes { OnlyWrites B.Bench (λ n. n ≢ sound_name) bench.old bench.new result (λ _. ⊤)
-        (λ _ failed. failed sound_name) }
+    ensures only_writes { WritesRendering B.Bench bench.old bench.new result (λ _. ⊤) }
 {
     bench.write_at(SOUND, at, bytes)
 }
@@ -42,8 +38,7 @@ fn write_sound<B: Bench>(bench: &mut B, at: u64, bytes: &[u8]) -> Result<(), Dev
         (IsTornFrom (B.may_leave bench.old) sound_name at (length bytes.now)) }
     ensures unsure { IsTrue (B.honest bench.old) → OnErr result (Changes (IsTorn at (length bytes.now)) sound_name
         (B.stored bench.old) (B.stored bench.new)) }
-    ensures only_writes { OnlyWrites B.Bench (λ n. n ≢ sound_name) bench.old bench.new result (λ _. ⊤)
-        (λ _ failed. failed sound_name) }
+    ensures only_writes { WritesRendering B.Bench bench.old bench.new result (λ _. ⊤) }
 {
     match bench.write_at(SOUND, at, bytes) {
         Ok(()) => {}
@@ -60,15 +55,10 @@ fn write_sound<B: Bench>(bench: &mut B, at: u64, bytes: &[u8]) -> Result<(), Dev
 pub(crate) fn place<B: Bench>(bench: &mut B, at: u64, bytes: &[u8]) -> Result<(), PlaceFault>
     ensures marks { IsTrue (B.honest bench.old)
         → (marked : MarkedWork) (sources : Files) (done : ℕ → Bool) (job : ℕ)
-        → IsStretchOf (marks_of marked sources) job at bytes.now → done job ≡ false
-        → settled (marks_of marked sources) (with_done done job) job ≡ false
-        → IsRunning (marks_of marked sources) done (B.stored bench.old) (B.may_leave bench.old)
-        → Marks (Some (marks_of marked sources)) done job (output_view B.Bench bench.old)
-        (output_view B.Bench bench.new) result }
+        → PlacesJob B.Bench bench.old bench.new (marks_of marked sources) done job false at bytes.now result }
     ensures placed { IsTrue (B.honest bench.old)
         → HasPlaced at bytes.now (B.stored bench.old sound_name) (B.stored bench.new sound_name) result }
-    ensures only_writes { OnlyWrites B.Bench (λ n. (n ≢ sound_name) × (n ≢ marks_name)) bench.old bench.new result
-        (λ _. ⊤) (λ fault failed. fault ≡ PlaceFault.Mark → failed marks_name) }
+    ensures only_writes { WritesJob B.Bench bench.old bench.new result }
 {
     match write_bytes(bench, at, bytes) {
         Ok(()) => return Ok(()),
@@ -88,16 +78,11 @@ pub(crate) fn place_marked<B: Bench>(
     requires { AreFewBlocks first end }
     ensures marks { IsTrue (B.honest bench.old)
         → (marked : MarkedWork) (sources : Files) (done : ℕ → Bool) (job : ℕ)
-        → IsStretchOf (marks_of marked sources) job at bytes.now
-        → AreBlocksWith (marks_of marked sources) job first end → done job ≡ false
-        → settled (marks_of marked sources) (with_done done job) job ≡ true
-        → IsRunning (marks_of marked sources) done (B.stored bench.old) (B.may_leave bench.old)
-        → Marks (Some (marks_of marked sources)) done job (output_view B.Bench bench.old)
-        (output_view B.Bench bench.new) result }
+        → AreBlocksWith (marks_of marked sources) job first end
+        → PlacesJob B.Bench bench.old bench.new (marks_of marked sources) done job true at bytes.now result }
     ensures placed { IsTrue (B.honest bench.old)
         → HasPlaced at bytes.now (B.stored bench.old sound_name) (B.stored bench.new sound_name) result }
-    ensures only_writes { OnlyWrites B.Bench (λ n. (n ≢ sound_name) × (n ≢ marks_name)) bench.old bench.new result
-        (λ _. ⊤) (λ fault failed. fault ≡ PlaceFault.Mark → failed marks_name) }
+    ensures only_writes { WritesJob B.Bench bench.old bench.new result }
 {
     match write_sound(bench, at, bytes) {
         Ok(()) => {}

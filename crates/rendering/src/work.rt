@@ -17,8 +17,8 @@ ghost use Rattle.rendering.specs.Rendering.{HasRange, HaveChannels, IsSpan, rend
 ghost use Rattle.rendering.specs.Work.{IsRenderWork, job_blocks, marked_jobs};
 ghost use Rattle.rendering.specs.declared.fault.RenderFault.TheVariants.{Memory};
 
-use crate::blocks::{BLOCK_LENGTH, Blocks};
-use crate::job_length::{JobLength, blocks_in_job, fresh_stretches, jobs_together};
+use crate::blocks::Blocks;
+use crate::job_length::{JobLength, fresh_stretches};
 use crate::span::span_of;
 use crate::stretch::Stretch;
 use crate::{Options, RenderFault};
@@ -149,9 +149,8 @@ fn stretches_of(
     ensures only_memory { IfErr result WantsMemory }
 {
     let count = blocks.count();
-    let block = blocks.length_of(BLOCK_LENGTH) as u32;
-    let most = blocks_in_job(jobs, count, block);
-    let stretches = fresh_stretches(alloc, count, most, jobs_together(jobs, count, block))?;
+    let limits = blocks.limits(jobs);
+    let stretches = fresh_stretches(alloc, count, limits.blocks, limits.together)?;
     Ok(stretches)
 }
 

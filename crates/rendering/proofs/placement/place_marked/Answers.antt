@@ -3,11 +3,11 @@ use Rattle.rendering.proofs.Stretches.{placed-broken, placed-marked, placed-unwr
 use Rattle.rendering.proofs.placement.place_marked.Goals as goal
 
 pub returns-in-Err-clause-marks : goal.returns-in-Err-clause-marks
-returns-in-Err-clause-marks g c honest marked sources done job s w off all run = placed-unwritten g.B.Bench marked
+returns-in-Err-clause-marks g c honest marked sources done job w s off all run = placed-unwritten g.B.Bench marked
     sources done job s off run c.in-Err.ensures.torn c.in-Err.ensures.moments (c.in-Err.ensures.unsure honest)
 
 pub returns-in-Ok-mark_all-clause-marks : goal.returns-in-Ok-mark_all-clause-marks
-returns-in-Ok-mark_all-clause-marks g c honest marked sources done job s w off all run =
+returns-in-Ok-mark_all-clause-marks g c honest marked sources done job w s off all run =
     let still = rw (← c.in-Ok.ensures.only_writes.honest_same) at honest in
     let set = c.in-Ok-mark_all.ensures in
     placed-marked g.B.Bench marked sources done job s off run c.in-Ok.ensures.torn c.in-Ok.ensures.moments w all _
@@ -16,7 +16,7 @@ returns-in-Ok-mark_all-clause-marks g c honest marked sources done job s w off a
     (set.marked still marked.run run.marks)
 
 pub returns-in-Err-mark_all-clause-marks : goal.returns-in-Err-mark_all-clause-marks
-returns-in-Err-mark_all-clause-marks g c honest marked sources done job s w off all run =
+returns-in-Err-mark_all-clause-marks g c honest marked sources done job w s off all run =
     let still = rw (← c.in-Ok.ensures.only_writes.honest_same) at honest in
     let set = c.in-Err-mark_all.ensures in
     placed-broken g.B.Bench marked sources done job s off run c.in-Ok.ensures.torn c.in-Ok.ensures.moments w all _

@@ -7,12 +7,11 @@ use Rattle.rendering.proofs.blocks.Blocks.play_stretch.Goals as goal
 
 pub play_next-requires : goal.play_next-requires
 play_next-requires g c =
-    let stretch = c.args.stretch.now in
     let range = c.args.self.now.planned.range in
     let k = c.loop-next.next in
     let is = c.loop-next.invariant in
-    let room = bytes_room range (frames_before range stretch.first) (frames_before range k)
-    (frames_before range (k + c.min.result)) (frames_before range stretch.end) (omega (arith, is.behind)) (omega arith)
+    let room = bytes_room range (frames_before range c.args.first) (frames_before range k)
+    (frames_before range (k + c.min.result)) (frames_before range c.args.end) (omega (arith, is.behind)) (omega arith)
     (omega (arith, c.min.ensures, c.loop-next-test.true)) in
     rw is.ready (record {
       inside = record {
@@ -26,7 +25,7 @@ pub loop-next-preserved : goal.loop-next-preserved
 loop-next-preserved g c =
     let work = c.args.self.now in
     let range = work.planned.range in
-    let first = c.args.stretch.now.first in
+    let first = c.args.first in
     let k = c.loop-next.next in
     let next = c.in_ok-played.played.next in
     let is = c.loop-next.invariant in
@@ -67,6 +66,6 @@ loop-next-init g c =
       sources = search rules;
       played = search rules;
       clips = λ honest. clips_none work.planned.range
-          (heard work.planned work.sounds (g.S.Shelf.stored c.args.shelf.now)) c.args.stretch.now.first
+          (heard work.planned work.sounds (g.S.Shelf.stored c.args.shelf.now)) c.args.first
           c.none-clips.ensures;
     }

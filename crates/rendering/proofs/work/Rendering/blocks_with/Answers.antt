@@ -15,8 +15,8 @@ returns c =
     let group : c.index.result.now.group ≡ group_at work job = ap (λ (s : Stretch). s.group) one in
     let there : group_at work job < length work =
     omega (arith, (c.self.invariant.0.short.grouped job below).first.before, below) in
-    let first = get_or_read work (group_at work job) _ there (rw group at c.index-3.ensures) no_stretch in
-    let last = get_or_read work c.last_with-last.result _ with.there c.index-2.ensures no_stretch in
+    let first = get_or_read work (group_at work job) _ there (rw group at c.index-2.ensures) no_stretch in
+    let last = get_or_read work c.last_with-last.result _ with.there c.index-3.ensures no_stretch in
     rw (← c.self.view_is) (record {
       last = c.last_with-last.result;
       is_last = with;

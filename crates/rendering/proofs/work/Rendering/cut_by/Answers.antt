@@ -1,4 +1,3 @@
-use Rattle.std.proofs.Common.{arith}
 use Rattle.rendering.proofs.work.Rendering.cut_by.Goals as goal
 
 pub returns-clause-whole : goal.returns-clause-whole
@@ -6,12 +5,11 @@ returns-clause-whole c = rw (← c.self.view_is) (record {
   planned = c.self.invariant.0.planned;
   cut = rw (c.requires, ← c.self.view_is) at c.in_ok-stretches.ensures.cut;
   short = record {
-    together = c.jobs_together.result;
+    together = c.limits-limits.result.together;
     grouped = c.in_ok-stretches.ensures.grouped;
-    most = c.blocks_in_job-most.result;
+    most = c.limits-limits.result.blocks;
     short = c.in_ok-stretches.ensures.short;
-    few = rw c.blocks_in_job-most.ensures.value
-        (c.jobs_together.ensures.few (omega (arith, c.length_of-block.ensures.some)));
+    few = c.limits-limits.ensures.few;
   };
   fits = c.self.invariant.0.fits;
 })
