@@ -4,6 +4,7 @@ import os
 import resource
 import subprocess
 from functools import partial
+from urllib.parse import quote
 
 import model
 from harness import (
@@ -99,7 +100,7 @@ def control_characters(scene: Scene) -> None:
         ("no list", "no list"), ("Ü%0A.adl", "Ü%0A.adl"),
         ("wav.\u202edlA", "wav.%E2%80%AEdlA"), ("a\u2028b", "a%E2%80%A8b"), ("a\u2029b", "a%E2%80%A9b"),
         ("\u2066a\u2069", "%E2%81%A6a%E2%81%A9"), ("a\u200fb\u200e", "a%E2%80%8Fb%E2%80%8E"),
-        ("\u061ca", "%D8%9Ca"), ("\u2027\u202f\u2065\u206a\u200d", "\u2027\u202f\u2065\u206a\u200d"),
+        ("\u061ca", quote("\u061ca")), ("\u2027\u202f\u2065\u206a\u200d", "\u2027\u202f\u2065\u206a\u200d"),
     ):
         same_outcome(scene.run("render", name, MEDIA, OUT), 1, f"refused 21 at file {printed}")
         same_outcome(scene.run("render", LIST, MEDIA, name), 1, f"refused 20 at file {printed}")
