@@ -8,4 +8,3 @@ pub mod GroupLength
 pub mod EntryMix
 pub mod Packing
 pub mod Three
-pub mod Lengthened

@@ -14,7 +14,8 @@ use Rattle.sound_terms.specs.OrderLaws.{mix_total, read_by, reads_total, sum_at,
 use Rattle.sound_terms.specs.Passes.{join_cuts, lengthened, put_to_first}
 use Rattle.passes.specs.declared.ends.End.{End}
 use Rattle.passes.specs.Ends.{IsFirst, end_before, end_of, flat_end, is_end}
-use Rattle.passes.proofs.Longer.{BothFlat, by_longer, longer_mix, longer_reads, longer_whole}
+use Rattle.sound_terms.specs.LongerLaws.{BothFlat, by_longer}
+use Rattle.passes.proofs.Longer.{longer_mix, longer_reads, longer_whole}
 use Rattle.passes.proofs.Putting.{put_last, put_there, taken_there}
 use Rattle.passes.proofs.Totals.{total_joined}
 

@@ -7,7 +7,7 @@ use Rattle.std.proofs.lemmas.List.Elements.{All-cons, All-head, All-nil, All-pus
 use Rattle.sound_terms.specs.declared.piece.Piece.{Piece}
 use Rattle.sound_terms.specs.Groups.{AreGroups, IsGroup, IsPiece, RiseFrom, start_of}
 use Rattle.sound_terms.specs.Passes.{chosen, is_flat, join_cuts, lengthened, put_joined, put_to_first}
-use Rattle.passes.proofs.Longer.{by_longer, longer_is_piece}
+use Rattle.sound_terms.specs.LongerLaws.{by_longer, longer_is_piece}
 
 abbrev pub Put : Type 0
 Put = List (List Piece) → List Piece → List (List Piece)

@@ -1,4 +1,4 @@
--- A flat piece that is longer by the one that goes on with it.
+-- What a flat piece that is longer adds and reads.
 use Rattle.std.proofs.Common.{◌≡◌, ℕ, ◌+◌, ◌-◌, ◌<◌, ◌≤◌, Bool, true, false, List, [], ◌∷◌, refl, sym, arith}
 use Rattle.std.specs.Prelude.{ℤ, pos, ◌+ℤ◌, ◌&&◌, ◌||◌, ◌==◌, nat_le, nat_lt, None, Some, if◌then◌else◌}
 use Rattle.std.specs.List.{list_all, list_any}
@@ -9,44 +9,9 @@ use Rattle.sound_terms.specs.declared.piece.Shape.{Shape}
 use Rattle.sound_terms.specs.declared.piece.Shape.TheVariants.{Flat, Rise, Fall}
 use Rattle.sound_terms.specs.Mix.{Reading, share_of}
 use Rattle.sound_terms.specs.Groups.{IsPiece, continues, is_read, is_whole, part_of, sum_of}
-use Rattle.sound_terms.specs.GroupLaws.{GoesOn, goes_on}
-use Rattle.sound_terms.specs.Passes.{is_flat, lengthened}
+use Rattle.sound_terms.specs.LongerLaws.{BothFlat, by_longer, longer}
+use Rattle.sound_terms.specs.Passes.{lengthened}
 use Rattle.passes.proofs.Totals.{Joins}
-
-abbrev longer : Piece → Piece → Piece
-longer p later = record p { length = p.length + later.length }
-
-flat_is : (shape : Shape) → is_flat shape ≡ true → shape ≡ Flat
-flat_is Flat e = refl
-flat_is (Rise offset den) e = cc
-flat_is (Fall offset den) e = cc
-
--- a flat piece that a flat one goes on from
-pub record BothFlat (p later : Piece) : Type 0 where
-  pub flat : p.shape ≡ Flat
-  pub flat_later : later.shape ≡ Flat
-  pub on : GoesOn p later
-
--- what is so of every longer piece is so of what a group is lengthened to
-pub by_longer : (P : List Piece → List Piece → Type 0) (later : Piece)
-    → ((p : Piece) → BothFlat p later → P (p ∷ []) (record p { length = p.length + later.length } ∷ []))
-    → (group joined : List Piece) → lengthened later group ≡ Some joined → P group joined
-by_longer P later holds [] joined e = cc
-by_longer P later holds (p ∷ q ∷ ps) joined e = cc
-by_longer P later holds (p ∷ []) joined e = by_test (is_flat p.shape) (is_flat later.shape) (continues p later) refl
-    refl refl e where
-      by_test : (a b c : Bool) → is_flat p.shape ≡ a → is_flat later.shape ≡ b → continues p later ≡ c
-          → (if a && (b && c) then Some (longer p later ∷ []) else None) ≡ Some joined → P (p ∷ []) joined
-      by_test true true true flat flat_later on is =
-          let same : joined ≡ longer p later ∷ [] = cc in
-          rw same (holds p (record {
-            flat = flat_is p.shape flat;
-            flat_later = flat_is later.shape flat_later;
-            on = goes_on p later on;
-          }))
-      by_test true true false flat flat_later on is = cc
-      by_test true false c flat flat_later on is = cc
-      by_test false b c flat flat_later on is = cc
 
 part_longer : (r : Reading) (p later : Piece) (channel time : ℕ) → BothFlat p later
     → part_of r (longer p later) channel time ≡ part_of r p channel time +ℤ part_of r later channel time
@@ -98,17 +63,3 @@ longer_reads file channel frame later =
     later
     (λ p on rest. rw (read_longer p later file channel frame on) (or_grouped (is_read later file channel frame)
     (is_read p file channel frame) rest))
-
-pub longer_is_piece : (p later : Piece) → BothFlat p later → IsPiece p → IsPiece later
-    → IsPiece (record p { length = p.length + later.length })
-longer_is_piece p later both ok ok_later = record {
-  wide = ok.wide;
-  source_from_one = ok.source_from_one;
-  source_to_64 = ok.source_to_64;
-  dest_from_one = ok.dest_from_one;
-  dest_to_64 = ok.dest_to_64;
-  some = omega (arith, ok.some);
-  in_day = omega (arith, both.on.start, ok_later.in_day);
-  source_in_day = omega (arith, both.on.frame, ok_later.source_in_day);
-  ramp = rw both.flat tt;
-}

@@ -15,6 +15,7 @@ pub mod HomeLaws
 pub mod Homes
 pub mod Kept
 pub mod Laws
+pub mod LongerLaws
 pub mod Media
 pub mod Mix
 pub mod OrderLaws

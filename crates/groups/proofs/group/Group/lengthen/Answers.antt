@@ -1,4 +1,4 @@
-use Rattle.groups.proofs.Lengthened.{lengthened_is_group}
+use Rattle.sound_terms.specs.LongerLaws.{lengthened_is_group}
 use Rattle.groups.proofs.group.Group.lengthen.Goals as goal
 
 pub invariant_of-self : goal.invariant_of-self
