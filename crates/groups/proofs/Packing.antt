@@ -1,5 +1,5 @@
 -- Groups in one record that follow one another.
-use Rattle.std.proofs.Common.{◌≡◌, ◌+◌, ◌<◌, ◌≤◌, Bool, true, false, List, [], ◌∷◌, ◌++◌, IsTrue, refl, arith}
+use Rattle.std.proofs.Common.{◌≡◌, ℕ, ◌+◌, ◌<◌, ◌≤◌, Bool, true, false, List, [], ◌∷◌, ◌++◌, IsTrue, refl, arith}
 use Rattle.std.specs.Prelude.{nat_lt}
 use Rattle.std.proofs.lemmas.Bool.Decides.{nat_tests}
 use Rattle.std.proofs.lemmas.List.{append_assoc, append-nil}
@@ -93,6 +93,21 @@ abbrev fall_in : Packed → Piece
 fall_in group =
     piece_in group (group.rise.length + group.middle) group.fall.length (Fall group.fall.offset group.fall.den)
 
+from_last : (group later : Packed) (at length : ℕ) (shape : Shape) → at + length ≡ group.rise.length + group.middle
+    → group.fall.length ≡ 0 → (0 < group.middle → 1 ≤ rank_of shape) → GoesOn (piece_in group at length shape) later
+    → Follows group later
+from_last group later at length shape whole none flat next = record {
+  start = omega (arith, next.start, whole);
+  frame = omega (arith, next.frame, whole);
+  file = next.file;
+  first = next.first;
+  dest = next.dest;
+  width = next.width;
+  no_fall = none;
+  no_rise = next.no_rise;
+  one_middle = λ some. next.no_middle (flat some);
+}
+
 follows : (group later : Packed) → IsTrue (is_followed_by (pieces_in group) (pieces_in later)) → Follows group later
 follows group later =
     by_parts (nat_lt 0 group.rise.length) (nat_lt 0 group.middle) (nat_lt 0 group.fall.length) refl refl refl where
@@ -111,34 +126,14 @@ follows group later =
       by_parts rise true false r m f on =
           let first = part_in group 0 group.rise.length (Rise group.rise.offset group.rise.den) in
           let last = rw (m, f, behind first (flat_in group) (pieces_in later)) at on in
-          let next = goes_on (flat_in group) later last in
           let none : group.fall.length ≡ 0 = grind (arith, nat_tests) in
-          record {
-            start = omega (arith, next.start);
-            frame = omega (arith, next.frame);
-            file = next.file;
-            first = next.first;
-            dest = next.dest;
-            width = next.width;
-            no_fall = none;
-            no_rise = next.no_rise;
-            one_middle = λ some. next.no_middle (omega arith);
-          }
+          from_last group later group.rise.length group.middle Flat refl none (λ some. omega arith)
+          (goes_on (flat_in group) later last)
       by_parts true false false r m f on =
-          let next = goes_on (rise_in group) later (rw (r, m, f) at on) in
           let none : group.fall.length ≡ 0 = grind (arith, nat_tests) in
           let flat : group.middle ≡ 0 = grind (arith, nat_tests) in
-          record {
-            start = omega (arith, next.start, flat);
-            frame = omega (arith, next.frame, flat);
-            file = next.file;
-            first = next.first;
-            dest = next.dest;
-            width = next.width;
-            no_fall = none;
-            no_rise = next.no_rise;
-            one_middle = λ some. absurd (omega (arith, some, flat));
-          }
+          from_last group later 0 group.rise.length (Rise group.rise.offset group.rise.den) (omega (arith, flat)) none
+          (λ some. absurd (omega (arith, some, flat))) (goes_on (rise_in group) later (rw (r, m, f) at on))
       by_parts false false false r m f on =
           let none : false ≡ true = rw (r, m, f) at on in absurd (grind (arith, nat_tests, none))
 

@@ -82,6 +82,8 @@ impl Group {
     fn cut(&self, time: u64) -> Result<Cut, AllocError>
         ensures before { IfOk result (λ cut. cut.before.items ≡ flat_map (piece_before time) self.now) }
         ensures after { IfOk result (λ cut. cut.after.items ≡ flat_map (piece_behind time) self.now) }
+        ensures group { IsGroup self.now }
+        ensures sound { All IsPiece self.now }
     {
         let alloc = self.allocator();
         let mut cut = Cut {
@@ -99,7 +101,6 @@ impl Group {
     fn push_cut(&self, time: u64, groups: &mut Vec<Group>) -> Result<(), AllocError>
         ensures { OnOk result (groups.new.items ≡ groups.old.items ++ cut_group time self.now) }
     {
-        let _ = self.pieces();
         let Cut { before, after } = self.cut(time)?;
         push_some(groups, before)?;
         push_some(groups, after)

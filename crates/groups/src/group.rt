@@ -54,11 +54,11 @@ impl Group {
         ensures formed { IfSome result (λ group. IsGroup group × All IsPiece group) }
     {
         let packed = Packed::of(pieces.as_slice())?;
-        Group::unpacked(*pieces.allocator(), packed)
+        Group::from_packed(*pieces.allocator(), packed)
     }
 
     /// The pieces of this record as a group; `None` where there is none.
-    pub(crate) fn unpacked(alloc: Global, packed: Packed) -> Option<Self>
+    pub(crate) fn from_packed(alloc: Global, packed: Packed) -> Option<Self>
         requires { pieces_in packed ≢ [] → IsGroup (pieces_in packed) × All IsPiece (pieces_in packed) }
         ensures pieces { MatchOption result (pieces_in packed ≡ []) (λ group. group ≡ pieces_in packed) }
         ensures formed { IfSome result (λ group. IsGroup group × All IsPiece group) }

@@ -1,9 +1,9 @@
 // Lists of groups in order of their starts.
-ghost use Rattle.std.specs.Prelude.{◌≡◌, ℕ, ◌↔◌, IsTrue, IfOk};
+ghost use Rattle.std.specs.Prelude.{◌≡◌, ◌<◌, ◌^◌, ℕ, ◌↔◌, IsTrue, IfOk, length};
 ghost use Rattle.std.specs.List.{All, list_all};
 ghost use Rattle.sound_terms.specs.Mix.{Reading};
 ghost use Rattle.sound_terms.specs.Groups as spec;
-ghost use Rattle.sound_terms.specs.Groups.{AreGroups, IsGroup, IsPiece, are_whole, in_start_order, mix_of, reads};
+ghost use Rattle.sound_terms.specs.Groups.{AreGroups, IsGroup, IsPiece, are_whole, in_start_order, mix_of, pieces_of, reads};
 
 use crate::{Group, Piece, Shape};
 use std::alloc::{AllocError, Global};
@@ -63,6 +63,17 @@ impl Intervals {
         ensures sound { AreGroups self.now }
     {
         self.groups.as_slice()
+    }
+
+    /// How many pieces its groups have, for the room that a list of them takes.
+    pub fn piece_count(&self) -> usize
+        ensures { length (pieces_of self.now) < 2 ^ 64 → result ≡ length (pieces_of self.now) }
+    {
+        let mut count: usize = 0;
+        for group in self.groups() {
+            count = count.saturating_add(group.pieces().len());
+        }
+        count
     }
 
     /// Hands its groups out.

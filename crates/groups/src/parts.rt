@@ -68,5 +68,5 @@ pub fn group_of(alloc: Global, index: &BoundIndex, event: &Event) -> Option<Grou
         ≡ contribution_at reading (Some index.now) event.now channel time }
     ensures whole { IsTrue (list_all is_whole (entries.parts_of index.now event.now)) }
 {
-    Group::unpacked(alloc, parts_of(&Entry { index, event }))
+    Group::from_packed(alloc, parts_of(&Entry { index, event }))
 }

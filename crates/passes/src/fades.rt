@@ -23,7 +23,7 @@ fn push_each(group: &Group, groups: &mut Vec<Group>) -> Result<(), AllocError>
 fn pieces_alone(intervals: &Intervals) -> Result<Vec<Group>, AllocError>
     ensures { IfOk result (λ groups. groups.items ≡ flat_map each_alone intervals.now) }
 {
-    let mut groups = Vec::new(intervals.allocator());
+    let mut groups = Vec::with_capacity(intervals.allocator(), intervals.piece_count())?;
     for group in intervals.groups() {
         push_each(group, &mut groups)?;
     }

@@ -1,5 +1,6 @@
 // Flat pieces that go on without a gap, as one.
 ghost use Rattle.std.specs.Prelude.{◌≡◌, ◌∷◌, [], false, IfOk, OnOk};
+ghost use Rattle.std.specs.List.{All};
 ghost use Rattle.sound_terms.specs.declared.piece.Shape.TheVariants.{Flat};
 ghost use Rattle.sound_terms.specs.Groups.{IsPiece};
 ghost use Rattle.sound_terms.specs.Passes as spec;
@@ -17,7 +18,8 @@ use std::alloc::{AllocError, Global};
 
 /// The piece of a group that is one flat piece.
 fn flat_alone(group: &Group) -> Option<Piece>
-    ensures { result ≡ ends.flat_alone group.now }
+    ensures alone { result ≡ ends.flat_alone group.now }
+    ensures sound { All IsPiece group.now }
 {
     let pieces = group.pieces();
     match pieces.as_slice() {
@@ -64,7 +66,6 @@ fn put_joined(output: &mut Output, group: Group) -> Result<(), AllocError>
     ensures ends { OnOk result (HasFlatEnds output.new) }
     ensures put { OnOk result (output.new.groups.items ≡ spec.put_joined output.old.groups.items group) }
 {
-    let _ = group.pieces();
     match flat_alone(&group) {
         Some(piece) => put_flat(output, piece),
         None => output.push(group, None),

@@ -56,7 +56,7 @@ fn pieces_of(alloc: Global, intervals: &Intervals) -> Result<Vec<Piece>, AllocEr
     ensures all { IfOk result (λ pieces. pieces.items ≡ spec.pieces_of intervals.now) }
     ensures sound { IfOk result (λ pieces. All IsPiece pieces.items) }
 {
-    let mut pieces = Vec::new(alloc);
+    let mut pieces = Vec::with_capacity(alloc, intervals.piece_count())?;
     for group in intervals.groups() {
         pieces.extend_from_slice(group.pieces().as_slice())?;
     }

@@ -10,7 +10,7 @@ use std::alloc::{AllocError, Global};
 pub fn pieces_of(alloc: Global, intervals: &Intervals) -> Result<Vec<Piece>, AllocError>
     ensures { IfOk result (λ pieces. pieces.items ≡ spec.pieces_of intervals.now) }
 {
-    let mut pieces = Vec::new(alloc);
+    let mut pieces = Vec::with_capacity(alloc, intervals.piece_count())?;
     for group in intervals.groups() {
         pieces.extend_from_slice(group.pieces().as_slice())?;
     }
