@@ -4,10 +4,11 @@ use Rattle.std.proofs.lemmas.Bool.{cases_eq, cases_lt}
 use Rattle.std.proofs.lemmas.Bool.Decides.{nat_tests}
 use Rattle.std.proofs.lemmas.List.{append_assoc, drop_at, get_or-append_right, get_or_append_left, get_or-take, get_or-drop, length-take-le, take_at}
 use Rattle.std.proofs.lemmas.Option.{none-some, same_Some}
-use Rattle.std.specs.Prelude.{⊤, Ok, Err}
+use Rattle.std.specs.Prelude.{⊤, Result, Ok, Err}
 use Rattle.work_terms.specs.Disk.{Files, Changes, HasTornRange, IsDurable, IsTorn, IsWritten, LeavesOnly}
 use Rattle.devices.specs.Views.{CrashesLeave, output_view}
 use Rattle.devices.specs.declared.bench.Bench.{Ghosts}
+use Rattle.devices.specs.declared.fault.DeviceFault.{DeviceFault}
 use Rattle.markfile.specs.Format.{marks_name, sound_name}
 use Rattle.markfile.specs.Started.{AreSet, Lasts, LeavesMarks}
 use Rattle.execution.specs.Marking.{HoldsDone, HoldsIn, IsDoneAt, IsFixed, IsMarkFile, IsRunning, Leaves, Marking, Marks, is_marked, settled}
@@ -17,7 +18,7 @@ use Rattle.execution.specs.TogetherLaws.{all_settled, others_settled, settled_do
 use Rattle.execution.specs.declared.fault.PlaceFault.TheVariants.{Mark, Write}
 use Rattle.rendering.specs.Maker.{marks_of}
 use Rattle.rendering.specs.Marked.{MarkedWork}
-use Rattle.rendering.specs.Placed.{AreBlocksWith, IsStretchOf, IsTornFrom}
+use Rattle.rendering.specs.Placed.{AreBlocksWith, IsStretchOf, IsTornFrom, WritesSound}
 use Rattle.rendering.proofs.Jobs.{names_apart}
 use Rattle.rendering.proofs.Calls.{leaves_as, leaves_both, stays_beside}
 
@@ -120,8 +121,7 @@ done-over m at n {old = Some f} h (file, there, torn) fewer right =
 module _ {B : Type 0} (g : Ghosts B) (marked : MarkedWork) (sources : Files) (done : ℕ → Bool) (job : ℕ)
     {at : ℕ} {bytes : List ℕ} (s : IsStretchOf (marks_of marked sources) job at bytes) (left : done job ≡ false)
     {old mid : B} (run : IsRunning (marks_of marked sources) done (g.stored old) (g.may_leave old))
-    (torn : (c : Files) → g.may_leave mid c → IsTornFrom (g.may_leave old) sound_name at (length bytes) c)
-    (writes : LeavesOnly g.moment g.left_since old mid (IsTornFrom (g.may_leave old) sound_name at (length bytes)))
+    {result : Result ⊤ DeviceFault} (writes : WritesSound g old mid at bytes result)
   where
     abbrev m : Marking
     m = marks_of marked sources
@@ -185,8 +185,8 @@ module _ {B : Type 0} (g : Ghosts B) (marked : MarkedWork) (sources : Files) (do
         → Marks {X = ⊤} (Some m) done job (output_view g old) (output_view g mid) (Err Write)
     placed-unwritten change = record {
       goes_on = running_fewer m done (g.stored mid) Torn (torn-runs {files = g.stored mid} (stands-torn change))
-          (g.may_leave mid) torn;
-      moments = leaves_as g torn-leaves writes;
+          (g.may_leave mid) writes.torn;
+      moments = leaves_as g torn-leaves writes.moments;
     }
 
     -- ---- the job is done
@@ -216,8 +216,8 @@ module _ {B : Type 0} (g : Ghosts B) (marked : MarkedWork) (sources : Files) (do
           marks = run.marks;
           ours = run.ours;
           tell = λ k b lt from to. run.tell k b lt from to ∙ sym (still_settled m done job s.there left more k);
-          kept = λ c h. torn-kept c (torn c h);
-          wave = λ c h. torn-wave c (torn c h);
+          kept = λ c h. torn-kept c (writes.torn c h);
+          wave = λ c h. torn-wave c (writes.torn c h);
           stands = stands-written;
         };
         moments = leaves_as g (λ c t. record {
@@ -227,7 +227,7 @@ module _ {B : Type 0} (g : Ghosts B) (marked : MarkedWork) (sources : Files) (do
           still = λ k b lt from to on. run.tell k b lt from to ∙ on;
           only = λ k b lt from to on. settled_more m done after still k (sym (run.tell k b lt from to) ∙ on);
           wave = torn-wave c t;
-        }) writes;
+        }) writes.moments;
       }
 
     -- ---- the last of those that are marked together with it
@@ -280,7 +280,7 @@ module _ {B : Type 0} (g : Ghosts B) (marked : MarkedWork) (sources : Files) (do
         lasts : Lasts g marked.run run.marks mid
         lasts = record {
           ours = record { front = run.ours.front; size = run.ours.size };
-          kept = λ c h. torn-kept c (torn c h);
+          kept = λ c h. torn-kept c (writes.torn c h);
         }
 
         -- what is marked by marks that are alike is of jobs that are done
@@ -304,7 +304,8 @@ module _ {B : Type 0} (g : Ghosts B) (marked : MarkedWork) (sources : Files) (do
         -- at each moment of both calls the marks are true
         moments : CrashesLeave (Leaves m (settled m done) (settled m after)) (output_view g old) (output_view g new)
         moments = leaves_both g
-            (λ c t. leave c run.marks (torn-kept c t) run.ours (λ b out. refl) (torn-wave c t)) writes
+            (λ c t. leave c run.marks (torn-kept c t) run.ours (λ b out. refl) (torn-wave c t))
+            writes.moments
             (λ c l. leave c l.marks l.there (record { front = l.ours.front; size = l.ours.size }) l.others
             (wave c l (is_marked l.marks) l.others)) (marks lasts)
 

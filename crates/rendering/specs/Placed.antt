@@ -1,10 +1,11 @@
 -- A stretch of blocks with its bytes.
-use Rattle.std.specs.Prelude.{◌≡◌, ℕ, ◌+◌, ◌<◌, ◌≤◌, Bool, false, List, Option, Some, Result, Ok, Err, length, slice_index_or, ⊤}
-use Rattle.work_terms.specs.Disk.{Files, Changes, IsTorn, IsWritten}
+use Rattle.std.specs.Prelude.{◌≡◌, ℕ, ◌+◌, ◌<◌, ◌≤◌, Bool, false, List, Option, Some, Result, Ok, Err, IsTrue, OnErr, OnOk, length, slice_index_or, ⊤}
+use Rattle.work_terms.specs.Disk.{Files, Changes, IsTorn, IsWritten, LeavesOnly}
 use Rattle.devices.specs.Frame.{OnlyWrites}
 use Rattle.devices.specs.Views.{output_view}
 use Rattle.devices.specs.declared.bench.Bench as output
-use Rattle.markfile.specs.Format.{marks_name}
+use Rattle.devices.specs.declared.fault.DeviceFault.{DeviceFault}
+use Rattle.markfile.specs.Format.{marks_name, sound_name}
 use Rattle.execution.specs.declared.fault.PlaceFault.{PlaceFault}
 use Rattle.execution.specs.declared.fault.PlaceFault.TheVariants.{Mark, Write}
 use Rattle.execution.specs.Marking.{IsRunning, Marking, Marks, settled}
@@ -12,6 +13,7 @@ use Rattle.execution.specs.Together.{with_done}
 use Rattle.rendering.specs.declared.stretch.Stretch.{Stretch}
 use Rattle.rendering.specs.Cut.{IsLastWith, group_at, stretch_at}
 use Rattle.rendering.specs.Marked.{IsOther}
+use Rattle.rendering.specs.Written.{WritesRendering}
 
 -- the bytes of a job at their position in the output, which are just those of its blocks
 pub record IsStretchOf (m : Marking) (job at : ℕ) (bytes : List ℕ) : Type 0 where
@@ -46,6 +48,18 @@ pub record AreMarkedWith (stretches : List Stretch) (k from to : ℕ) : Type 0 w
 -- an outcome of before with one file torn
 abbrev pub IsTornFrom : (Files → Type 0) → List ℕ → (at n : ℕ) → Files → Type 0
 IsTornFrom outcomes name at n c = (d : Files) × outcomes d × Changes (IsTorn at n) name d c
+
+-- the bytes are written to the rendered file from this position on: whether they stand there, and what a crash leaves
+pub record WritesSound {B : Type 0} (bench : output.Ghosts B) (old new : B) (at : ℕ) (bytes : List ℕ)
+    (result : Result ⊤ DeviceFault) : Type 0 where
+  pub written : IsTrue (bench.honest old)
+      → OnOk result (Changes (IsWritten at bytes) sound_name (bench.stored old) (bench.stored new))
+  pub unsure : IsTrue (bench.honest old)
+      → OnErr result (Changes (IsTorn at (length bytes)) sound_name (bench.stored old) (bench.stored new))
+  pub torn : (c : Files) → bench.may_leave new c → IsTornFrom (bench.may_leave old) sound_name at (length bytes) c
+  pub moments : LeavesOnly bench.moment bench.left_since old new
+      (IsTornFrom (bench.may_leave old) sound_name at (length bytes))
+  pub only_writes : WritesRendering bench old new result (λ _. ⊤)
 
 -- the bytes stand at this position, or are torn where they weren't written
 abbrev pub HasPlaced : {X : Type 0} → (at : ℕ) (bytes : List ℕ) (old new : Option (List ℕ)) → Result X PlaceFault

@@ -19,6 +19,7 @@ use devices::{DeviceFault, Shelf};
 use renderplan::{Plan, Program};
 use std::alloc::Global;
 use std::marker::Model;
+use std::ops::Range;
 use wavread::Sound;
 
 /// The most frames of a block.
@@ -91,13 +92,14 @@ fn play_block<S: Shelf>(
     }
 }
 
-/// How many blocks are tried at once after those from `first` on up to, and without, `end` were, of which those before
-/// `next` were played: twice as many where these were all, else one.
-fn blocks_ahead(first: u32, end: u32, next: u32) -> u32
+/// How many blocks are tried at once after these were, of which those before `next` were played: twice as many where
+/// these were all, else one.
+fn blocks_ahead(blocks: Range<u32>, next: u32) -> u32
     ensures { 1 ≤ result }
 {
-    if next == end {
-        end.saturating_sub(first).saturating_mul(2).max(1)
+    if next == blocks.end {
+        let tried = blocks.end.saturating_sub(blocks.start);
+        tried.saturating_mul(2).max(1)
     } else {
         1
     }
@@ -163,23 +165,23 @@ impl<'a> Blocks<'a> {
         }
     }
 
-    /// How many frames those from `first` on up to, and without, `end` have.
-    pub fn frames_in(&self, first: u32, end: u32) -> usize
-        requires { IsInRange self.now.planned.range first end }
-        ensures frames { result ≡ frames_of_blocks self.now.planned.range first end }
+    /// How many frames these have.
+    pub fn frames_in(&self, blocks: Range<u32>) -> usize
+        requires { IsInRange self.now.planned.range blocks.start blocks.end }
+        ensures frames { result ≡ frames_of_blocks self.now.planned.range blocks.start blocks.end }
         ensures few { result ≤ 4147200000 }
     {
-        let last = end - 1;
-        (last - first) as usize * BLOCK_LENGTH + self.plan.frames_of(u64::from(last)) as usize
+        let last = blocks.end - 1;
+        (last - blocks.start) as usize * BLOCK_LENGTH
+            + self.plan.frames_of(u64::from(last)) as usize
     }
 
-    /// Where the first of those from `first` on up to, and without, `end` in which something sounds begins in its file;
-    /// `None` where all are silent.
-    pub fn source_of(&self, first: u32, end: u32) -> Option<(u32, u64)>
-        requires { end ≤ block_count self.now.planned.range }
+    /// Where the first of these in which something sounds begins in its file; `None` where all are silent.
+    pub fn source_of(&self, blocks: Range<u32>) -> Option<(u32, u64)>
+        requires { blocks.end ≤ block_count self.now.planned.range }
         ensures in_day { IfSome result IsInDay }
     {
-        for k in first as u64..end as u64 {
+        for k in blocks.start as u64..blocks.end as u64 {
             let source = self.plan.source_of(k);
             if source.is_some() {
                 return source;
@@ -254,37 +256,36 @@ impl<'a> Blocks<'a> {
         })
     }
 
-    /// Writes the samples of the blocks from `first` on up to, and without, `end` over `bytes` from `at` on, where one
-    /// file fills all of them as it is. `None` where more is to be done; what comes before `at` stays. A file that
-    /// can't be read fails it.
+    /// Writes the samples of these blocks over `bytes` from `at` on, where one file fills all of them as it is. `None`
+    /// where more is to be done; what comes before `at` stays. A file that can't be read fails it.
     fn copy_at<S: Shelf>(
         &mut self,
-        first: u32,
-        end: u32,
+        blocks: Range<u32>,
         shelf: &mut S,
         bytes: &mut [u8],
         at: usize,
     ) -> Result<Option<Played>, DeviceFault>
-        requires { HasRoomAt self.old.planned.range first end at (length bytes.old) }
+        requires { HasRoomAt self.old.planned.range blocks.start blocks.end at (length bytes.old) }
         ensures played { IsTrue (S.honest shelf.old) → IfOk result (λ copied. IfSome copied (λ some.
             take some.end bytes.new ≡ take at bytes.old ++ bytes_of_blocks self.old.planned.range
-            (heard self.old.planned self.old.sounds (S.stored shelf.old)) first end)) }
+            (heard self.old.planned self.old.sounds (S.stored shelf.old)) blocks.start blocks.end)) }
         ensures clips { IsTrue (S.honest shelf.old) → IfOk result (λ copied. IfSome copied (λ some.
             Clip self.old.planned.range (sums_of_blocks self.old.planned.range
-            (heard self.old.planned self.old.sounds (S.stored shelf.old)) first end) some.clips)) }
-        ensures ended { IfOk result (λ copied. IfSome copied (λ some. (some.next ≡ end) × (some.end
-            ≡ at + bytes_for self.old.planned.range (frames_of_blocks self.old.planned.range first end)))) }
+            (heard self.old.planned self.old.sounds (S.stored shelf.old)) blocks.start blocks.end) some.clips)) }
+        ensures ended { IfOk result (λ copied. IfSome copied (λ some. (some.next ≡ blocks.end) × (some.end ≡ at
+            + bytes_for self.old.planned.range (frames_of_blocks self.old.planned.range blocks.start blocks.end)))) }
         ensures front { IfOk result (λ copied. copied ≡ None → take at bytes.new ≡ take at bytes.old) }
         ensures ready { self.new ≡ self.old }
         ensures only_reads { OnlyReads S.Shelf shelf.old shelf.new result (λ _. ⊤) (λ _ failed. ⊤) }
     {
-        if end - first == 1 {
+        let Range { start, end } = blocks;
+        if end - start == 1 {
             return Ok(None);
         }
-        let to = at + self.length_of(self.frames_in(first, end));
+        let to = at + self.length_of(self.frames_in(start..end));
         let program = &mut self.program;
         let format = self.plan.format();
-        let frames = self.plan.fill_span(first.into(), end.into(), program);
+        let frames = self.plan.fill_span(start.into(), end.into(), program);
         let room = &mut bytes[at..to];
         let copied = match copy_alone(program, frames, format, self.sounds, shelf, room) {
             Ok(copied) => copied,
@@ -301,30 +302,30 @@ impl<'a> Blocks<'a> {
         }))
     }
 
-    /// Writes the samples of the blocks from `first` on up to, and without, `end` over `bytes` from `at` on at once,
-    /// where one file fills all of them as it is; else those of the first one. A file that can't be read fails it.
+    /// Writes the samples of these blocks over `bytes` from `at` on at once, where one file fills all of them as it is;
+    /// else those of the first one. A file that can't be read fails it.
     fn play_next<S: Shelf>(
         &mut self,
-        first: u32,
-        end: u32,
+        blocks: Range<u32>,
         shelf: &mut S,
         bytes: &mut [u8],
         at: usize,
     ) -> Result<Played, DeviceFault>
-        requires { HasRoomAt self.old.planned.range first end at (length bytes.old) }
+        requires { HasRoomAt self.old.planned.range blocks.start blocks.end at (length bytes.old) }
         ensures played { IsTrue (S.honest shelf.old) → IfOk result (λ some. take some.end bytes.new
             ≡ take at bytes.old ++ bytes_of_blocks self.old.planned.range
-            (heard self.old.planned self.old.sounds (S.stored shelf.old)) first some.next) }
+            (heard self.old.planned self.old.sounds (S.stored shelf.old)) blocks.start some.next) }
         ensures clips { IsTrue (S.honest shelf.old) → IfOk result (λ some. Clip self.old.planned.range (sums_of_blocks
-            self.old.planned.range (heard self.old.planned self.old.sounds (S.stored shelf.old)) first
+            self.old.planned.range (heard self.old.planned self.old.sounds (S.stored shelf.old)) blocks.start
             some.next) some.clips) }
         ensures ended { IfOk result (λ some. some.end ≡ at + bytes_for self.old.planned.range
-            (frames_before self.old.planned.range some.next - frames_before self.old.planned.range first)) }
-        ensures next { IfOk result (λ some. (first < some.next) × (some.next ≤ end)) }
+            (frames_before self.old.planned.range some.next - frames_before self.old.planned.range blocks.start)) }
+        ensures next { IfOk result (λ some. (blocks.start < some.next) × (some.next ≤ blocks.end)) }
         ensures ready { self.new ≡ self.old }
         ensures only_reads { OnlyReads S.Shelf shelf.old shelf.new result (λ _. ⊤) (λ _ failed. ⊤) }
     {
-        match self.copy_at(first, end, shelf, bytes, at)? {
+        let first = blocks.start;
+        match self.copy_at(blocks, shelf, bytes, at)? {
             Some(played) => return Ok(played),
             None => {}
         }
@@ -332,36 +333,36 @@ impl<'a> Blocks<'a> {
         Ok(played)
     }
 
-    /// Sums the blocks from `first` on up to, and without, `end` and writes their samples over `bytes`, which has room
-    /// for just these; gives what was clipped of them. A file that can't be read fails it. As long as one file fills
-    /// the blocks as it is, twice as many are tried at once, all of them at first.
+    /// Sums these blocks and writes their samples over `bytes`, which has room for just these; gives what was clipped
+    /// of them. A file that can't be read fails it. As long as one file fills the blocks as it is, twice as many are
+    /// tried at once, all of them at first.
     pub fn play_stretch<S: Shelf>(
         &mut self,
-        first: u32,
-        end: u32,
+        blocks: Range<u32>,
         shelf: &mut S,
         bytes: &mut [u8],
     ) -> Result<Clips, DeviceFault>
-        requires { HasRoomFor self.old.planned.range first end (length bytes.old) }
+        requires { HasRoomFor self.old.planned.range blocks.start blocks.end (length bytes.old) }
         ensures played { IsTrue (S.honest shelf.old) → OnOk result (bytes.new
             ≡ bytes_of_blocks self.old.planned.range
-            (heard self.old.planned self.old.sounds (S.stored shelf.old)) first end) }
-        ensures clips { IsTrue (S.honest shelf.old) → IfOk result (Clip self.old.planned.range (sums_of_blocks
-            self.old.planned.range (heard self.old.planned self.old.sounds (S.stored shelf.old)) first end)) }
+            (heard self.old.planned self.old.sounds (S.stored shelf.old)) blocks.start blocks.end) }
+        ensures clips { IsTrue (S.honest shelf.old) → IfOk result (Clip self.old.planned.range
+            (sums_of_blocks self.old.planned.range
+            (heard self.old.planned self.old.sounds (S.stored shelf.old)) blocks.start blocks.end)) }
         ensures ready { self.new ≡ self.old }
         ensures only_reads { OnlyReads S.Shelf shelf.old shelf.new result (λ _. ⊤) (λ _ failed. ⊤) }
     {
         let channels = u64::from(self.plan.format().channels);
-        let mut next = first;
-        let mut ahead = end - first;
+        let mut next = blocks.start;
+        let mut ahead = blocks.end - blocks.start;
         let mut at = 0;
         let mut clips = Clips::none();
-        while next < end {
-            let to = next + ahead.min(end - next);
-            let played = self.play_next(next, to, shelf, bytes, at)?;
-            let before = u64::from(next - first) * BLOCK_LENGTH as u64 * channels;
+        while next < blocks.end {
+            let to = next + ahead.min(blocks.end - next);
+            let played = self.play_next(next..to, shelf, bytes, at)?;
+            let before = u64::from(next - blocks.start) * BLOCK_LENGTH as u64 * channels;
             clips = clips.joined(played.clips, before);
-            ahead = blocks_ahead(next, to, played.next);
+            ahead = blocks_ahead(next..to, played.next);
             at = played.end;
             next = played.next;
         }

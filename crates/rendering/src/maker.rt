@@ -85,7 +85,7 @@ impl<'a> Rendering<'a> {
         ensures { result ≡ (work_of self.now).size job }
     {
         let stretch = self.stretch(job);
-        let frames = self.blocks.frames_in(stretch.first, stretch.end);
+        let frames = self.blocks.frames_in(stretch.first..stretch.end);
         self.blocks.length_of(frames)
     }
 
@@ -103,7 +103,7 @@ impl<'a> Rendering<'a> {
         requires { job < (work_of self.now).count }
     {
         let stretch = self.stretch(job);
-        self.blocks.frames_in(stretch.first, stretch.end) as u64
+        self.blocks.frames_in(stretch.first..stretch.end) as u64
     }
 }
 
@@ -188,8 +188,8 @@ impl<'a> JobMaker for RenderingWork<'a> {
         if !last {
             return place(bench, at, bytes);
         }
-        let (first, end) = self.rendering.blocks_with(job);
-        place_marked(bench, at, bytes, first, end)
+        let blocks = self.rendering.blocks_with(job);
+        place_marked(bench, at, bytes, blocks)
     }
 
     fn lay_out<B: Bench>(&mut self, bench: &mut B) -> Result<(), OutputFault> {

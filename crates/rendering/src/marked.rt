@@ -20,6 +20,7 @@ use clipping::Clips;
 use devices::{Bench, DeviceFault, Shelf};
 use markfile::RunId;
 use std::alloc::{AllocError, Global};
+use std::ops::Range;
 
 impl<'a> Rendering<'a> {
     /// The stretch of this job.
@@ -31,14 +32,14 @@ impl<'a> Rendering<'a> {
         self.stretches[job as usize]
     }
 
-    /// The blocks of all jobs that are marked together with this one: the first, and the one behind the last.
-    pub(crate) fn blocks_with(&self, job: u32) -> (u32, u32)
+    /// The blocks of all jobs that are marked together with this one.
+    pub(crate) fn blocks_with(&self, job: u32) -> Range<u32>
         requires { job < (work_of self.now).count }
-        ensures { AreMarkedWith self.now.stretches job result.0 result.1 }
+        ensures { AreMarkedWith self.now.stretches job result.start result.end }
     {
         let first = self.stretches[job as usize].group as usize;
         let last = last_with(self.stretches.as_slice(), job as usize);
-        (self.stretches[first].first, self.stretches[last].end)
+        self.stretches[first].first..self.stretches[last].end
     }
 
     /// Makes the bytes of this job; gives what was clipped of them.
@@ -59,7 +60,7 @@ impl<'a> Rendering<'a> {
     {
         let stretch = self.stretch(job);
         self.blocks
-            .play_stretch(stretch.first, stretch.end, shelf, bytes)
+            .play_stretch(stretch.first..stretch.end, shelf, bytes)
     }
 
     /// Where a stretch begins in the rendered file.

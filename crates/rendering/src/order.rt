@@ -41,7 +41,7 @@ fn keys_of(
     for (i, stretch) in stretches.iter().enumerate() {
         if stretch.group as usize == i {
             let end = stretches[last_with(stretches, i)].end;
-            key = key_of(blocks.source_of(stretch.first, end), homes);
+            key = key_of(blocks.source_of(stretch.first..end), homes);
         }
         keys.push(key)?;
     }

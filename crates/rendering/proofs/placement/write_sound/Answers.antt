@@ -1,8 +1,7 @@
+use Rattle.std.proofs.Common.{arith}
+use Rattle.std.proofs.lemmas.Grind.{common_steps}
 use Rattle.rendering.proofs.Stretches.{written-torn}
 use Rattle.rendering.proofs.placement.write_sound.Goals as goal
 
-pub returns-in-Err-sync-clause-unsure : goal.returns-in-Err-sync-clause-unsure
-returns-in-Err-sync-clause-unsure g c honest =
-    let written = c.in-Ok.ensures.written honest in
-    rw c.in-Err-sync.ensures.only_reads.same
-    (record { here = written-torn c.args.at c.args.bytes.now _ _ written.here; others = written.others })
+pub returns-in-Err-sync-clause-writes : goal.returns-in-Err-sync-clause-writes
+returns-in-Err-sync-clause-writes g c = grind (arith, common_steps, g.met.B.Bench.only_now, written-torn)

@@ -13,8 +13,8 @@ pub returns-clause-played : goal.returns-clause-played
 returns-clause-played g c honest =
     let plan = c.self.inside.plan in
     let range = plan.range in
-    let first = c.args.first in
-    let last = c.args.end in
+    let first = c.args.blocks.start in
+    let last = c.args.blocks.end in
     let mix = heard plan c.self.inside.sounds.now (g.S.Shelf.stored c.args.shelf.now) in
     let reading = reading_by (g.S.Shelf.stored c.args.shelf.now) c.self.inside.sounds.now in
     let copied = (rw c.format-format.ensures.format at ((rw c.in-Some.is at (c.in-Ok.ensures.ran honest)) new_block))
@@ -36,7 +36,7 @@ returns-clause-clips g c honest =
     let lines = c.fill_span-frames.new.program.lines in
     let frames = rw (c.into.ensures, c.into-2.ensures) at span.frames in
     rw (← c.self.view_is) (blocks_clips range (heard plan c.self.inside.sounds.now (g.S.Shelf.stored c.args.shelf.now))
-    c.args.first c.args.end c.fill_span-frames.result
+    c.args.blocks.start c.args.blocks.end c.fill_span-frames.result
     (executed_all reading range.channels lines new_block).sums
     frames (λ i channel below few. (rw (c.into.ensures, c.into-2.ensures) at span.sums) reading
     (rw c.in-Some.is at (c.in-Ok.ensures.full honest)) new_block i channel

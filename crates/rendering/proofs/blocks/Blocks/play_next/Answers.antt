@@ -12,7 +12,7 @@ returns-clause-played g c honest =
       read.same,
       c.in_ok-played.ensures.front c.in-None.is,
       one_block work.planned.range (heard work.planned work.sounds (g.S.Shelf.stored c.args.shelf.now))
-          c.args.first (omega (arith, c.requires.inside.some, c.requires.inside.there)),
+          c.args.blocks.start (omega (arith, c.requires.inside.some, c.requires.inside.there)),
     ) at (c.in_ok-played-2.ensures.played (rw (← read.honest_same) at honest)))
 
 pub returns-clause-clips : goal.returns-clause-clips

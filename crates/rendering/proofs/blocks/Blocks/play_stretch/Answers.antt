@@ -10,9 +10,9 @@ play_next-requires g c =
     let range = c.args.self.now.planned.range in
     let k = c.loop-next.next in
     let is = c.loop-next.invariant in
-    let room = bytes_room range (frames_before range c.args.first) (frames_before range k)
-    (frames_before range (k + c.min.result)) (frames_before range c.args.end) (omega (arith, is.behind)) (omega arith)
-    (omega (arith, c.min.ensures, c.loop-next-test.true)) in
+    let room = bytes_room range (frames_before range c.args.blocks.start) (frames_before range k)
+    (frames_before range (k + c.min.result)) (frames_before range c.args.blocks.end) (omega (arith, is.behind))
+    (omega arith) (omega (arith, c.min.ensures, c.loop-next-test.true)) in
     rw is.ready (record {
       inside = record {
         some = omega (arith, c.min.ensures, is.some, c.loop-next-test.true);
@@ -25,7 +25,7 @@ pub loop-next-preserved : goal.loop-next-preserved
 loop-next-preserved g c =
     let work = c.args.self.now in
     let range = work.planned.range in
-    let first = c.args.first in
+    let first = c.args.blocks.start in
     let k = c.loop-next.next in
     let next = c.in_ok-played.played.next in
     let is = c.loop-next.invariant in
@@ -66,6 +66,12 @@ loop-next-init g c =
       sources = search rules;
       played = search rules;
       clips = λ honest. clips_none work.planned.range
-          (heard work.planned work.sounds (g.S.Shelf.stored c.args.shelf.now)) c.args.first
+          (heard work.planned work.sounds (g.S.Shelf.stored c.args.shelf.now)) c.args.blocks.start
           c.none-clips.ensures;
     }
+
+pub returns-clause-clips : goal.returns-clause-clips
+returns-clause-clips g c honest =
+    let is = c.loop-next.invariant in
+    let all : c.loop-next.next ≡ c.args.blocks.end = omega (arith, is.inside, c.loop-next-test.false) in
+    rw all at (is.clips honest)

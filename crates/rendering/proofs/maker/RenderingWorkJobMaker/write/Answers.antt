@@ -22,7 +22,7 @@ returns-clause-marks g c honest sources done right off last run =
     let made = placed_stretch now c.args.job sources c.self.invariant.0 c.self.invariant.1 below c.args.bytes.now
     (rw (← c.self.view_is) at right) in
     let with = blocks_with now c.args.job sources c.self.invariant.0 c.self.invariant.1 below
-    c.blocks_with-first.result.0 c.blocks_with-first.result.1 c.blocks_with-first.ensures in
+    c.blocks_with-blocks.result.start c.blocks_with-blocks.result.end c.blocks_with-blocks.ensures in
     c.place_marked.ensures.marks honest c.args.self.now sources done c.args.job (rw (← c.self.view_is) with)
     (rw (← c.self.view_is, c.place_at-at.ensures, c.stretch-stretch.ensures.stretch) made)
     off (sym last ∙ c.if-not-last.false) run
