@@ -60,15 +60,6 @@ module _ (a b : ℕ → ℕ → ℤ) (shift : ℕ) where
         next,
       ) refl
 
--- the frames of a mix that a block holds are those from its start on
-pub block_sums-of : (mix : ℕ → ℕ → ℤ) (channels start n : ℕ)
-    → block_sums (λ i channel. mix channel (start + i)) channels 0 n
-    ≡ block_sums (λ time channel. mix channel time) channels start n
-block_sums-of mix channels start n =
-    block_sums-alike (λ i channel. mix channel (start + i)) (λ time channel. mix channel time) start channels 0 n
-    (λ k c low high first last. refl)
-    ∙ ap (λ k. block_sums (λ time channel. mix channel time) channels k n) (omega arith)
-
 -- a sum of zero isn't clipped
 zero_at : (depth : Depth) → is_clipped (bits_of depth) (pos 0) ≡ false
 zero_at Sixteen = refl

@@ -1,9 +1,8 @@
 -- What calls leave of a store composes: nothing, and one call after another.
 use Rattle.std.proofs.Common.{◌∙◌, ℕ, Bool, IsTrue, List, refl, sym, subst, inl, inr, arith}
-use Rattle.work_terms.specs.Disk.{Files, HasRead, HasWritten, LeavesOnly}
-use Rattle.devices.specs.declared.source.Shelf as source
+use Rattle.work_terms.specs.Disk.{Files, HasWritten, LeavesOnly}
 use Rattle.devices.specs.declared.bench.Bench as output
-use Rattle.devices.specs.Views.{CrashesLeave, OutputView, Reads, SourceView, Writes, output_view, source_view}
+use Rattle.devices.specs.Views.{CrashesLeave, OutputView, Reads, SourceView, Writes, output_view}
 
 pub reads_none : (o : SourceView) → Reads o o
 reads_none o = record { same = refl; same_honest = refl; later = omega arith; keeps = λ n f. f }
@@ -73,12 +72,6 @@ crashes_weaker P Q so one = record {
 }
 
 -- what one call tells of its store, as of the store's views
-pub reads_of : {S : Type 0} (g : source.Ghosts S) {old new : S} {quiet device failed : Type 0}
-    → HasRead g.stored g.honest g.failures g.failed_at old new quiet device failed
-    → Reads (source_view g old) (source_view g new)
-reads_of g call =
-    record { same = call.same; same_honest = call.honest_same; later = call.cause.later; keeps = call.keeps }
-
 pub writes_of : {B : Type 0} (g : output.Ghosts B) {stays : List ℕ → Type 0} {old new : B}
     {quiet device failed : Type 0}
     → HasWritten g.stored g.honest g.failures g.failed_at g.may_leave stays old new quiet device failed

@@ -1,5 +1,5 @@
 -- Workers at a board: each event is one step of the board, of one worker's hand and of the files.
-use Rattle.std.specs.Prelude.{◌≡◌, ◌≢◌, ℕ, zero, suc, ◌+◌, ◌<◌, ◌≤◌, Bool, true, false, IsTrue, cond, ◌==◌, MatchBool, Option, Some, None, is_none, List, [], ◌∷◌, length, slice_index_or}
+use Rattle.std.specs.Prelude.{◌≡◌, ◌≢◌, ℕ, zero, suc, ◌+◌, ◌<◌, Bool, true, false, IsTrue, cond, ◌==◌, MatchBool, Option, Some, None, is_none, List, [], ◌∷◌, length}
 use Rattle.work_terms.specs.Disk.{Files, IsRange, IsWritten, IsTorn, Rises}
 use Rattle.job_terms.specs.declared.Ticket.{Ticket}
 use Rattle.job_terms.specs.declared.BoardEvent.{BoardEvent}
@@ -156,8 +156,3 @@ rounds (suc n) = Give 1 ∷ (Work 1 ∷ (Deliver 1 ∷ rounds n))
 abbrev pub DonePlaces : Jobs → State → Type 0
 DonePlaces jobs state = (k : ℕ) → k < jobs.count → is_done (job_at state.board k).standing ≡ true
     → IsRange (state.files (jobs.name k)) (jobs.at k) (jobs.bytes k)
-
--- what was made are the job's bytes
-abbrev pub HandsRight : Jobs → (ℕ → Hand) → Type 0
-HandsRight jobs hands = (w : ℕ) (ticket : Ticket) (bytes : List ℕ) → hands w ≡ Made ticket bytes
-    → bytes ≡ jobs.bytes ticket.job

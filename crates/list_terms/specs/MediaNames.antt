@@ -74,10 +74,6 @@ other_media_name m n few many other = by_test (bytes_eq (media_name m) (media_na
       absurd (other (media_name-injective m n few many ((bytes_eq-Decides (media_name m) (media_name n)).0 same)))
   by_test false same = refl
 
--- none is that of the list
-pub media_name-no_list : (n : ℕ) → n < 100000 → media_name n ≢ codes "consolidated.adl"
-media_name-no_list n few same = let e : name_of n ≡ codes "consolidated.adl" = sym (media_name-five n few) ∙ same in cc
-
 -- ---- their URLs
 
 -- a byte that stands for itself in a path

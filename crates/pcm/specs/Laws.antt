@@ -1,5 +1,5 @@
 -- What is known of samples as bytes, for whoever reads or writes them.
-use Rattle.std.proofs.Common.{◌≡◌, ℕ, zero, suc, ◌+◌, ◌-◌, ◌*◌, ◌/◌, ◌%◌, ◌^◌, ◌<◌, ◌≤◌, List, [], ◌∷◌, ◌++◌, length, take, drop, get_or, slice_index, refl, sym, ap, ◌∙◌, add-one, arith}
+use Rattle.std.proofs.Common.{◌≡◌, ℕ, zero, suc, ◌+◌, ◌-◌, ◌*◌, ◌/◌, ◌%◌, ◌^◌, ◌<◌, ◌≤◌, List, [], ◌∷◌, ◌++◌, length, take, drop, get_or, slice_index, refl, ap, ◌∙◌, add-one, arith}
 use Rattle.std.specs.Prelude.{ℤ, pos, negsuc, ◌+ℤ◌}
 use Rattle.std.specs.Int.{saturate_to_bits, w32}
 use Rattle.std.specs.List.{All, flat_map}
@@ -76,25 +76,6 @@ pub get_or-samples_in_frames : (depth n frame channel channels place : ℕ) (fil
     ≡ sample_at file place channels depth frame channel
 get_or-samples_in_frames depth n frame channel channels place file bytes d stretch below =
     get_or-samples_in_file depth n (frame * channels + (channel - 1)) place file bytes d stretch below
-
--- the same, of a file with one channel
-pub get_or-samples_in_mono : (depth n frame place : ℕ) (file bytes : List ℕ) (d : ℤ)
-    → bytes ≡ take (n * (depth / 8)) (drop place file) → frame < n
-    → get_or (samples_in depth n bytes) frame d ≡ sample_at file place 1 depth frame 1
-get_or-samples_in_mono depth n frame place file bytes d stretch below =
-    let same : frame ≡ frame * 1 + (1 - 1) = omega arith in
-    get_or-samples_in_file depth n frame place file bytes d stretch below
-    ∙ ap (λ k. sample_of depth (drop (place + k * (depth / 8)) file)) same
-
--- the same, where the stretch begins at a later frame
-pub get_or-samples_in_mono_from : (depth n from frame place : ℕ) (file bytes : List ℕ) (d : ℤ)
-    → bytes ≡ take (n * (depth / 8)) (drop (place + from * (depth / 8)) file) → frame < n
-    → get_or (samples_in depth n bytes) frame d ≡ sample_at file place 1 depth (from + frame) 1
-get_or-samples_in_mono_from depth n from frame place file bytes d stretch below =
-    let same : place + from * (depth / 8) + frame * (depth / 8) ≡ place + ((from + frame) * 1 + (1 - 1)) * (depth / 8) =
-    omega arith in
-    get_or-samples_in_file depth n frame (place + from * (depth / 8)) file bytes d stretch below
-    ∙ ap (λ k. sample_of depth (drop k file)) same
 
 -- ---- samples added to sums
 
@@ -281,20 +262,3 @@ samples_again depth (sample ∷ samples) rest fit =
     drop_at first others (bits / 8) (length-sample_bytes bits sample) in
     rw (join, sample_of-sample_bytes depth sample others (fit 0 sample (omega arith)), past)
     (ap (λ (l : List ℤ). sample ∷ l) (samples_again depth samples rest (λ k d below. fit (suc k) d (omega arith))))
-
--- the sample at a place of bytes that were written, between others
-pub sample_of-written : (depth : Depth) (samples : List ℤ) (front rest : List ℕ) (i : ℕ) (d : ℤ)
-    → All (FitsDepth (bits_of depth)) samples
-    → i < length samples
-    → sample_of (bits_of depth) (drop (length front + i * (bits_of depth / 8))
-    (front ++ (flat_map (sample_bytes (bits_of depth)) samples ++ rest)))
-    ≡ get_or samples i d
-sample_of-written depth samples front rest i d fit below =
-    let bits = bits_of depth in
-    let written = flat_map (sample_bytes bits) samples ++ rest in
-    let place : drop (length front + i * (bits / 8)) (front ++ written) ≡ drop (i * (bits / 8)) written =
-    sym (drop-drop (i * (bits / 8)) (length front) (front ++ written))
-    ∙ ap (drop (i * (bits / 8))) (drop_at front written (length front) refl) in
-    ap (sample_of bits) place
-    ∙ sym (get_or-samples_in bits (length samples) i written d below)
-    ∙ ap (λ (l : List ℤ). get_or l i d) (samples_again depth samples rest fit)
