@@ -76,6 +76,18 @@ impl Intervals {
         count
     }
 
+    /// All pieces of its groups, one group after the other.
+    pub fn pieces(&self) -> Result<Vec<Piece>, AllocError>
+        ensures all { IfOk result (λ pieces. pieces.items ≡ pieces_of self.now) }
+        ensures sound { IfOk result (λ pieces. All IsPiece pieces.items) }
+    {
+        let mut pieces = Vec::with_capacity(self.allocator(), self.piece_count())?;
+        for group in self.groups() {
+            pieces.extend_from_slice(group.pieces().as_slice())?;
+        }
+        Ok(pieces)
+    }
+
     /// Hands its groups out.
     pub fn into_groups(self) -> Vec<Group>
         ensures handed_out { result.items ≡ self }

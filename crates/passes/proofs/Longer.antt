@@ -1,14 +1,12 @@
 -- What a flat piece that is longer adds and reads.
 use Rattle.std.proofs.Common.{◌≡◌, ℕ, ◌+◌, ◌-◌, ◌<◌, ◌≤◌, Bool, true, false, List, [], ◌∷◌, refl, sym, arith}
-use Rattle.std.specs.Prelude.{ℤ, pos, ◌+ℤ◌, ◌&&◌, ◌||◌, ◌==◌, nat_le, nat_lt, None, Some, if◌then◌else◌}
+use Rattle.std.specs.Prelude.{ℤ, pos, ◌+ℤ◌, ◌&&◌, ◌||◌, ◌==◌, nat_le, nat_lt}
 use Rattle.std.specs.List.{list_all, list_any}
 use Rattle.std.proofs.lemmas.Int.{ints}
 use Rattle.facts.specs.Stretches.{either_joined, sums_joined}
 use Rattle.sound_terms.specs.declared.piece.Piece.{Piece}
-use Rattle.sound_terms.specs.declared.piece.Shape.{Shape}
-use Rattle.sound_terms.specs.declared.piece.Shape.TheVariants.{Flat, Rise, Fall}
 use Rattle.sound_terms.specs.Mix.{Reading, share_of}
-use Rattle.sound_terms.specs.Groups.{IsPiece, continues, is_read, is_whole, part_of, sum_of}
+use Rattle.sound_terms.specs.Groups.{is_read, is_whole, part_of, sum_of}
 use Rattle.sound_terms.specs.LongerLaws.{BothFlat, by_longer, longer}
 use Rattle.sound_terms.specs.Passes.{lengthened}
 use Rattle.passes.proofs.Totals.{Joins}

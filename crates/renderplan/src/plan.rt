@@ -51,18 +51,6 @@ impl Model for Plan {
     }) };
 }
 
-/// All pieces of the groups, one group after the other.
-fn pieces_of(alloc: Global, intervals: &Intervals) -> Result<Vec<Piece>, AllocError>
-    ensures all { IfOk result (λ pieces. pieces.items ≡ spec.pieces_of intervals.now) }
-    ensures sound { IfOk result (λ pieces. All IsPiece pieces.items) }
-{
-    let mut pieces = Vec::with_capacity(alloc, intervals.piece_count())?;
-    for group in intervals.groups() {
-        pieces.extend_from_slice(group.pieces().as_slice())?;
-    }
-    Ok(pieces)
-}
-
 impl Plan {
     /// A rendering of groups from one time up to, and without, another, on 1 to 64 channels. No sample may be held by
     /// more than 32,767 pieces. `EmptyRange` where `to` isn't behind `from`.
@@ -86,7 +74,7 @@ impl Plan {
         if to.get() <= from.get() {
             return Err(PlanFault::EmptyRange);
         }
-        let pieces = Reached::new(alloc, pieces_of(alloc, &intervals)?)?;
+        let pieces = Reached::new(alloc, intervals.pieces()?)?;
         Ok(Plan {
             pieces,
             from,

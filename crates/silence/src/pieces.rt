@@ -1,21 +1,9 @@
 // Pieces in the order in which their files are read.
 ghost use Rattle.std.specs.Prelude.{◌≡◌, ℕ, ◌<◌, length, IfOk};
 ghost use Rattle.std.specs.List.{All, Contains};
-ghost use Rattle.sound_terms.specs.Groups as spec;
 
-use groups::{Intervals, Piece};
+use groups::Piece;
 use std::alloc::{AllocError, Global};
-
-/// The pieces of all groups, in order.
-pub fn pieces_of(alloc: Global, intervals: &Intervals) -> Result<Vec<Piece>, AllocError>
-    ensures { IfOk result (λ pieces. pieces.items ≡ spec.pieces_of intervals.now) }
-{
-    let mut pieces = Vec::with_capacity(alloc, intervals.piece_count())?;
-    for group in intervals.groups() {
-        pieces.extend_from_slice(group.pieces().as_slice())?;
-    }
-    Ok(pieces)
-}
 
 /// So many places, from 0 on.
 fn places(alloc: Global, count: usize) -> Result<Vec<usize>, AllocError>

@@ -9,7 +9,7 @@ ghost use Rattle.passes.specs.Silent.{IsDevice, silences_of};
 ghost use Rattle.devices.specs.Frame.{OnlyReads};
 ghost use Rattle.silence.specs.Fault.{FailsAt};
 
-use crate::pieces::{pieces_of, reading_order};
+use crate::pieces::reading_order;
 use crate::progress::Looking;
 use crate::search::Search;
 use devices::{Shelf, Watch};
@@ -72,8 +72,7 @@ pub fn silent_of<S: Shelf, W: Watch>(
         Agrees (reading_by (S.stored shelf.old) sounds.now) (groups.pieces_of intervals.now) silent.items) }
     ensures only_reads { OnlyReads S.Shelf shelf.old shelf.new result IsDevice (FailsAt sounds.now) }
 {
-    let _ = intervals.groups();
-    let pieces = pieces_of(alloc, intervals)?;
+    let pieces = intervals.pieces()?;
     let order = reading_order(alloc, pieces.as_slice())?;
     let silent = asked_in_order(
         alloc,

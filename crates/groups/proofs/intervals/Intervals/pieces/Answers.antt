@@ -3,7 +3,7 @@ use Rattle.std.specs.List.{All}
 use Rattle.std.proofs.lemmas.List.Elements.{All-take}
 use Rattle.sound_terms.specs.Groups.{IsPiece}
 use Rattle.sound_terms.specs.GroupLaws.{all_pieces}
-use Rattle.renderplan.proofs.plan.pieces_of.Goals as goal
+use Rattle.groups.proofs.intervals.Intervals.pieces.Goals as goal
 
 pub returns-clause-sound : goal.returns-clause-sound
 returns-clause-sound c =
