@@ -51,13 +51,22 @@ where
         return None;
     }
     let head = header(rt.alloc(), &info).ok()?;
-    let samples = data_length(&info);
+    position_around(rt, out, &head, data_length(&info))
+}
+
+/// The first byte of a rendered file that differs before or after so many bytes of samples: from this head, or from the
+/// zero that pads them. `None` where the file hasn't the length that this makes.
+fn position_around<R>(rt: &R, out: &str, head: &[u8], samples: u64) -> Option<u64>
+where
+    R: Files + AllocGlobal,
+    R::File: FileExt,
+{
     let end = (head.len() as u64).checked_add(samples)?;
     let (file, length) = open_output(rt, out, SOUND)?;
     if length != end.checked_add(samples % 2)? {
         return None;
     }
-    if let Some(position) = first_difference(rt.alloc(), &file, &head) {
+    if let Some(position) = first_difference(rt.alloc(), &file, head) {
         return Some(position);
     }
     if samples % 2 == 1 && byte_at(&file, end)? != 0 {

@@ -80,15 +80,27 @@ where
     let marked = Moment::of(rt, places.out, MARKS)?;
     let project = adlread::read(rt.alloc(), list).ok()?;
     let names = names_of(rt.alloc(), &project).ok()?;
+    newer_of(rt, places.media, &names, &marked).ok()
+}
+
+/// Those of these names whose file in a folder was written to later than at this moment.
+fn newer_of<R>(
+    rt: &R,
+    folder: &str,
+    names: &[String],
+    marked: &Moment,
+) -> Result<Vec<String>, AllocError>
+where
+    R: Files + AllocGlobal,
+{
     let mut newer = Vec::new(rt.alloc());
-    for name in &names {
-        if is_newer(rt, places.media, name.as_str(), &marked) {
-            newer
-                .push(String::from_str(rt.alloc(), name.as_str()).ok()?)
-                .ok()?;
+    for name in names {
+        let name = name.as_str();
+        if is_newer(rt, folder, name, marked) {
+            newer.push(String::from_str(rt.alloc(), name)?)?;
         }
     }
-    Some(newer)
+    Ok(newer)
 }
 
 /// Whether the file of this name in a folder was written to later than at this moment.

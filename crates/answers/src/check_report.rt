@@ -7,7 +7,7 @@ ghost use Rattle.answers.specs.Terminals.{GivesBack};
 use crate::asides::Asides;
 use crate::explainer::Explainer;
 use crate::meter::Meter;
-use crate::refusal::look_at;
+use crate::refusal::tell_explanation;
 use crate::report::tell_changed;
 use crate::terminal::Terminal;
 use checkreport::{put_accepted, put_refused};
@@ -15,7 +15,7 @@ use console::Console;
 use consolidate::Fault;
 use explanations::Explanation;
 use opening::open_project;
-use shelf::{Reasons, Shelf};
+use shelf::{Reason, Reasons, Shelf};
 use std::alloc::Global;
 
 /// Checks the list, and prints all that came of it as JSON on standard output, by the form of `docs/REPORT.md`; where
@@ -45,11 +45,23 @@ pub fn answer_report<S: Shelf + Reasons, O: Console, E: Console, M: Meter, A: As
         Err(fault) => {
             let mut explainer = Explainer::new(alloc, list, &terminal.asides);
             let status = put_refused(alloc, list, shelf, &fault, &mut explainer, terminal.out);
-            let fault = Fault::Project(fault);
-            let look = look_at(alloc, list, &fault, &terminal.asides);
-            let explanation = Explanation::of(&fault, list, shelf.reason(), None).with_look(&look);
-            terminal.err.print_line(explanation);
+            let (asides, reason) = (&terminal.asides, shelf.reason());
+            explain_refused(alloc, list, fault, reason, asides, terminal.err);
             status
         }
     }
+}
+
+/// Explains why the list is refused.
+fn explain_refused<E: Console, A: Asides>(
+    alloc: Global,
+    list: &[u8],
+    fault: opening::Fault,
+    reason: Option<Reason>,
+    asides: &A,
+    err: &mut E,
+) {
+    let fault = Fault::Project(fault);
+    let explanation = Explanation::of(&fault, list, reason, None);
+    tell_explanation(alloc, list, &fault, explanation, asides, err);
 }

@@ -73,7 +73,7 @@ fn put_line<O: Console>(fault: &Fault, out: &mut O)
 }
 
 /// Prints the explanation of a refusal, with what a second look at the media finds.
-fn tell_explanation<E: Console, A: Asides>(
+pub fn tell_explanation<E: Console, A: Asides>(
     alloc: Global,
     list: &[u8],
     fault: &Fault,
@@ -95,7 +95,7 @@ pub fn given_up_at<S: Reasons>(alloc: Global, fault: &Fault, store: &S) -> Optio
 }
 
 /// What a second look at the media finds about a fault of a command over this list.
-pub fn look_at<A: Asides>(alloc: Global, list: &[u8], fault: &Fault, asides: &A) -> Look {
+fn look_at<A: Asides>(alloc: Global, list: &[u8], fault: &Fault, asides: &A) -> Look {
     match fault {
         Fault::Project(fault) => look_at_project(alloc, list, fault, asides),
         _ => Look::nothing(),
