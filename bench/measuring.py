@@ -13,8 +13,8 @@ from pathlib import Path
 from typing import Callable, Iterable, NamedTuple, Optional
 
 TOP = Path(__file__).resolve().parent.parent
-MOST_RUNS = 3
-LONG_ENOUGH = 3
+MOST_RUNS = 5
+LONG_ENOUGH = 8
 MANY_FILES = 100
 SPOTS = 1000
 FULL_DEPTH = 48
@@ -30,10 +30,12 @@ class Cost(NamedTuple):
 
 
 class Job(NamedTuple):
-    """The words of a command, how to look at what it wrote, and the status it has to end with."""
+    """The words of a command, how to look at what it wrote, the status it has to end with, and what is put into the
+    folder of its output before."""
     words: list
     look: Optional[Callable] = None
     status: int = 0
+    prepare: Optional[Callable] = None
 
 
 class Bench(NamedTuple):
@@ -84,8 +86,11 @@ class Bench(NamedTuple):
         }
 
     def cost_of(self, job: Job) -> Cost:
-        """Runs a job once into an empty folder, with nothing of before still on its way to the disk."""
+        """Runs a job once into an empty folder, or one that it prepares, with nothing of before still on its way to the
+        disk."""
         self.empty_out()
+        if job.prepare:
+            job.prepare(self.out())
         os.sync()
         peak = self.folder / "peak"
         used = resource.getrusage(resource.RUSAGE_CHILDREN)
@@ -131,6 +136,11 @@ def job_copier(folder: Path) -> Path:
 def copy_of(source: Path, target: Path) -> Job:
     """cp, and a sync of the copy."""
     return Job(["sh", "-c", 'cp "$0" "$1" && sync "$1"', source, target])
+
+
+def copies_of(sources: Iterable, folder: Path) -> Job:
+    """cp of several files, each followed by a sync of its copy."""
+    return Job(["sh", "-c", 'for one; do cp "$one" "$0" && sync "$0/${one##*/}"; done', folder, *sources])
 
 
 # Lists

@@ -1,13 +1,15 @@
 """Rendering beside `cp`, `sox` and `ffmpeg`: 30 minutes, stereo, 24 bits."""
 
 import filecmp
+import shutil
 import sys
 from pathlib import Path
 from typing import NamedTuple, Optional
 
+from copying import look_at_media
 from measuring import (
-    HEAD, Bench, Cut, Job, block_of, copy_of, expect_about, expect_data, expect_mix, expect_size, job_copier, line,
-    list_text, make_sound, table,
+    HEAD, Bench, Cut, Job, block_of, copies_of, copy_of, expect_about, expect_data, expect_mix, expect_size, job_copier,
+    line, list_text, make_sound, table,
 )
 
 SECOND = 48_000
@@ -22,6 +24,7 @@ PIECES = tuple(f"P{place:02d}.wav" for place in range(JOINED))
 CUTS = 1000
 MANY = 32_767
 SHORT = 125
+MARKS_HEAD = 44
 MEBIBYTE = 1 << 20
 
 # Copies by a C program: the bytes of a job, and how many are read and written at once; 0 where a job is read whole.
@@ -161,6 +164,50 @@ def copied_in_jobs(bench: Bench, source: Path) -> list:
     return [line(name, costs[name], (costs["cp"], None, None)) for name in COPIES]
 
 
+def consolidated(bench: Bench, source: Path, block: bytes) -> list:
+    """Consolidations of ten files, which become ten media, and of a thousand cuts, which keep all of one."""
+    parts = {f"M{place + 1:05d}.wav": (block, SECONDS // JOINED) for place in range(JOINED)}
+    kinds = {
+        "ten files joined": look_at_media(parts),
+        "a thousand cuts": look_at_media({"M00001.wav": (block, SECONDS)}),
+    }
+    rows = []
+    for name, look in kinds.items():
+        mix = MIXES[name]
+        text = bench.put(list_text(mix.cuts, mix.names, channels="1~2"))
+        costs = bench.costs_of({
+            "cp": copy_of(source, bench.out() / "copy.wav"),
+            "copies": copies_of((source.parent / piece for piece in mix.names), bench.out()),
+            "consolidate": Job(bench.words("consolidate", text), look),
+        })
+        rows.append(line(f"`consolidate` of {name}", costs["consolidate"], (costs["cp"], None, None)))
+        if len(mix.names) > 1:
+            rows.append(line("`cp` of these files, each with its sync", costs["copies"], (costs["cp"], None, None)))
+    return rows
+
+
+def resumed(bench: Bench, source: Path, block: bytes) -> str:
+    """A rendering of which half of the blocks are marked, beside a whole one."""
+    jobs = jobs_of(bench, MIXES["one file straight through"], source, block)
+    whole = jobs["render"]
+    bench.cost_of(whole)
+    kept = bench.out().rename(bench.folder / "half")
+    marks = kept / "render.marks"
+    marked = bytearray(marks.read_bytes())
+    middle = (MARKS_HEAD + len(marked)) // 2
+    marked[middle:] = bytes(len(marked) - middle)
+    marks.write_bytes(marked)
+
+    def prepare(out: Path) -> None:
+        for path in kept.iterdir():
+            shutil.copy(path, out)
+
+    half = Job([whole.words[0], "resume", *whole.words[2:]], whole.look, prepare=prepare)
+    costs = bench.costs_of({"cp": jobs["cp"], "whole": whole, "half": half})
+    part = costs["half"].seconds / costs["whole"].seconds
+    return line(f"`resume` where half is marked: {part:.2f} of a whole one", costs["half"], (costs["cp"], None, None))
+
+
 def make_half_hour(bench: Bench) -> tuple:
     """30 minutes, and the second that they repeat; and the same in ten files."""
     block = block_of(SECOND, 2, 24)
@@ -179,4 +226,6 @@ def lines(bench: Bench) -> list:
     for name, mix in MIXES.items():
         costs = bench.costs_of(jobs_of(bench, mix, source, block))
         rows.append(line(name, costs["render"], (costs["cp"], costs.get("sox"), costs.get("ffmpeg"))))
-    return [*rows, *copied_in_jobs(bench, source), many_entries(bench)]
+    rows += copied_in_jobs(bench, source)
+    rows += consolidated(bench, source, block)
+    return [*rows, resumed(bench, source, block), many_entries(bench)]
