@@ -175,13 +175,15 @@ def consolidated(bench: Bench, source: Path, block: bytes) -> list:
     for name, look in kinds.items():
         mix = MIXES[name]
         text = bench.put(list_text(mix.cuts, mix.names, channels="1~2"))
-        costs = bench.costs_of({
+        jobs = {
             "cp": copy_of(source, bench.out() / "copy.wav"),
-            "copies": copies_of((source.parent / piece for piece in mix.names), bench.out()),
             "consolidate": Job(bench.words("consolidate", text), look),
-        })
-        rows.append(line(f"`consolidate` of {name}", costs["consolidate"], (costs["cp"], None, None)))
+        }
         if len(mix.names) > 1:
+            jobs["copies"] = copies_of((source.parent / piece for piece in mix.names), bench.out())
+        costs = bench.costs_of(jobs)
+        rows.append(line(f"`consolidate` of {name}", costs["consolidate"], (costs["cp"], None, None)))
+        if "copies" in costs:
             rows.append(line("`cp` of these files, each with its sync", costs["copies"], (costs["cp"], None, None)))
     return rows
 
@@ -204,6 +206,7 @@ def resumed(bench: Bench, source: Path, block: bytes) -> str:
 
     half = Job([whole.words[0], "resume", *whole.words[2:]], whole.look, prepare=prepare)
     costs = bench.costs_of({"cp": jobs["cp"], "whole": whole, "half": half})
+    shutil.rmtree(kept)
     part = costs["half"].seconds / costs["whole"].seconds
     return line(f"`resume` where half is marked: {part:.2f} of a whole one", costs["half"], (costs["cp"], None, None))
 
