@@ -4,7 +4,6 @@ pub mod CutPieces
 pub mod SameMix
 pub mod OneSide
 pub mod SameReads
-pub mod GroupLength
 pub mod EntryMix
 pub mod Packing
 pub mod Three

@@ -8,7 +8,7 @@ use Rattle.sound_terms.specs.declared.piece.Shape.{Shape}
 use Rattle.sound_terms.specs.declared.piece.Shape.TheVariants.{Flat, Rise, Fall}
 use Rattle.sound_terms.specs.Groups.{rank_of}
 use Rattle.sound_terms.specs.Passes.{is_followed_by}
-use Rattle.groups.specs.Packed.{part_in, piece_in, pieces_in}
+use Rattle.groups.specs.Packed.{fall_in, flat_in, part_in, piece_in, pieces_in, rise_in}
 use Rattle.groups.specs.declared.packed.Packed.{Packed}
 
 -- a group that goes on where a piece ends: this is no fall, and the group has no rise, and no flat part behind another
@@ -82,16 +82,6 @@ record Follows (group later : Packed) : Type 0 where
   pub no_fall : group.fall.length ≡ 0
   pub no_rise : later.rise.length ≡ 0
   pub one_middle : 0 < group.middle → later.middle ≡ 0
-
-abbrev rise_in : Packed → Piece
-rise_in group = piece_in group 0 group.rise.length (Rise group.rise.offset group.rise.den)
-
-abbrev flat_in : Packed → Piece
-flat_in group = piece_in group group.rise.length group.middle Flat
-
-abbrev fall_in : Packed → Piece
-fall_in group =
-    piece_in group (group.rise.length + group.middle) group.fall.length (Fall group.fall.offset group.fall.den)
 
 from_last : (group later : Packed) (at length : ℕ) (shape : Shape) → at + length ≡ group.rise.length + group.middle
     → group.fall.length ≡ 0 → (0 < group.middle → 1 ≤ rank_of shape) → GoesOn (piece_in group at length shape) later

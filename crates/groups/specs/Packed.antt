@@ -18,6 +18,17 @@ piece_in group at n shape = record {
   shape = shape;
 }
 
+-- its rise, its flat part and its fall, each of which may have no sample
+abbrev pub rise_in : Packed → Piece
+rise_in group = piece_in group 0 group.rise.length (Rise group.rise.offset group.rise.den)
+
+abbrev pub flat_in : Packed → Piece
+flat_in group = piece_in group group.rise.length group.middle Flat
+
+abbrev pub fall_in : Packed → Piece
+fall_in group =
+    piece_in group (group.rise.length + group.middle) group.fall.length (Fall group.fall.offset group.fall.den)
+
 -- none where n is 0
 abbrev pub part_in : Packed → (at n : ℕ) → Shape → List Piece
 part_in group at n shape = if nat_lt 0 n then piece_in group at n shape ∷ [] else []

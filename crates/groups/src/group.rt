@@ -1,13 +1,14 @@
 // Pieces that continue one another.
-ghost use Rattle.std.specs.Prelude.{◌≡◌, ◌≢◌, MatchOption, IfSome, ◌++◌, ◌∷◌, [], IsTrue, IsSome, Some};
+ghost use Rattle.std.specs.Prelude.{◌≡◌, ◌≢◌, MatchOption, IfSome, ◌-◌, ◌++◌, ◌∷◌, [], IsTrue, IsSome, Some, length, slice_get};
 ghost use Rattle.std.specs.List.{All};
+ghost use Rattle.sound_terms.specs.Entries.{event_of};
 ghost use Rattle.sound_terms.specs.Groups.{IsGroup, IsPiece, start_of};
 ghost use Rattle.sound_terms.specs.Passes.{is_followed_by, lengthened};
 ghost use Rattle.groups.specs.Packed.{pieces_in};
 
 use crate::packed::Packed;
 use smallvec::SmallVec;
-use sound_terms::Piece;
+use sound_terms::{Piece, Placed};
 use std::alloc::Global;
 use std::marker::Model;
 
@@ -75,12 +76,45 @@ impl Group {
     }
 
     /// Its pieces, in order.
+    #[inline(always)]
     pub fn pieces(&self) -> Pieces
         ensures pieces { result.items ≡ self.now }
         ensures group { IsGroup self.now }
         ensures sound { All IsPiece self.now }
     {
-        self.packed.pieces(self.alloc)
+        let mut pieces = SmallVec::new(self.alloc);
+        self.packed.push_pieces(&mut pieces);
+        pieces
+    }
+
+    /// How many pieces it has.
+    pub fn len(&self) -> usize
+        ensures { result ≡ length self.now }
+    {
+        self.packed.len()
+    }
+
+    /// Its first piece.
+    pub fn first(&self) -> Piece
+        ensures piece { slice_get self.now 0 ≡ Some result }
+        ensures sound { All IsPiece self.now }
+    {
+        self.packed.first()
+    }
+
+    /// Its last piece.
+    pub fn last(&self) -> Piece
+        ensures piece { slice_get self.now (length self.now - 1) ≡ Some result }
+        ensures sound { All IsPiece self.now }
+    {
+        self.packed.last()
+    }
+
+    /// Its event.
+    pub(crate) fn placed(&self) -> Placed
+        ensures { event_of self.now ≡ result ∷ [] }
+    {
+        self.packed.placed()
     }
 
     /// The time at which it begins, in samples.

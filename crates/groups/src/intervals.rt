@@ -71,7 +71,7 @@ impl Intervals {
     {
         let mut count: usize = 0;
         for group in self.groups() {
-            count = count.saturating_add(group.pieces().len());
+            count = count.saturating_add(group.len());
         }
         count
     }

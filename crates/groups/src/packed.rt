@@ -1,14 +1,12 @@
 // The pieces of a group in one record.
-ghost use Rattle.std.specs.Prelude.{◌≡◌, ◌≢◌, ◌≤◌, ◌<◌, ◌+◌, ◌^◌, ◌++◌, ◌∷◌, ◌↔◌, [], IfSome, IsSome, IsTrue, MatchOption, Some};
+ghost use Rattle.std.specs.Prelude.{◌≡◌, ◌≢◌, ◌≤◌, ◌<◌, ◌-◌, ◌^◌, ◌++◌, ◌∷◌, ◌↔◌, [], IfSome, IsSome, IsTrue, MatchOption, Some, length, slice_get};
 ghost use Rattle.std.specs.List.{All};
-ghost use Rattle.smallvec.specs.SmallVec.{small_vec_len};
+ghost use Rattle.sound_terms.specs.Entries.{event_of};
 ghost use Rattle.sound_terms.specs.Groups.{IsGroup, IsPiece, start_of};
 ghost use Rattle.sound_terms.specs.Passes.{is_followed_by, lengthened};
-ghost use Rattle.groups.specs.Packed.{part_in, pieces_in};
+ghost use Rattle.groups.specs.Packed.{fall_in, flat_in, piece_in, pieces_in, rise_in};
 
-use crate::{Piece, Pieces, Shape};
-use smallvec::SmallVec;
-use std::alloc::Global;
+use crate::{Piece, Pieces, Placed, Shape};
 
 /// A ramp of a group, in samples: `length` of them, from sample `offset` on of the `den` that it had as a whole. Where
 /// the group has no such ramp its length is 0.
@@ -121,6 +119,15 @@ impl Packed {
         self.rise.length == 0 && self.middle == 0 && self.fall.length == 0
     }
 
+    /// How many pieces it has.
+    pub fn len(&self) -> usize
+        ensures { result ≡ length (pieces_in self.now) }
+    {
+        usize::from(self.rise.length > 0)
+            + usize::from(self.middle > 0)
+            + usize::from(self.fall.length > 0)
+    }
+
     /// Its one flat piece, longer by a flat one that it goes on with.
     pub fn lengthened(self, later: &Piece) -> Self
         requires joins { IsSome (lengthened later.now (pieces_in self)) }
@@ -133,47 +140,121 @@ impl Packed {
         }
     }
 
-    /// Adds the part of so many samples, from its sample `at` on, in this shape, where it has any.
-    fn push_part(&self, pieces: &mut Pieces, at: u64, length: u32, shape: Shape)
-        requires at { at < 2 ^ 63 }
-        requires room { small_vec_len pieces.old + 1 ≤ pieces.old.capacity }
-        ensures items { pieces.new.items ≡ pieces.old.items ++ part_in self.now at length shape }
-        ensures few { small_vec_len pieces.new ≤ small_vec_len pieces.old + 1 }
-        ensures capacity { pieces.new.capacity ≡ pieces.old.capacity }
+    /// The part of so many samples, from its sample `at` on, in this shape.
+    #[inline(always)]
+    fn part(&self, at: u64, length: u32, shape: Shape) -> Piece
+        requires { at < 2 ^ 63 }
+        ensures { result ≡ piece_in self.now at length shape }
     {
-        if length > 0 {
-            pieces.push_reserved(Piece {
-                start: u64::from(self.start) + at,
-                length: u64::from(length),
-                frame: u64::from(self.frame) + at,
-                file: self.file,
-                first: self.first,
-                dest: self.dest,
-                width: self.width,
-                shape,
-            });
+        Piece {
+            start: u64::from(self.start) + at,
+            length: u64::from(length),
+            frame: u64::from(self.frame) + at,
+            file: self.file,
+            first: self.first,
+            dest: self.dest,
+            width: self.width,
+            shape,
         }
     }
 
-    /// Its pieces, in order. They take no memory of their own.
-    pub fn pieces(&self, alloc: Global) -> Pieces
-        ensures { result.items ≡ pieces_in self.now }
+    /// Its rise.
+    #[inline(always)]
+    fn rising(&self) -> Piece
+        ensures { result ≡ rise_in self.now }
     {
-        let mut pieces = SmallVec::new(alloc);
-        let rise = u64::from(self.rise.length);
-        let middle = u64::from(self.middle);
-        let rising = Shape::Rise {
+        let shape = Shape::Rise {
             offset: u64::from(self.rise.offset),
             den: u64::from(self.rise.den),
         };
-        let falling = Shape::Fall {
+        self.part(0, self.rise.length, shape)
+    }
+
+    /// Its flat part.
+    #[inline(always)]
+    fn flat(&self) -> Piece
+        ensures { result ≡ flat_in self.now }
+    {
+        self.part(u64::from(self.rise.length), self.middle, Shape::Flat)
+    }
+
+    /// Its fall.
+    #[inline(always)]
+    fn falling(&self) -> Piece
+        ensures { result ≡ fall_in self.now }
+    {
+        let shape = Shape::Fall {
             offset: u64::from(self.fall.offset),
             den: u64::from(self.fall.den),
         };
-        self.push_part(&mut pieces, 0, self.rise.length, rising);
-        self.push_part(&mut pieces, rise, self.middle, Shape::Flat);
-        self.push_part(&mut pieces, rise + middle, self.fall.length, falling);
-        pieces
+        let at = u64::from(self.rise.length) + u64::from(self.middle);
+        self.part(at, self.fall.length, shape)
+    }
+
+    /// Its first piece.
+    pub fn first(&self) -> Piece
+        requires { pieces_in self.now ≢ [] }
+        ensures { slice_get (pieces_in self.now) 0 ≡ Some result }
+    {
+        if self.rise.length > 0 {
+            self.rising()
+        } else if self.middle > 0 {
+            self.flat()
+        } else {
+            self.falling()
+        }
+    }
+
+    /// Its last piece.
+    pub fn last(&self) -> Piece
+        requires { pieces_in self.now ≢ [] }
+        ensures { slice_get (pieces_in self.now) (length (pieces_in self.now) - 1) ≡ Some result }
+    {
+        if self.fall.length > 0 {
+            self.falling()
+        } else if self.middle > 0 {
+            self.flat()
+        } else {
+            self.rising()
+        }
+    }
+
+    /// Adds its pieces, in order, where none are yet.
+    #[inline(always)]
+    pub fn push_pieces(&self, pieces: &mut Pieces)
+        requires none { pieces.old.items ≡ [] }
+        requires room { 3 ≤ pieces.old.capacity }
+        ensures { pieces.new.items ≡ pieces_in self.now }
+    {
+        if self.rise.length > 0 {
+            pieces.push_reserved(self.rising());
+        }
+        if self.middle > 0 {
+            pieces.push_reserved(self.flat());
+        }
+        if self.fall.length > 0 {
+            pieces.push_reserved(self.falling());
+        }
+    }
+
+    /// Its event.
+    pub fn placed(&self) -> Placed
+        requires { pieces_in self.now ≢ [] }
+        ensures { event_of (pieces_in self.now) ≡ result ∷ [] }
+    {
+        let rise = u64::from(self.rise.length);
+        let fall = u64::from(self.fall.length);
+        Placed {
+            start: u64::from(self.start),
+            length: rise + u64::from(self.middle) + fall,
+            frame: u64::from(self.frame),
+            file: self.file,
+            first: self.first,
+            dest: self.dest,
+            width: self.width,
+            rise,
+            fall,
+        }
     }
 
     /// The time at which it begins, in samples.

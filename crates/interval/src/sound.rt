@@ -65,7 +65,7 @@ fn groups_of(alloc: Global, checked: &Checked) -> Result<Vec<Group>, AllocError>
     ensures formed { IfOk result (λ groups. AreFormed groups.items) }
     ensures few { IfOk result (λ groups. length checked.now.project.events ≤ 32767) }
 {
-    let mut groups = Vec::new(alloc);
+    let mut groups = Vec::with_capacity(alloc, checked.project().events().len())?;
     let bound = checked.bound();
     for event in checked.project().events() {
         push_entry(alloc, &mut groups, bound, event)?;

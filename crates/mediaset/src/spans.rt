@@ -99,7 +99,7 @@ pub fn spans_of(
     ensures { IfOk result (λ spans. spans.items
         ≡ gathered (flat_map (spec.span_of homes.now handle) (pieces_of intervals.now))) }
 {
-    let mut spans = Vec::new(alloc);
+    let mut spans = Vec::with_capacity(alloc, intervals.piece_count())?;
     for group in intervals.groups() {
         push_spans(group.pieces().as_slice(), homes, handle, &mut spans)?;
     }

@@ -1,23 +1,23 @@
 -- Cuts that are joined by marks, and what joining keeps.
 use Rattle.std.proofs.Common.{◌≡◌, ◌∙◌, ℕ, ◌+◌, ◌<◌, length, get_or, set, map, Bool, true, false, List, [], ◌∷◌, ◌++◌}
 use Rattle.std.proofs.Common.{refl, sym, arith}
-use Rattle.std.specs.Prelude.{pos, ◌+ℤ◌, ◌&&◌, ◌||◌, Option, Result, Ok, Err, OnOk, None, Some, is_some}
+use Rattle.std.specs.Prelude.{pos, ◌+ℤ◌, ◌&&◌, Option, Result, Ok, Err, OnOk, None, Some, is_some}
 use Rattle.std.specs.Prelude.{if◌then◌else◌}
 use Rattle.std.specs.List.{list_all}
-use Rattle.facts.specs.Tests.{and_exchange, or_exchange}
+use Rattle.facts.specs.Tests.{and_exchange}
 use Rattle.sound_terms.specs.declared.piece.Piece.{Piece}
 use Rattle.sound_terms.specs.declared.piece.Shape.TheVariants.{Flat, Rise, Fall}
 use Rattle.sound_terms.specs.declared.piece.Shape.{Shape}
 use Rattle.sound_terms.specs.Mix.{Reading}
-use Rattle.sound_terms.specs.Groups.{are_whole, continues, is_whole, mix_of, reads}
-use Rattle.sound_terms.specs.OrderLaws.{mix_total, read_by, reads_total, sum_at, sums_exchange, whole_total}
+use Rattle.sound_terms.specs.Groups.{are_whole, continues, is_whole, mix_of}
+use Rattle.sound_terms.specs.OrderLaws.{mix_total, sum_at, sums_exchange, whole_total}
 use Rattle.sound_terms.specs.Passes.{join_cuts, lengthened, put_to_first}
 use Rattle.passes.specs.declared.ends.End.{End}
 use Rattle.passes.specs.Ends.{IsFirst, end_before, end_of, flat_end, is_end}
 use Rattle.sound_terms.specs.LongerLaws.{BothFlat, by_longer}
-use Rattle.passes.proofs.Longer.{longer_mix, longer_reads, longer_whole}
+use Rattle.passes.specs.TotalLaws.{total_joined}
+use Rattle.passes.proofs.Longer.{longer_mix, longer_whole}
 use Rattle.passes.proofs.Putting.{put_last, put_there, taken_there}
-use Rattle.passes.proofs.Totals.{total_joined}
 
 -- a flat piece is taken by the groups with the mark that it looks for
 pub flat_agrees : (later : Piece) → later.shape ≡ Flat → (group : List Piece)
@@ -84,11 +84,3 @@ pub whole_joined : (groups : List (List Piece)) → are_whole (join_cuts groups)
 whole_joined groups =
     whole_total (join_cuts groups) ∙ total_joined ◌&&◌ true (λ group. list_all is_whole group) and_exchange
     longer_whole groups ∙ sym (whole_total groups)
-
-module _ (file channel frame : ℕ) where
-  pub reads_joined : (groups : List (List Piece))
-      → reads (join_cuts groups) file channel frame ≡ reads groups file channel frame
-  reads_joined groups =
-      reads_total file channel frame (join_cuts groups)
-      ∙ total_joined ◌||◌ false (read_by file channel frame) or_exchange (longer_reads file channel frame) groups
-      ∙ sym (reads_total file channel frame groups)

@@ -3,9 +3,7 @@ pub mod LeftOut
 pub mod AllSilences
 pub mod Index
 pub mod Putting
-pub mod Totals
 pub mod Longer
 pub mod Kept
 pub mod JoinedCuts
 pub mod Regrouped
-pub mod Sounding

@@ -1,15 +1,15 @@
--- What a flat piece that is longer adds and reads.
-use Rattle.std.proofs.Common.{◌≡◌, ℕ, ◌+◌, ◌-◌, ◌<◌, ◌≤◌, Bool, true, false, List, [], ◌∷◌, refl, sym, arith}
-use Rattle.std.specs.Prelude.{ℤ, pos, ◌+ℤ◌, ◌&&◌, ◌||◌, ◌==◌, nat_le, nat_lt}
-use Rattle.std.specs.List.{list_all, list_any}
+-- What a flat piece that is longer adds.
+use Rattle.std.proofs.Common.{◌≡◌, ℕ, ◌+◌, ◌-◌, ◌<◌, ◌≤◌, Bool, true, [], ◌∷◌, refl, sym, arith}
+use Rattle.std.specs.Prelude.{ℤ, pos, ◌+ℤ◌, ◌&&◌, nat_le, nat_lt}
+use Rattle.std.specs.List.{list_all}
 use Rattle.std.proofs.lemmas.Int.{ints}
-use Rattle.facts.specs.Stretches.{either_joined, sums_joined}
+use Rattle.facts.specs.Stretches.{sums_joined}
 use Rattle.sound_terms.specs.declared.piece.Piece.{Piece}
 use Rattle.sound_terms.specs.Mix.{Reading, share_of}
-use Rattle.sound_terms.specs.Groups.{is_read, is_whole, part_of, sum_of}
+use Rattle.sound_terms.specs.Groups.{is_whole, part_of, sum_of}
 use Rattle.sound_terms.specs.LongerLaws.{BothFlat, by_longer, longer}
 use Rattle.sound_terms.specs.Passes.{lengthened}
-use Rattle.passes.proofs.Totals.{Joins}
+use Rattle.passes.specs.TotalLaws.{Joins}
 
 part_longer : (r : Reading) (p later : Piece) (channel time : ℕ) → BothFlat p later
     → part_of r (longer p later) channel time ≡ part_of r p channel time +ℤ part_of r later channel time
@@ -38,26 +38,3 @@ longer_whole later =
     by_longer (λ group joined. (rest : Bool) → (list_all is_whole joined && rest)
     ≡ (list_all is_whole (later ∷ []) && (list_all is_whole group && rest))) later
     (λ p on rest. rw (on.flat, on.flat_later) refl)
-
-read_longer : (p later : Piece) (file channel frame : ℕ) → BothFlat p later
-    → is_read (longer p later) file channel frame ≡ (is_read p file channel frame || is_read later file channel frame)
-read_longer p later file channel frame both =
-    let on = both.on in
-    rw (on.frame, on.file, on.first, on.width)
-    (sym (either_joined (p.file == file) (nat_le p.first channel) (nat_lt channel (p.first + p.width)) p.frame p.length
-    later.length frame))
-
-or_grouped : (a b rest : Bool) → (((b || a) || false) || rest) ≡ ((a || false) || ((b || false) || rest))
-or_grouped true true rest = refl
-or_grouped true false rest = refl
-or_grouped false true rest = refl
-or_grouped false false rest = refl
-
-pub longer_reads : (file channel frame : ℕ) (later : Piece)
-    → Joins ◌||◌ false (λ group. list_any (λ p. is_read p file channel frame) group) (lengthened later) (later ∷ [])
-longer_reads file channel frame later =
-    let read = λ (group : List Piece). list_any (λ p. is_read p file channel frame) group in
-    by_longer (λ group joined. (rest : Bool) → (read joined || rest) ≡ (read (later ∷ []) || (read group || rest)))
-    later
-    (λ p on rest. rw (read_longer p later file channel frame on) (or_grouped (is_read later file channel frame)
-    (is_read p file channel frame) rest))

@@ -1,31 +1,31 @@
 -- Groups that are put together by marks, and what that keeps.
 use Rattle.std.proofs.Common.{◌≡◌, ◌∙◌, ℕ, zero, suc, ◌-◌, ◌<◌, length, get_or, set, map, Bool, true, false, refl}
 use Rattle.std.proofs.Common.{sym}
-use Rattle.std.proofs.Common.{arith, List, [], ◌∷◌, ◌++◌, All, ◌≤◌}
+use Rattle.std.proofs.Common.{arith, List, [], ◌∷◌, ◌++◌, All}
 use Rattle.std.specs.Prelude.{ℤ, pos, ◌+ℤ◌, ◌&&◌, ◌||◌, ◌==◌, nat_lt, Option, None, Some, is_some, slice_get}
 use Rattle.std.specs.Prelude.{if◌then◌else◌}
 use Rattle.std.specs.List.{list_all}
-use Rattle.std.proofs.Math.Bool.{and_assoc, and_comm, or-false, or-true, or_assoc}
+use Rattle.std.proofs.Math.Bool.{and_assoc, and_comm, or-false, or-true}
 use Rattle.std.proofs.lemmas.Bool.Decides.{nat_tests}
 use Rattle.std.proofs.lemmas.Int.{ints}
 use Rattle.std.proofs.lemmas.List.Elements.{All-append, All-nil}
-use Rattle.std.proofs.lemmas.List.Folds.{list_all-append, list_any-append}
-use Rattle.facts.specs.Tests.{and_exchange, or_exchange}
+use Rattle.std.proofs.lemmas.List.Folds.{list_all-append}
+use Rattle.facts.specs.Tests.{and_exchange}
 use Rattle.sound_terms.specs.declared.piece.Piece.{Piece}
 use Rattle.sound_terms.specs.declared.piece.Shape.TheVariants.{Flat, Rise, Fall}
 use Rattle.sound_terms.specs.Mix.{Reading}
-use Rattle.sound_terms.specs.Groups.{AreGroups, IsGroup, IsPiece, are_whole, continues, is_read, is_whole, mix_of}
+use Rattle.sound_terms.specs.Groups.{AreGroups, IsGroup, IsPiece, are_whole, continues, is_whole, mix_of}
 use Rattle.sound_terms.specs.Groups.{rank_of}
-use Rattle.sound_terms.specs.Groups.{RiseFrom, reads, start_of}
+use Rattle.sound_terms.specs.Groups.{RiseFrom, start_of}
 use Rattle.sound_terms.specs.GroupLaws.{IsGroup-append, sum_of-append}
-use Rattle.sound_terms.specs.OrderLaws.{mix_total, read_by, reads_total, sum_at, sums_exchange, whole_total}
+use Rattle.sound_terms.specs.OrderLaws.{mix_total, sum_at, sums_exchange, whole_total}
 use Rattle.sound_terms.specs.Passes.{extended, is_followed_by, put_grouped, regroup}
 use Rattle.passes.specs.declared.ends.End.{End}
 use Rattle.passes.specs.Ends.{IsFirst, earlier, end_before, follows, group_end, group_follows, holds_at, is_end}
 use Rattle.passes.specs.Ends.{last_piece}
+use Rattle.passes.specs.TotalLaws.{Joins, by_extended, total_regrouped}
 use Rattle.passes.proofs.Kept.{all_fold, all_put, rise_fold, rise_put}
 use Rattle.passes.proofs.Putting.{put_last, put_there, taken_there}
-use Rattle.passes.proofs.Totals.{Joins, total_regrouped}
 
 module _ {X : Type 0} where
   holds_same : (test other : X → Bool) → ((x : X) → test x ≡ other x) → (xs : List X) (k : ℕ)
@@ -111,11 +111,13 @@ fall_follows p offset den is None = refl
 fall_follows p offset den is (Some end) = rw is (under_two end.rank _)
 
 -- the first piece of a group follows as the group does
-pub group_first : (group : List Piece) (d : Piece) (marks : List (Option End)) (found : Option ℕ) → 1 ≤ length group
-    → IsFirst (follows (get_or group 0 d)) marks found → IsFirst (group_follows group) marks found
-group_first [] d marks found some first = absurd (omega arith)
-group_first (p ∷ ps) d marks found some first = first_same (follows p) (group_follows (p ∷ ps)) (λ mark. refl) marks
-    found first
+pub group_first : (group : List Piece) (p : Piece) (marks : List (Option End)) (found : Option ℕ)
+    → slice_get group 0 ≡ Some p
+    → IsFirst (follows p) marks found → IsFirst (group_follows group) marks found
+group_first [] p marks found is first = cc
+group_first (q ∷ ps) p marks found is first =
+    let same : q ≡ p = cc in
+    first_same (follows q) (group_follows (q ∷ ps)) (λ mark. refl) marks found (rw same first)
 
 pub last_is : (group : List Piece) → slice_get group (length group - 1) ≡ last_piece group
 last_is [] = refl
@@ -139,16 +141,6 @@ group_agrees later group = by_test (is_followed_by group later) ∙ followed_is 
   by_test : (b : Bool) → is_some (if b then Some (group ++ later) else None) ≡ b
   by_test true = refl
   by_test false = refl
-
--- what is so of every group with one added is so of what a group is extended to
-by_extended : (P : List Piece → List Piece → Type 0) (later : List Piece)
-    → ((group : List Piece) → is_followed_by group later ≡ true → P group (group ++ later))
-    → (group joined : List Piece) → extended later group ≡ Some joined → P group joined
-by_extended P later holds group joined e = by_test (is_followed_by group later) refl e where
-  by_test : (b : Bool) → is_followed_by group later ≡ b → (if b then Some (group ++ later) else None) ≡ Some joined
-      → P group joined
-  by_test true follows is = let same : joined ≡ group ++ later = cc in rw same (holds group follows)
-  by_test false follows is = cc
 
 last-append : (group : List Piece) (p : Piece) (ps : List Piece) → last_piece (group ++ p ∷ ps) ≡ last_piece (p ∷ ps)
 last-append [] p ps = refl
@@ -251,18 +243,3 @@ whole_regrouped groups =
     whole_total (regroup groups)
     ∙ total_regrouped ◌&&◌ true (λ group. list_all is_whole group) and_exchange whole_joins groups
     ∙ sym (whole_total groups)
-
-reads_joins : (file channel frame : ℕ) (own : List Piece)
-    → Joins ◌||◌ false (read_by file channel frame) (extended own) own
-reads_joins file channel frame own =
-    let read = read_by file channel frame in
-    by_extended (λ group joined. (rest : Bool) → (read joined || rest) ≡ (read own || (read group || rest))) own
-    (λ group on rest. rw (list_any-append (λ p. is_read p file channel frame) group own)
-    (or_assoc (read group) (read own) rest ∙ or_exchange (read group) (read own) rest))
-
-pub reads_regrouped : (file channel frame : ℕ) (groups : List (List Piece))
-    → reads (regroup groups) file channel frame ≡ reads groups file channel frame
-reads_regrouped file channel frame groups =
-    reads_total file channel frame (regroup groups)
-    ∙ total_regrouped ◌||◌ false (read_by file channel frame) or_exchange (reads_joins file channel frame) groups
-    ∙ sym (reads_total file channel frame groups)

@@ -6,5 +6,8 @@ pub mod Laws
 pub mod Left
 pub mod Looks
 pub mod Output
+pub mod PlayedLaws
 pub mod Silent
+pub mod SoundingLaws
 pub mod Standard
+pub mod TotalLaws

@@ -21,10 +21,11 @@ fn flat_alone(group: &Group) -> Option<Piece>
     ensures alone { result ≡ ends.flat_alone group.now }
     ensures sound { All IsPiece group.now }
 {
-    let pieces = group.pieces();
-    match pieces.as_slice() {
-        [piece] if piece.shape == Shape::Flat => Some(*piece),
-        _ => None,
+    let piece = group.first();
+    if group.len() == 1 && piece.shape == Shape::Flat {
+        Some(piece)
+    } else {
+        None
     }
 }
 

@@ -28,9 +28,7 @@ fn earlier(one: Option<usize>, other: Option<usize>) -> Option<usize>
 fn end_of(group: &Group) -> Option<End>
     ensures { result ≡ group_end group.now }
 {
-    let pieces = group.pieces();
-    let last = pieces.as_slice().last()?;
-    Some(End::of(last))
+    Some(End::of(&group.last()))
 }
 
 /// The first end that a piece goes on from, behind a shape of a lower rank.
@@ -52,11 +50,7 @@ fn first_before(ends: &Marks, piece: &Piece) -> Option<usize>
 fn place_for(ends: &Marks, group: &Group) -> Option<usize>
     ensures { IsFirst (group_follows group.now) ends.now result }
 {
-    let pieces = group.pieces();
-    match pieces.as_slice() {
-        [first, ..] => first_before(ends, first),
-        [] => None,
-    }
+    first_before(ends, &group.first())
 }
 
 /// Adds a group to the end of the one at this place, the first that it may follow.

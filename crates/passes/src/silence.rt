@@ -29,7 +29,7 @@ fn sounding(intervals: Intervals, silent: &[bool]) -> Result<Vec<Group>, AllocEr
     let mut left = silent;
     let mut sounding = Vec::new(intervals.allocator());
     for group in intervals.into_groups() {
-        let count = group.pieces().len();
+        let count = group.len();
         if !is_called(count, left) {
             sounding.push(group)?;
         }

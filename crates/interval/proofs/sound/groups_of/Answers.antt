@@ -12,10 +12,10 @@ push_entry-requires-clause-faultless c =
     let items = c.events-event-items.result.now in
     let i = c.loop-event.event-index in
     let event = c.event-item.result in
-    let listed = c.events-event-items.ensures.events ∙ ap (λ (p : ListProject). p.events) c.project.ensures.lent in
+    let listed = c.events-event-items.ensures.events ∙ ap (λ (p : ListProject). p.events) c.project-2.ensures.lent in
     let there : slice_get items i ≡ Some event =
     slice_get_read items (length items) i event refl c.loop-event-test.true c.event-item.is in
-    rw c.bound-bound.ensures (no_entry_fault checked.bound checked.project.events i event c.project.ensures.accepted
+    rw c.bound-bound.ensures (no_entry_fault checked.bound checked.project.events i event c.project-2.ensures.accepted
     (ap (λ l. slice_get l i) (sym listed) ∙ there))
 
 pub loop-event-preserved : goal.loop-event-preserved

@@ -1,7 +1,7 @@
 use Rattle.std.proofs.Common.{arith, ◌∙◌}
 use Rattle.std.proofs.lemmas.Grind.{common_steps}
 use Rattle.passes.specs.Left.{standard_in_turn}
-use Rattle.passes.proofs.Sounding.{plays_what_sounds}
+use Rattle.passes.specs.SoundingLaws.{plays_what_sounds}
 use Rattle.passes.proofs.in_turn.run.Goals as goal
 
 pub returns-clause-given : goal.returns-clause-given

@@ -6,6 +6,6 @@ use Rattle.passes.proofs.regroup.end_of.Goals as goal
 
 pub returns : goal.returns
 returns c =
-    let read = rw (c.as_slice.ensures, c.pieces-pieces.ensures.pieces) at c.in_ok-last.ensures.value in
-    let last : last_piece c.args.group.now ≡ Some c.in_ok-last.last.now = sym (last_is c.args.group.now) ∙ sym read in
+    let last : last_piece c.args.group.now ≡ Some c.last.result =
+    sym (last_is c.args.group.now) ∙ c.last.ensures.piece in
     rw (c.of.ensures, last) refl

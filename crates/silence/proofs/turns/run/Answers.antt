@@ -2,7 +2,7 @@ use Rattle.std.proofs.Common.{arith, ◌∙◌}
 use Rattle.std.proofs.lemmas.Grind.{common_steps}
 use Rattle.sound_terms.specs.Sounds.{reading_by}
 use Rattle.passes.specs.Left.{standard_in_turn}
-use Rattle.passes.proofs.Sounding.{plays_what_sounds}
+use Rattle.passes.specs.SoundingLaws.{plays_what_sounds}
 use Rattle.silence.proofs.turns.run.Goals as goal
 
 pub returns-clause-given : goal.returns-clause-given

@@ -1,4 +1,5 @@
-use Rattle.passes.proofs.JoinedCuts.{mix_joined, reads_joined, whole_joined}
+use Rattle.passes.specs.PlayedLaws.{reads_joined}
+use Rattle.passes.proofs.JoinedCuts.{mix_joined, whole_joined}
 use Rattle.passes.proofs.Kept.{joined_are}
 use Rattle.passes.proofs.joined_cuts.JoinCutsPass.apply.Goals as goal
 

@@ -1,4 +1,5 @@
-use Rattle.passes.proofs.Regrouped.{mix_regrouped, reads_regrouped, regrouped_are, whole_regrouped}
+use Rattle.passes.specs.PlayedLaws.{reads_regrouped}
+use Rattle.passes.proofs.Regrouped.{mix_regrouped, regrouped_are, whole_regrouped}
 use Rattle.passes.proofs.regroup.RegroupPass.apply.Goals as goal
 
 pub of-requires : goal.of-requires

@@ -12,10 +12,9 @@ use Rattle.sound_terms.specs.Groups.{is_read, pieces_of, reads}
 use Rattle.sound_terms.specs.OrderLaws.{all_in_order, total, total_in_order}
 use Rattle.sound_terms.specs.Passes.{is_called, join_cuts, silences, split_fades, standard_groups, without_silent}
 use Rattle.passes.specs.Alone.{each_alone}
+use Rattle.passes.specs.PlayedLaws.{reads_joined, reads_regrouped}
 use Rattle.passes.specs.Silent.{is_silent_in}
 use Rattle.passes.specs.Standard.{reads_sounding}
-use Rattle.passes.proofs.JoinedCuts.{reads_joined}
-use Rattle.passes.proofs.Regrouped.{reads_regrouped}
 
 -- a group of one piece
 abbrev IsAlone : List Piece → Type 0

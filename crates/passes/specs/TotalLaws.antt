@@ -5,8 +5,8 @@ use Rattle.std.specs.List.{fold}
 use Rattle.std.proofs.lemmas.List.{append-nil}
 use Rattle.sound_terms.specs.declared.piece.Piece.{Piece}
 use Rattle.sound_terms.specs.OrderLaws.{total}
-use Rattle.sound_terms.specs.Passes.{chosen, extended, is_flat, join_cuts, lengthened, put_grouped, put_joined}
-use Rattle.sound_terms.specs.Passes.{put_to_first, regroup}
+use Rattle.sound_terms.specs.Passes.{chosen, extended, is_flat, is_followed_by, join_cuts, lengthened}
+use Rattle.sound_terms.specs.Passes.{put_grouped, put_joined, put_to_first, regroup}
 
 module _ {A : Type 0} (add : A → A → A) (none : A) (value : List Piece → A) where
   abbrev pub given : List (List Piece) → A
@@ -68,3 +68,13 @@ module _ {A : Type 0} (add : A → A → A) (none : A) (value : List Piece → A
     total_regrouped joins groups =
         total_fold put_grouped (λ out own. total_put (extended own) own (joins own) out) groups []
         ∙ ap given (append-nil groups)
+
+-- what is so of every group with one added is so of what a group is extended to
+pub by_extended : (P : List Piece → List Piece → Type 0) (later : List Piece)
+    → ((group : List Piece) → is_followed_by group later ≡ true → P group (group ++ later))
+    → (group joined : List Piece) → extended later group ≡ Some joined → P group joined
+by_extended P later holds group joined e = by_test (is_followed_by group later) refl e where
+  by_test : (b : Bool) → is_followed_by group later ≡ b → (if b then Some (group ++ later) else None) ≡ Some joined
+      → P group joined
+  by_test true follows is = let same : joined ≡ group ++ later = cc in rw same (holds group follows)
+  by_test false follows is = cc
