@@ -1,12 +1,12 @@
 -- Sums that are kept at the depth of their block.
 use Rattle.std.proofs.Common.{◌≡◌, ◌⊎◌, inl, inr, ℕ, suc, All, ◌+◌, ◌-◌, ◌*◌, ◌^◌, ◌<◌, ◌≤◌, List, ◌++◌, length, map, take, drop, set, get_or, refl, sym, ap, ◌∙◌, subst, arith, length-append}
 use Rattle.std.specs.Prelude.{ℤ, pos, negsuc, ◌+ℤ◌, ◌*ℤ◌}
-use Rattle.std.specs.Int.{int_div_euclid, saturate_to_bits}
+use Rattle.std.specs.Int.{saturate_to_bits}
 use Rattle.std.proofs.lemmas.Int.{ints}
 use Rattle.std.proofs.lemmas.Bool.{cases_lt}
 use Rattle.std.proofs.lemmas.List.{drop-map, ext_get_or, get_or_default, get_or-map, get_or-set_other, get_or-set_same, get_or-take, get_or_append_left, length-map, length-take-le, map-append, take-map}
 use Rattle.std.proofs.Math.Nat.{mul-le-mul_right}
-use Rattle.std.proofs.Math.IntN.{negsuc-*ℤ-pos, pos-*ℤ-pos}
+use Rattle.std.proofs.Math.IntN.{pos-*ℤ-pos}
 use borrow.Rule.Slice.PartMut.{post_of, put_mid}
 use mir.Syntax.{w32}
 use mir.Val.{SFits}

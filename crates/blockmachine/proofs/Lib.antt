@@ -14,5 +14,6 @@ pub mod Played
 pub mod Ran
 pub mod Slopes
 pub mod StoredSamples
+pub mod OneStretch
 pub mod Filled
-pub mod FilledSums
+pub mod FadedFrames

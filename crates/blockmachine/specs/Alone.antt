@@ -1,11 +1,11 @@
--- A block that one file fills as it is.
+-- A block that one file fills alone.
 use Rattle.std.specs.Prelude.{◌≡◌, ℕ, ◌*◌, ◌/◌, List, [], ◌∷◌, Some, slice_get}
 use Rattle.sound_terms.specs.declared.Depth.{Depth}
 use Rattle.sound_terms.specs.declared.block.Stretch.{Stretch}
 use Rattle.sound_terms.specs.declared.block.Instruction.{Instruction}
-use Rattle.sound_terms.specs.declared.block.Instruction.TheVariants.{Flat}
+use Rattle.sound_terms.specs.declared.piece.Shape.{Shape}
 use Rattle.sound_terms.specs.declared.Format.{Format}
-use Rattle.sound_terms.specs.Blocks.{IsBlockProgram, Programmed}
+use Rattle.sound_terms.specs.Blocks.{IsBlockProgram, Programmed, adding}
 use Rattle.sound_terms.specs.Depth.{bits_of}
 use Rattle.sound_terms.specs.Sounds.{SoundFacts}
 use Rattle.blockmachine.specs.Lines.{PlaysWithin}
@@ -22,10 +22,10 @@ filling file frame frames channels = record {
   width = channels;
 }
 
--- nothing but this stretch is added, without a fade: so many frames, with all channels of a file of this depth
+-- nothing but this stretch is added, under this shape: so many frames, with all channels of a file of this depth
 pub record FillsAlone (sounds : List SoundFacts) (frames channels : ℕ) (depth : Depth) (lines : List Instruction)
-    (stretch : Stretch) : Type 0 where
-  pub alone : lines ≡ Flat stretch ∷ []
+    (stretch : Stretch) (shape : Shape) : Type 0 where
+  pub alone : lines ≡ adding stretch shape ∷ []
   pub whole : stretch ≡ filling stretch.file stretch.frame frames channels
   pub facts : SoundFacts
   pub there : slice_get sounds stretch.file ≡ Some facts

@@ -1,6 +1,7 @@
 pub mod Alone
 pub mod Clipped
 pub mod Exact
+pub mod Fading
 pub mod Fault
 pub mod Holding
 pub mod Lines

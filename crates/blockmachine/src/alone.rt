@@ -3,7 +3,6 @@ ghost use Rattle.std.specs.Prelude.{◌≡◌, IfErr, IfOk, IfSome, IsTrue, leng
 ghost use Rattle.std.specs.List.{All, flat_map};
 ghost use Rattle.clipping.specs.Clips.{IsClippingOf, block_sums};
 ghost use Rattle.devices.specs.Frame.{OnlyReads};
-ghost use Rattle.sound_terms.specs.declared.block.Instruction.TheVariants.{Flat};
 ghost use Rattle.sound_terms.specs.Blocks.{BlockState, PlaysFull, executed_all};
 ghost use Rattle.sound_terms.specs.Depth.{bits_of};
 ghost use Rattle.sound_terms.specs.Sounds.{reading_by};
@@ -12,36 +11,28 @@ ghost use Rattle.blockmachine.specs.Alone.{CanCopy, FillsAlone};
 ghost use Rattle.blockmachine.specs.Fault.{FailsAt, IsSource};
 
 use crate::MachineFault;
+use crate::machine::added_by;
 use crate::stretches::read_stored;
 use clipping::Clips;
 use devices::Shelf;
-use sound_terms::{Format, Instruction, Program, Stretch};
+use sound_terms::{Format, Instruction, Program, Shape, Stretch};
 use wavread::Sound;
 
-/// The stretch that an instruction adds without a fade.
-fn flat_stretch(line: &Instruction) -> Option<Stretch>
-    ensures { IfSome result (λ stretch. line.now ≡ Flat stretch) }
-{
-    match line {
-        Instruction::Flat { stretch } => Some(*stretch),
-        _ => None,
-    }
-}
-
-/// The flat stretch that alone fills a block of so many frames, with all channels of a file of this format. `None` where
-/// more is to be done than to hand its frames out.
-fn fills_alone(
+/// The stretch that alone fills a block of so many frames, with all channels of a file of this format, and its shape.
+/// `None` where more is to be done.
+pub(crate) fn fills_alone(
     lines: &[Instruction],
     frames: u32,
     format: Format,
     sounds: &[Sound],
-) -> Option<Stretch>
-    ensures { IfSome result (FillsAlone sounds.now frames format.channels format.depth lines.now) }
+) -> Option<(Stretch, Shape)>
+    ensures { IfSome result (λ filling. FillsAlone sounds.now frames format.channels format.depth lines.now filling.0
+        filling.1) }
 {
     let [line] = lines else {
         return None;
     };
-    let stretch = flat_stretch(line)?;
+    let (stretch, shape) = added_by(line)?;
     let filling = Stretch {
         at: 0,
         length: frames,
@@ -57,7 +48,7 @@ fn fills_alone(
     if sound.channels() != format.channels || sound.depth() != format.depth {
         return None;
     }
-    Some(filling)
+    Some((filling, shape))
 }
 
 /// Writes what a program hands out, so many frames, over `bytes` as a file of this format stores them, where one file
@@ -87,9 +78,12 @@ pub fn copy_alone<S: Shelf>(
 {
     let instructions = program.as_slice();
     let lines = &instructions[1..instructions.len() - 1];
-    let Some(stretch) = fills_alone(lines, frames, format, sounds) else {
+    let Some((stretch, shape)) = fills_alone(lines, frames, format, sounds) else {
         return Ok(None);
     };
+    if shape != Shape::Flat {
+        return Ok(None);
+    }
     read_stored(&stretch, sounds, shelf, bytes)?;
     Ok(Some(Clips::none()))
 }

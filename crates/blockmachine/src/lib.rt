@@ -7,6 +7,7 @@ mod alone;
 mod buffer;
 mod clipped;
 mod exact;
+mod faded;
 mod fault;
 mod frames;
 mod layers;

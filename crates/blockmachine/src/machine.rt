@@ -17,8 +17,8 @@ ghost use Rattle.blockmachine.specs.Lines.{CanAdd, CanRun, CanSum, PlaysWithin, 
 ghost use Rattle.blockmachine.specs.Sums.{AreSums};
 
 use crate::MachineFault;
-use crate::alone::copy_alone;
 use crate::buffer::Buffer;
+use crate::faded::play_alone;
 use crate::frames::Lanes;
 use crate::stretches::add_stretch;
 use crate::sums::Sums;
@@ -48,7 +48,7 @@ impl Model for Machine {
 }
 
 /// What an instruction adds: a stretch, under a shape.
-fn added_by(line: &Instruction) -> Option<(Stretch, Shape)>
+pub(crate) fn added_by(line: &Instruction) -> Option<(Stretch, Shape)>
     ensures { result ≡ addition_of line.now }
 {
     match line {
@@ -233,7 +233,7 @@ impl Machine {
 
     /// Runs the program of a block, which hands its samples out at this depth, and writes them over `bytes` as a file of
     /// this depth stores them. `samples` has room for them. The frames of a file that fills the block as it is are read
-    /// to where they go. What is clipped of the sums is returned. It takes no memory. `Source` where a read fails; what was
+    /// to where they go, and those of one that fills it under a fade are faded there. What is clipped of the sums is returned. It takes no memory. `Source` where a read fails; what was
     /// written is then unspecified, and the machine as ready as before.
     pub fn run_packed<S: Shelf>(
         &mut self,
@@ -270,8 +270,16 @@ impl Machine {
             channels: lanes.channels as u8,
             depth,
         };
-        let copied = copy_alone(program, frames as u32, format, sounds, shelf, bytes)?;
-        if let Some(clips) = copied {
+        let played = play_alone(
+            program,
+            frames as u32,
+            format,
+            sounds,
+            shelf,
+            samples,
+            bytes,
+        )?;
+        if let Some(clips) = played {
             return Ok(clips);
         }
         let instructions = program.as_slice();

@@ -1,9 +1,8 @@
 -- An out-fade and an in-fade of one length over the same samples give the samples again.
-use Rattle.std.proofs.Common.{◌≡◌, ◌≢◌, ℕ, suc, ◌+◌, ◌-◌, ◌*◌, ◌/◌, ◌%◌, ◌<◌, ◌≤◌, ◌^◌, Bool, true, false, refl, ap, ◌∙◌, arith}
-use Rattle.std.specs.Prelude.{ℤ, pos, negsuc, neg_ℤ, ◌+ℤ◌, ◌*ℤ◌, ◌≤ℤ◌, ◌<ℤ◌, ◌==◌, nat_le, nat_lt}
+use Rattle.std.proofs.Common.{◌≡◌, ℕ, suc, ◌+◌, ◌-◌, ◌*◌, ◌/◌, ◌%◌, ◌<◌, ◌≤◌, ◌^◌, true, false, refl, ap, ◌∙◌, arith}
+use Rattle.std.specs.Prelude.{ℤ, pos, negsuc, neg_ℤ, ◌+ℤ◌, ◌*ℤ◌, ◌≤ℤ◌, ◌<ℤ◌, nat_le, nat_lt}
 use Rattle.std.specs.Int.{int_div_euclid, saturate_to_bits}
 use Rattle.std.proofs.lemmas.Bool.Decides.{nat_tests}
-use Rattle.std.proofs.lemmas.Bool.{eqb-true, eq-eqb}
 use Rattle.std.proofs.lemmas.Int.{ints}
 use Rattle.std.proofs.Math.Nat.{div-add-mod, le_of_mul-le-mul_left, lt_of_mul-lt-mul_left}
 use Rattle.sound_terms.specs.Mix.{fade_fraction, full_scale, quantized, share_of}
@@ -12,8 +11,7 @@ use Rattle.sound_terms.specs.declared.Depth.{Depth}
 use Rattle.sound_terms.specs.declared.Depth.TheVariants.{Sixteen, TwentyFour, ThirtyTwo}
 use Rattle.sound_terms.specs.Depth.{bits_of}
 use Rattle.soundlaw.specs.Crossfade.{IsCrossfadeExact}
-use Rattle.soundlaw.specs.Laws.{floor_whole}
-use Rattle.soundlaw.proofs.Shares.{share_down, share_up}
+use Rattle.soundlaw.specs.Laws.{floor_whole, kept_inside, share_below, share_up}
 
 -- a sample, or one less: what both shares are together
 pub record IsNearly (sum sample : ℤ) : Type 0 where
@@ -45,39 +43,6 @@ both_up m n i inside =
       most = omega (arith, near);
       is = omega (arith, ints, near);
     })
-
--- a product by the next multiple
-record IsShareBelow (k x n : ℕ) : Type 0 where
-  ceiling : ℕ
-  over : ℕ
-  is : share_of (negsuc k) (x, n) ≡ neg_ℤ (pos ceiling)
-  product : n * ceiling ≡ suc k * x + over
-  small : over < n
-
-share_below : (k x n : ℕ) → 0 < n → IsShareBelow k x n
-share_below k x n some = by_rest (suc k * x % n == 0) refl where
-  by_rest : (b : Bool) → (suc k * x % n == 0) ≡ b → IsShareBelow k x n
-  by_rest true e =
-      let none : suc k * x % n ≡ 0 = eqb-true (suc k * x % n) 0 e in
-      let parts = div-add-mod (suc k * x) n in
-      record {
-        ceiling = suc k * x / n;
-        over = 0;
-        is = share_down k x n some ∙ rw e refl;
-        product = omega (arith, parts, none);
-        small = some;
-      }
-  by_rest false e =
-      let rest : suc k * x % n ≢ 0 = λ none. let yes = eq-eqb (suc k * x % n) 0 none in cc in
-      let parts = div-add-mod (suc k * x) n in
-      let less : suc k * x % n < n = omega arith in
-      record {
-        ceiling = suc k * x / n + 1;
-        over = n - suc k * x % n;
-        is = share_down k x n some ∙ rw e (omega (arith, ints));
-        product = omega (arith, parts, less);
-        small = omega (arith, rest);
-      }
 
 rounded_up : (m n x y a b r s : ℕ) → x + y ≡ n → n * a ≡ m * x + r → n * b ≡ m * y + s → r < n → s < n
     → (m ≤ a + b) × (a + b < m + 2)
@@ -116,11 +81,6 @@ out_fraction rise n before i inside fits =
 in_fraction : (n fall behind i : ℕ) → i < n → fade_fraction n fall behind i ≡ (i, n)
 in_fraction n fall behind i inside = let rising : nat_lt i n ≡ true = grind (arith, nat_tests) in rw rising refl
 
--- what fits is held as it is
-held : (h : ℕ) (y : ℤ) → neg_ℤ (pos (2 ^ h)) ≤ℤ y → y <ℤ pos (2 ^ h) → saturate_to_bits h y ≡ y
-held h (pos n) low high = let below : n < 2 ^ h = omega (arith, ints, high) in ap pos (omega arith)
-held h (negsuc n) low high = let below : n + 1 ≤ 2 ^ h = omega (arith, ints, low) in ap negsuc (omega arith)
-
 -- a sum near a multiple of the step is rounded to it
 rounds : (h half step : ℕ) (sum v y : ℤ) → 1 ≤ half → half < step → IsNearly sum v → v ≡ y *ℤ pos step
     → neg_ℤ (pos (2 ^ h)) ≤ℤ y → y <ℤ pos (2 ^ h)
@@ -129,7 +89,7 @@ rounds h half step sum v y some small near whole low high =
     let parts : sum +ℤ pos half ≡ y *ℤ pos step +ℤ pos (half - near.less) =
     omega (arith, ints, near.is, near.most, some, whole) in
     ap (λ z. saturate_to_bits h (int_div_euclid z (pos step))) parts
-    ∙ ap (saturate_to_bits h) (floor_whole y (half - near.less) step (omega (arith, small))) ∙ held h y low high
+    ∙ ap (saturate_to_bits h) (floor_whole y (half - near.less) step (omega (arith, small))) ∙ kept_inside h y low high
 
 -- the same at a depth
 rounds_at : (depth : Depth) (sum v y : ℤ) → IsNearly sum v → v ≡ y *ℤ pos (2 ^ (48 - bits_of depth))

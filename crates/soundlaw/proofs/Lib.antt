@@ -2,3 +2,4 @@ pub mod Shares
 pub mod Crossfade
 pub mod Floors
 pub mod Parts
+pub mod Nearest

@@ -6,8 +6,7 @@ use Rattle.std.proofs.lemmas.Int.{ints}
 use Rattle.std.proofs.Math.IntN.{negsuc-*ℤ-pos, pos-*ℤ-pos}
 use Rattle.std.proofs.Math.Nat.{div-eq_of_lt-le, lt_of_mul-lt-mul_left, mul-le-mul_left, mul-le-mul_right}
 use Rattle.sound_terms.specs.Mix.{share_of}
-use Rattle.soundlaw.proofs.Floors.{floor_by}
-use Rattle.soundlaw.proofs.Shares.{share_up}
+use Rattle.soundlaw.specs.Laws.{floor_by, share_up}
 
 -- the parts of less than one are less than all
 pub fewer : (parts den num rest : ℕ) → parts * den + rest ≡ num * 2 ^ 62 → num < den → parts < 2 ^ 62

@@ -7,7 +7,7 @@ use Rattle.std.specs.Int.{int_div_euclid}
 use Rattle.std.proofs.lemmas.Bool.Decides.{nat_tests}
 use Rattle.std.proofs.lemmas.Bool.{eq-eqb, eqb-true}
 use Rattle.std.proofs.Math.Nat.{div-add-mod, div-eq_of_lt-le, lt_of_mul-lt-mul_left, mul-add-div_right, mul-add-mod_self_right, mul-le-mul_left, mul-zero, zero-div, zero-mod}
-use Rattle.std.proofs.Math.IntN.{negsuc-*ℤ-pos, pos-*ℤ-pos}
+use Rattle.std.proofs.Math.IntN.{negsuc-*ℤ-pos}
 use Rattle.sound_terms.specs.Mix.{share_of}
 
 -- a product by the quotient and the rest of its first factor
@@ -31,9 +31,6 @@ rounded_is_smaller size num den le some rest =
     let most : size * num ≤ size * den = mul-le-mul_left size le in
     let less : den * (size * num / den) < den * size = omega (arith, parts, most) in
     lt_of_mul-lt-mul_left den less
-
-pub share_up : (size num den : ℕ) → share_of (pos size) (num, den) ≡ pos (size * num / den)
-share_up size num den = ap (λ z. int_div_euclid z (pos den)) (pos-*ℤ-pos size num)
 
 next_down : (n den : ℕ) (exact : Bool) → 0 < den → (suc n % den == 0) ≡ exact
     → negsuc (n / den) ≡ (if exact then neg_ℤ (pos (suc n / den)) else negsuc (suc n / den))

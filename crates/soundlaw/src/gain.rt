@@ -1,9 +1,12 @@
 // The share of a sample under a fraction, by a product of 128 bits.
 ghost use Rattle.std.specs.Prelude.{◌≡◌, ◌+◌, ◌*◌, ◌^◌, ◌≤◌, pos, neg_ℤ, ◌+ℤ◌, ◌*ℤ◌, ◌≤ℤ◌};
 ghost use Rattle.std.specs.Int.{int_div_euclid};
-ghost use Rattle.sound_terms.specs.Mix.{share_of};
+ghost use Rattle.sound_terms.specs.Depth.{bits_of};
+ghost use Rattle.sound_terms.specs.Mix.{full_scale, quantized, share_of};
+ghost use Rattle.pcm.specs.Samples.{FitsDepth};
 
-use crate::{Fraction, contribution};
+use crate::{Fraction, contribution, finish, widen};
+use pcm::Depth;
 
 /// A fraction, which lies between `parts` and the next parts of 2^62.
 #[derive(Clone, Copy)]
@@ -34,6 +37,69 @@ impl Gain {
             contribution(v, self.fraction.num, self.fraction.den)
         }
     }
+
+    /// The share of a sample of this depth, rounded to the depth: to the nearest, halves up. Up to 24 bits a product of
+    /// 64 bits tells it, where both parts of 2^39 round it alike.
+    #[inline(always)]
+    pub fn rounded_share(&self, sample: i32, depth: Depth) -> i32
+        requires { FitsDepth (bits_of depth) sample }
+        ensures share { result ≡ quantized (bits_of depth) (share_of (full_scale (bits_of depth) sample)
+            (self.now.fraction.num, self.now.fraction.den)) }
+    {
+        match depth {
+            Depth::Sixteen | Depth::TwentyFour => self.rounded_by_parts(sample, depth),
+            Depth::ThirtyTwo => self.rounded_at_full_scale(sample, depth),
+        }
+    }
+
+    /// The same at full scale.
+    #[cold]
+    #[inline(never)]
+    fn rounded_at_full_scale(&self, sample: i32, depth: Depth) -> i32
+        requires { FitsDepth (bits_of depth) sample }
+        ensures { result ≡ quantized (bits_of depth) (share_of (full_scale (bits_of depth) sample)
+            (self.now.fraction.num, self.now.fraction.den)) }
+    {
+        finish(self.share(widen(sample, depth)), depth)
+    }
+
+    /// The same of a sample of up to 24 bits.
+    #[inline(always)]
+    fn rounded_by_parts(&self, sample: i32, depth: Depth) -> i32
+        requires shallow { bits_of depth ≤ 24 }
+        requires fit { FitsDepth (bits_of depth) sample }
+        ensures { result ≡ quantized (bits_of depth) (share_of (full_scale (bits_of depth) sample)
+            (self.now.fraction.num, self.now.fraction.den)) }
+    {
+        let size = i64::from(sample);
+        let product = parts_and_half(size, self.parts >> 23);
+        let share = whole_parts(product);
+        if whole_parts(product + size) == share {
+            share as i32
+        } else {
+            self.rounded_at_full_scale(sample, depth)
+        }
+    }
+}
+
+/// So many parts of 2^39 of a sample of up to 24 bits, and half of them all, since what follows rounds down.
+#[inline(always)]
+fn parts_and_half(sample: i64, parts: u64) -> i64
+    requires low { neg_ℤ (pos (2 ^ 23)) ≤ℤ sample }
+    requires high { sample ≤ℤ pos (2 ^ 23) }
+    requires few { parts ≤ 2 ^ 39 }
+    ensures is { result ≡ sample *ℤ pos parts +ℤ pos (2 ^ 38) }
+    ensures within { (neg_ℤ (pos (2 ^ 62)) ≤ℤ result) × (result ≤ℤ pos (2 ^ 62 + 2 ^ 38)) }
+{
+    sample * parts as i64 + (1 << 38)
+}
+
+/// How often a product has all parts of 2^39, rounded down.
+#[inline(always)]
+fn whole_parts(product: i64) -> i64
+    ensures { result ≡ int_div_euclid product (pos (2 ^ 39)) }
+{
+    product >> 39
 }
 
 /// So many parts of a sample.

@@ -3,8 +3,10 @@ use Rattle.std.proofs.lemmas.Bool.Decides.{nat_tests}
 use Rattle.std.proofs.lemmas.Option.{slice_get_read}
 use Rattle.sound_terms.specs.declared.block.Stretch.{Stretch}
 use Rattle.sound_terms.specs.declared.block.Instruction.{Instruction}
-use Rattle.sound_terms.specs.declared.block.Instruction.TheVariants.{Start, Flat}
+use Rattle.sound_terms.specs.declared.block.Instruction.TheVariants.{Start}
+use Rattle.sound_terms.specs.Blocks.{adding}
 use Rattle.blockmachine.specs.Alone.{filling}
+use Rattle.blockmachine.proofs.OneStretch.{by_addition}
 use Rattle.blockmachine.proofs.alone.fills_alone.Goals as goal
 
 -- a list of one
@@ -29,15 +31,16 @@ returns c =
     let first : stretch.first ≡ 1 = grind (arith, nat_tests) in
     let dest : stretch.dest ≡ 1 = grind (arith, nat_tests) in
     let wide : stretch.width ≡ c.args.format.channels = grind (arith, nat_tests) in
-    let lines : c.args.lines.now ≡ Flat stretch ∷ [] =
-    alone c.args.lines.now (Flat stretch) (omega (arith, c.in-len1.len_at_least, c.in-len1.len_below))
-    c.in_ok-stretch.ensures in
+    let shape = c.in_ok-stretch.shape in
+    let lines : c.args.lines.now ≡ adding stretch shape ∷ [] =
+    alone c.args.lines.now (adding stretch shape) (omega (arith, c.in-len1.len_at_least, c.in-len1.len_below))
+    (by_addition (get_or c.args.lines.now 0 (Start 0)) stretch shape (sym c.in_ok-stretch.ensures)) in
     let found = c.in_ok-sound.ensures.lookup in
     let below : stretch.file < length c.args.sounds.now = grind (arith, nat_tests, found.0) in
     let parts : stretch ≡ filling stretch.file stretch.frame c.args.frames c.args.format.channels =
     by_parts stretch 0 c.args.frames 1 1 c.args.format.channels at long first dest wide in
     record {
-      alone = lines ∙ ap (λ (s : Stretch). Flat s ∷ []) parts;
+      alone = lines ∙ ap (λ (s : Stretch). adding s shape ∷ []) parts;
       whole = refl;
       facts = c.in_ok-sound.sound.now;
       there = slice_get_read c.args.sounds.now (length c.args.sounds.now) stretch.file c.in_ok-sound.sound.now refl below found.1;

@@ -16,8 +16,8 @@ count_of : (samples frames n channels : ℕ) → samples ≡ frames * n → chan
 count_of samples frames n channels long told some =
     ap (λ m. m / channels) (long ∙ ap (λ m. frames * m) (sym told)) ∙ mul-div_left frames some
 
-pub copy_alone-requires : goal.copy_alone-requires
-copy_alone-requires g c =
+pub play_alone-requires-clause-copy : goal.play_alone-requires-clause-copy
+play_alone-requires-clause-copy g c =
     let channels = c.lanes-lanes.result.channels in
     let n = c.args.self.now.channels in
     let told : channels ≡ n = c.lanes-lanes.ensures.channels ∙ ap (λ (e : Extent). e.channels) c.self.view_is in
@@ -35,6 +35,16 @@ copy_alone-requires g c =
       inside = c.requires.inside;
     }
 
+pub play_alone-requires-clause-room : goal.play_alone-requires-clause-room
+play_alone-requires-clause-room g c =
+    let channels = c.lanes-lanes.result.channels in
+    let n = c.args.self.now.channels in
+    let told : channels ≡ n = c.lanes-lanes.ensures.channels ∙ ap (λ (e : Extent). e.channels) c.self.view_is in
+    let count =
+    count_of (length c.args.samples.now) c.requires.fits.0 n channels c.requires.fits.3 told
+    c.lanes-lanes.result.some_channels in
+    c.requires.fits.3 ∙ ap (λ m. c.requires.fits.0 * m) (sym told) ∙ ap (λ m. m * channels) (sym count)
+
 pub returns-in-Some-clause-clips : goal.returns-in-Some-clause-clips
 returns-in-Some-clause-clips g c = λ honest frames start whole.
     let bits = bits_of c.args.depth in
@@ -48,7 +58,7 @@ returns-in-Some-clause-clips g c = λ honest frames start whole.
     c.in-Some.clips) count
     (subst (λ m. IsClippingOf bits m (block_sums (executed_all reading m c.args.program.now.lines start).sums m 0
     (length c.args.samples.now / channels)) c.in-Some.clips) told
-    ((rw c.in-Some.is at (c.in_ok-copied.ensures.clips honest)) start))
+    ((rw c.in-Some.is at (c.in_ok-played.ensures.clips honest)) start))
 
 pub run_lines-requires : goal.run_lines-requires
 run_lines-requires g c =
@@ -56,7 +66,7 @@ run_lines-requires g c =
     record {
       lines = added_between c.args.sounds.now c.args.self.now fits.0 c.args.depth c.as_slice-instructions.result.now
           c.args.program.now.lines fits.1 fits.2 c.as_slice-instructions.ensures c.requires.inside;
-      whole = (fits.0, fits.1, fits.3);
+      whole = (fits.0, fits.1, c.play_alone.auto.samples ∙ fits.3);
     }
 
 pub returns-clause-clips : goal.returns-clause-clips
@@ -67,7 +77,7 @@ returns-clause-clips g c = λ honest frames start whole.
     let bits = bits_of depth in
     let channels = c.lanes-lanes.result.channels in
     let n = c.args.self.now.channels in
-    let now : IsTrue (g.S.Shelf.honest c.copy_alone.new.shelf) = search rules in
+    let now : IsTrue (g.S.Shelf.honest c.play_alone.new.shelf) = search rules in
     let reading : Reading = reading_by (g.S.Shelf.stored c.args.shelf.now) c.args.sounds.now in
     let told : channels ≡ n = c.lanes-lanes.ensures.channels ∙ ap (λ (e : Extent). e.channels) c.self.view_is in
     let some = c.lanes-lanes.result.some_channels in
@@ -77,9 +87,9 @@ returns-clause-clips g c = λ honest frames start whole.
     let lines =
     between_ends c.as_slice-instructions.result.now block.lines (Start fits.0) (Emit depth)
     (c.as_slice-instructions.ensures ∙ block.whole) in
-    let files : g.S.Shelf.stored c.copy_alone.new.shelf ≡ g.S.Shelf.stored c.args.shelf.now = search rules in
+    let files : g.S.Shelf.stored c.play_alone.new.shelf ≡ g.S.Shelf.stored c.args.shelf.now = search rules in
     subst (λ (p : List Instruction).
     IsClippingOf bits n (block_sums (executed_all reading n p start).sums n 0 frames) c.in_ok-clips.clips)
     (ap (λ (l : List Instruction). Start frames ∷ (l ++ Emit depth ∷ [])) lines
     ∙ ap (λ m. Start m ∷ (block.lines ++ Emit depth ∷ [])) same ∙ sym block.whole)
-    ((rw files at (c.in_ok-clips.ensures.clips now)) frames start whole)
+    ((rw files at (c.in_ok-clips.ensures.clips now)) frames start (c.play_alone.auto.samples ∙ whole))
