@@ -6,12 +6,14 @@ use crate::asides::{Asides, AsidesOfTwo};
 use crate::difference::BothLists;
 use crate::meter::Meter;
 use crate::terminal::Terminal;
+use adlmodel::Project;
 use comparison::{DifferingCounts, differing_in};
 use console::Console;
 use consolidate::Selection;
 use explanations::DifferingSamples;
 use opening::open_project;
 use sampletime::SampleTime;
+use shelf::Shelf;
 use std::alloc::Global;
 
 /// So many samples from the first difference on are looked at, at most: an hour.
@@ -84,8 +86,31 @@ pub fn count_from<M: Meter, A: Asides, B: Asides>(
 {
     let mut sources = asides.first.sources(alloc)?;
     let mut other_sources = asides.second.sources(alloc)?;
-    let one = open_project(alloc, lists.first, &mut sources).ok()?;
-    let other = open_project(alloc, lists.second, &mut other_sources).ok()?;
+    count_over(
+        alloc,
+        lists,
+        selection,
+        at,
+        &mut sources,
+        &mut other_sources,
+        meter,
+    )
+}
+
+/// Counts them over these sources of both lists.
+fn count_over<S: Shelf, T: Shelf, M: Meter>(
+    alloc: Global,
+    lists: BothLists<'_>,
+    selection: &Selection,
+    at: SampleTime,
+    sources: &mut S,
+    other_sources: &mut T,
+    meter: &mut M,
+) -> Option<CountsFrom>
+    requires { HasChannels selection.now }
+{
+    let one = open_project(alloc, lists.first, sources).ok()?;
+    let other = open_project(alloc, lists.second, other_sources).ok()?;
     let counts = differing_in(
         alloc,
         &one,
@@ -93,17 +118,22 @@ pub fn count_from<M: Meter, A: Asides, B: Asides>(
         selection,
         at,
         MOST_SAMPLES,
-        &mut sources,
-        &mut other_sources,
+        sources,
+        other_sources,
         meter,
     );
     meter.clear();
-    let end = match selection.to {
-        Some(end) => end,
-        None => one.project().last_out().max(other.project().last_out()),
-    };
+    let end = end_of(selection, one.project(), other.project());
     Some(CountsFrom {
         counts: counts.ok()?,
         is_part: end.get() > at.get().saturating_add(MOST_SAMPLES),
     })
+}
+
+/// The time up to which two lists are compared: the one that is chosen, or where the last entry of both ends.
+fn end_of(selection: &Selection, one: &Project, other: &Project) -> SampleTime {
+    match selection.to {
+        Some(end) => end,
+        None => one.last_out().max(other.last_out()),
+    }
 }

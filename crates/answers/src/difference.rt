@@ -59,6 +59,21 @@ pub fn report_difference<E: Console>(
     compared: &Compared,
     err: &mut E,
 ) {
+    if let Comparison::Differs { .. } = compared.comparison {
+        let one = read(alloc, lists.first).ok();
+        let other = read(alloc, lists.second).ok();
+        report_sums(selection, compared, events_of(&one), events_of(&other), err);
+    }
+}
+
+/// Prints them where these are the entries of both lists.
+fn report_sums<E: Console>(
+    selection: &Selection,
+    compared: &Compared,
+    one: &[Event],
+    other: &[Event],
+    err: &mut E,
+) {
     let Comparison::Differs {
         at,
         channel,
@@ -68,9 +83,6 @@ pub fn report_difference<E: Console>(
     else {
         return;
     };
-    let one = read(alloc, lists.first).ok();
-    let other = read(alloc, lists.second).ok();
-    let (one, other) = (events_of(&one), events_of(&other));
     for (list, sum, events) in [
         (ListOfTwo::First, first, one),
         (ListOfTwo::Second, second, other),
