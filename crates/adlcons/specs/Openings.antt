@@ -1,12 +1,14 @@
 -- Why a command doesn't come to its stores, and what it is to come to them.
-use Rattle.std.specs.Prelude.{◌≡◌, ◌⊎◌, ℕ, false, List, codes, Result, Ok, Err}
+use Rattle.std.specs.Prelude.{◌≡◌, ◌≢◌, ◌⊎◌, ℕ, false, List, codes, Result, Ok, Err}
 use Rattle.work_terms.specs.Refusals.{Refusal, Where, Nowhere, File}
 use Rattle.devices.specs.declared.source.Shelf as source
 use Rattle.shelf.specs.Folder.{OutputFolder, SourceFolder, folder_named}
 use Rattle.shelf.specs.declared.Overwrite.{Overwrite}
 use Rattle.shelf.specs.declared.Overwrite.TheVariants.{Files, Never}
 use Rattle.commandline.specs.declared.choice.MediaReport.{MediaReport}
-use Rattle.commandline.specs.CommandLine.{Asked, Compare, Resume, Selected}
+use Rattle.clap.specs.Walk.{Text}
+use Rattle.rendering.specs.declared.job_length.JobLength.TheVariants.{Longer}
+use Rattle.commandline.specs.CommandLine.{Asked, Chosen, Compare, Consolidate, Render, Resume, Selected}
 use Rattle.list_terms.specs.Text.{rate_of}
 use Rattle.devices.specs.declared.bench.Bench as output
 use Rattle.sound_terms.specs.Passes.{standard_groups}
@@ -18,7 +20,7 @@ use Rattle.consolidate.specs.declared.Written.{Written}
 use Rattle.console.specs.declared.console.Console as console
 use Rattle.console.specs.declared.lines.ListOfTwo.{ListOfTwo}
 use Rattle.console.specs.declared.lines.ListOfTwo.TheVariants.{First, Second}
-use Rattle.answers.specs.Answers.{ComparesBy, IsAnswered, IsChecked, IsComparedAs, IsReportPrinted, IsVerified, MayBeMistaken, NamesBadTime, Tells, accepted_lines, all_of_both, asking, list_refusal_line, refusal_line, written_lines}
+use Rattle.answers.specs.Answers.{ComparesBy, IsAnswered, IsChecked, IsComparedAs, IsReportPrinted, IsVerified, MayBeMistaken, NamesBadTime, RendersBy, ResumesBy, Tells, accepted_lines, all_of_both, asking, list_refusal_line, refusal_line, rendered_lines, resumed_lines, written_lines}
 use Rattle.answers.specs.Times.{selection_of}
 use Rattle.checkreport.specs.Reported.{PrintsUnread}
 use Rattle.adlcons.specs.declared.folders.OpenFault.{OpenFault}
@@ -172,6 +174,18 @@ pub record WorksInFolders {X O : Type 0} (replaced : Overwrite)
   pub output : empty.folder ≡ folder_named target
   pub careful : empty.overwrite ≡ replaced
   pub answered : IsAnswered (call list before after empty full) report_lines out old new status
+
+-- a request that writes was answered between these folders: it rendered, went on with a rendering, or consolidated
+pub record AnswersWriting {O : Type 0} (shelf : source.Ghosts SourceFolder) (bench : output.Ghosts OutputFolder)
+    (out : console.Ghosts O) (asked : Asked) (media target : List ℕ) (old new : O) (status : ℕ) : Type 0 where
+  pub rendered : (list from into : Text) (chosen : Chosen) → asked ≡ Render list from into chosen → status ≢ 2
+      → WorksInFolders Never (RendersBy shelf bench Longer chosen) rendered_lines out media target old new status
+  pub resumed : (list from into : Text) (chosen : Chosen) → asked ≡ Resume list from into chosen → status ≢ 2
+      → WorksInFolders Files (ResumesBy shelf bench Longer chosen) resumed_lines out media target old new status
+  pub consolidated : (list from into : Text) (handle : ℕ) (report : MediaReport)
+      → asked ≡ Consolidate list from into handle report
+      → WorksInFolders Never (λ given. IsConsolidation shelf bench standard_groups given handle (asking report given))
+      written_lines out media target old new status
 
 -- What is asked for can't be done over some list: a time can't be read at the list's rate, and just its option's line was
 -- printed on standard error, or a number may be unknown.

@@ -15,7 +15,8 @@ ghost use Rattle.answers.specs.Answers.{RendersBy, ResumesBy, asking, rendered_l
 ghost use Rattle.list_terms.specs.Text.{rate_of};
 ghost use Rattle.answers.specs.Answers.{MayBeMistaken};
 ghost use Rattle.answers.specs.Mistaken.{AreMistaken};
-ghost use Rattle.adlcons.specs.Openings.{CantBeDone, ChecksFolder, ComparesFolders, IsKeptOut, IsOneUnread, IsReportUnread, IsUnread, ReportsFolder, VerifiesInFolders, WorksInFolders, overwrite_for, refusal_of_opening};
+ghost use Rattle.adlcons.specs.Openings.{AnswersWriting, CantBeDone, ChecksFolder, ComparesFolders, IsKeptOut, IsOneUnread, IsReportUnread, IsUnread, ReportsFolder, VerifiesInFolders, WorksInFolders, overwrite_for, refusal_of_opening};
+ghost use Rattle.shelf.specs.Folder.{folder_named};
 ghost use Rattle.shelf.specs.declared.Overwrite.TheVariants as overwrite;
 
 use crate::asides::{FolderAsides, listed};
@@ -421,6 +422,15 @@ where
     }
 }
 
+/// A request over its places and the list that was read, and where a rendering that it goes on with was changed, if it was.
+#[derive(Clone, Copy)]
+struct Work<'a> {
+    request: Request<'a>,
+    places: Places<'a>,
+    list: &'a [u8],
+    changed: Option<u64>,
+}
+
 /// Answers such a request where its places can be opened. A list that can't be read is refused first, then an output
 /// at which another command is at work, or that isn't an empty folder, or where a rendering is gone on with, that is the
 /// folder of the media or has a file that is given too.
@@ -434,22 +444,9 @@ fn try_places<R, O: Console, E: Console, L: Progress>(
 where
     R: Files + Input + AllocGlobal + Clone + Drop,
     R::File: FileExt + Lock,
-    ensures rendered { (list media target : Text) (chosen : asked.Chosen)
-        → asked_of request.entry ≡ asked.Render list media target chosen
-        → IfOk result (λ status. status ≢ 2 → WorksInFolders overwrite.Never
-        (RendersBy ⟦<ShownShelf<'static, R, L> as devices::Shelf>⟧ ⟦<FolderBench<R> as devices::Bench>⟧ Longer chosen)
-        rendered_lines O.Console places.entry.media.now places.entry.out.now out.old out.new status) }
-    ensures resumed { (list media target : Text) (chosen : asked.Chosen)
-        → asked_of request.entry ≡ asked.Resume list media target chosen
-        → IfOk result (λ status. status ≢ 2 → WorksInFolders overwrite.Files
-        (ResumesBy ⟦<ShownShelf<'static, R, L> as devices::Shelf>⟧ ⟦<FolderBench<R> as devices::Bench>⟧ Longer chosen)
-        resumed_lines O.Console places.entry.media.now places.entry.out.now out.old out.new status) }
-    ensures consolidated { (list media target : Text) (handle : ℕ) (report : choice.MediaReport)
-        → asked_of request.entry ≡ asked.Consolidate list media target handle report
-        → IfOk result (λ status. WorksInFolders overwrite.Never
-        (λ list. IsConsolidation ⟦<ShownShelf<'static, R, L> as devices::Shelf>⟧ ⟦<FolderBench<R> as devices::Bench>⟧ standard_groups
-        list handle (asking report list))
-        written_lines O.Console places.entry.media.now places.entry.out.now out.old out.new status) }
+    ensures works { IfOk result (λ status. AnswersWriting ⟦<ShownShelf<'static, R, L> as devices::Shelf>⟧
+        ⟦<FolderBench<R> as devices::Bench>⟧ O.Console (asked_of request.entry) places.entry.media.now places.entry.out.now
+        out.old out.new status) }
     ensures statuses { IfOk result (λ status. status ≤ 2) }
     ensures mistake { IfOk result (λ status. status ≡ 2
         → (list : List ℕ)
@@ -457,16 +454,82 @@ where
     ensures two { IfOk result (λ status. status ≡ 2 → out.new ≡ out.old) }
     ensures nothing { OnErr result (out.new ≡ out.old) }
 {
-    let (rt, manner) = (session.rt, session.manner);
+    let rt = session.rt;
     let text = read_list(rt, places.list)?;
     let list = text.as_slice();
     let overwrite = overwrite_for(&request);
     let held = ready_output(rt, places, list, overwrite, files_of(&request), err)?;
     warn_unlocked(&held, request, list, places.out, err);
-    let changed = changed_position(rt, request, list);
+    try_stores(session, request, places, list, out, err)
+}
+
+/// Answers it over this list where the folders of the output and of the media can be opened.
+fn try_stores<R, O: Console, E: Console, L: Progress>(
+    session: &Session<'_, R, L>,
+    request: Request<'_>,
+    places: Places<'_>,
+    list: &[u8],
+    out: &mut O,
+    err: &mut E,
+) -> Result<u8, OpenFault>
+where
+    R: Files + Input + AllocGlobal + Clone + Drop,
+    R::File: FileExt,
+    ensures works { IfOk result (λ status. AnswersWriting ⟦<ShownShelf<'static, R, L> as devices::Shelf>⟧
+        ⟦<FolderBench<R> as devices::Bench>⟧ O.Console (asked_of request.entry) places.entry.media.now places.entry.out.now
+        out.old out.new status) }
+    ensures statuses { IfOk result (λ status. status ≤ 2) }
+    ensures mistake { IfOk result (λ status. status ≡ 2
+        → MayBeMistaken E.Console err.old err.new (rate_of list.now) (asked_of request.entry)) }
+    ensures two { IfOk result (λ status. status ≡ 2 → out.new ≡ out.old) }
+    ensures nothing { OnErr result (out.new ≡ out.old) }
+{
+    let rt = session.rt;
+    let work = Work {
+        request,
+        places,
+        list,
+        changed: changed_position(rt, request, list),
+    };
     let newer = newer_sources(rt, request, list);
+    let overwrite = overwrite_for(&request);
     let mut bench = FolderBench::new(rt.alloc(), rt.clone()?, places.out, overwrite)?;
     let mut shelf = ShownShelf::open(session, places.media)?;
+    work_between(session, work, &newer, &mut shelf, &mut bench, out, err)
+}
+
+/// Answers it between these folders, and tells what was found in both; `newer` are sources written to after the marks.
+fn work_between<R, O: Console, E: Console, L: Progress>(
+    session: &Session<'_, R, L>,
+    work: Work<'_>,
+    newer: &Option<Vec<String>>,
+    shelf: &mut ShownShelf<'_, R, L>,
+    bench: &mut FolderBench<R>,
+    out: &mut O,
+    err: &mut E,
+) -> Result<u8, OpenFault>
+where
+    R: Files + Input + AllocGlobal + Clone + Drop,
+    R::File: FileExt,
+    requires media { shelf.old.folder ≡ folder_named work.places.media.now }
+    requires output { bench.old.folder ≡ folder_named work.places.out.now }
+    requires careful { bench.old.overwrite ≡ overwrite_for (asked_of work.request) }
+    ensures works { IfOk result (λ status. AnswersWriting ⟦<ShownShelf<'static, R, L> as devices::Shelf>⟧
+        ⟦<FolderBench<R> as devices::Bench>⟧ O.Console (asked_of work.entry.request) work.entry.places.media.now work.entry.places.out.now
+        out.old out.new status) }
+    ensures statuses { IfOk result (λ status. status ≤ 2) }
+    ensures mistake { IfOk result (λ status. status ≡ 2
+        → MayBeMistaken E.Console err.old err.new (rate_of work.entry.list.now) (asked_of work.entry.request)) }
+    ensures two { IfOk result (λ status. status ≡ 2 → out.new ≡ out.old) }
+    ensures nothing { OnErr result (out.new ≡ out.old) }
+{
+    let Work {
+        request,
+        places,
+        list,
+        changed,
+    } = work;
+    let (rt, manner) = (session.rt, session.manner);
     let unlisted = unlisted_reason(rt, places.media);
     let mut terminal = Terminal {
         out,
@@ -474,14 +537,7 @@ where
         meter: WorkMeter::of_request(session.line, request),
         asides: FolderAsides::new(rt, places.media, manner),
     };
-    let answered = answer_standard(
-        rt.alloc(),
-        request,
-        list,
-        &mut shelf,
-        &mut bench,
-        &mut terminal,
-    );
+    let answered = answer_standard(rt.alloc(), request, list, shelf, bench, &mut terminal);
     let Ok(status) = answered else {
         return Err(OpenFault::Passes);
     };
@@ -491,11 +547,11 @@ where
     if status == REFUSED && manner.tells_all {
         tell_all_further(rt, list, places.media, manner, err);
     }
-    report_room(session, request, list, status, &bench, err);
+    report_room(session, request, list, status, bench, err);
     if let (0, Some(position)) = (status, changed) {
         report_change(places.out, position, err);
     }
-    if let (0, Some(names)) = (status, &newer) {
+    if let (0, Some(names)) = (status, newer) {
         report_newer(names, err);
     }
     report_found(shelf.sources(), manner, err);

@@ -148,9 +148,30 @@ where
     ensures two { IfOk result (λ status. status ≡ 2 → out.new ≡ out.old) }
     ensures nothing { OnErr result (out.new ≡ out.old) }
 {
-    let (rt, manner) = (session.rt, session.manner);
-    let text = read_list(rt, drawing.path)?;
+    let text = read_list(session.rt, drawing.path)?;
     let mut shelf = ShownShelf::open(session, media)?;
+    Ok(show_opened(session, media, drawing, &text, &mut shelf, out, err))
+}
+
+/// Prints this picture of this list over the folder, which was opened.
+fn show_opened<R, O: Console, E: Console, L: Progress>(
+    session: &Session<'_, R, L>,
+    media: &str,
+    drawing: Drawing<'_>,
+    list: &[u8],
+    shelf: &mut ShownShelf<'_, R, L>,
+    out: &mut O,
+    err: &mut E,
+) -> u8
+where
+    R: Files + Input + AllocGlobal + Clone + Drop,
+    R::File: FileExt,
+    ensures statuses { result ≤ 2 }
+    ensures mistake { result ≡ 2
+        → NamesBadTime E.Console err.old err.new (part_of (rate_of list.now) (drawn_of drawing.entry.drawn)) }
+    ensures two { result ≡ 2 → out.new ≡ out.old }
+{
+    let (rt, manner) = (session.rt, session.manner);
     let unlisted = unlisted_reason(rt, media);
     let mut terminal = Terminal {
         out,
@@ -158,14 +179,14 @@ where
         meter: WorkMeter::new(session.line),
         asides: FolderAsides::new(rt, media, manner),
     };
-    let status = answer_picture(rt.alloc(), &text, drawing, &mut shelf, &mut terminal);
+    let status = answer_picture(rt.alloc(), list, drawing, shelf, &mut terminal);
     if status == MISTAKE {
-        return Ok(status);
+        return status;
     }
     if status == REFUSED && manner.tells_all {
-        tell_all_further(rt, &text, media, manner, err);
+        tell_all_further(rt, list, media, manner, err);
     }
     report_found(shelf.sources(), manner, err);
     tell_unlisted(media, unlisted, err);
-    Ok(status)
+    status
 }

@@ -132,27 +132,43 @@ where
     ensures two { IfOk result (λ status. status ≡ 2 → out.new ≡ out.old) }
     ensures nothing { OnErr result (out.new ≡ out.old) }
 {
-    let first = open_one(session, ListOfTwo::First, places.list, places.media)?;
-    let second = open_one(
+    let mut first = open_one(session, ListOfTwo::First, places.list, places.media)?;
+    let mut second = open_one(
         session,
         ListOfTwo::Second,
         places.other_list,
         places.other_media,
     )?;
-    let OpenedList {
-        text,
-        mut shelf,
-        unlisted,
-    } = first;
-    let OpenedList {
-        text: other_text,
-        shelf: mut other_shelf,
-        unlisted: other_unlisted,
-    } = second;
+    Ok(compare_opened(session, places, selected, &mut first, &mut second, out, err))
+}
+
+/// Compares these lists, which were opened.
+fn compare_opened<R, O: Console, E: Console, L: Progress>(
+    session: &Session<'_, R, L>,
+    places: BothPlaces<'_>,
+    selected: Selected<'_>,
+    first: &mut OpenedList<'_, R, L>,
+    second: &mut OpenedList<'_, R, L>,
+    out: &mut O,
+    err: &mut E,
+) -> u8
+where
+    R: Files + Input + AllocGlobal + Clone + Drop,
+    R::File: FileExt,
+    requires media { first.old.shelf.folder ≡ folder_named places.media.now }
+    requires other_media { second.old.shelf.folder ≡ folder_named places.other_media.now }
+    ensures answered { result ≢ 2
+        → ComparesFolders ⟦<ShownShelf<'static, R, L> as devices::Shelf>⟧ O.Console (selected_of selected.entry)
+        places.entry.media.now places.entry.other_media.now out.old out.new result }
+    ensures statuses { result ≤ 2 }
+    ensures mistake { result ≡ 2 → (list : List ℕ)
+        × NamesBadTime E.Console err.old err.new (selection_of (rate_of list) (selected_of selected.entry)) }
+    ensures two { result ≡ 2 → out.new ≡ out.old }
+{
     let (rt, manner) = (session.rt, session.manner);
     let lists = BothLists {
-        first: &text,
-        second: &other_text,
+        first: &first.text,
+        second: &second.text,
     };
     let asides = AsidesOfTwo {
         first: FolderAsides::new(rt, places.media, manner),
@@ -168,21 +184,21 @@ where
         rt.alloc(),
         selected,
         lists,
-        &mut shelf,
-        &mut other_shelf,
+        &mut first.shelf,
+        &mut second.shelf,
         &mut terminal,
     );
     if status == MISTAKE {
-        return Ok(status);
+        return status;
     }
     if status == REFUSED && manner.tells_all {
         report_further(session, places, lists, err);
     }
-    report_found(shelf.sources(), manner, err);
-    report_found(other_shelf.sources(), manner, err);
-    tell_unlisted(places.media, unlisted, err);
-    tell_unlisted(places.other_media, other_unlisted, err);
-    Ok(status)
+    report_found(first.shelf.sources(), manner, err);
+    report_found(second.shelf.sources(), manner, err);
+    tell_unlisted(places.media, first.unlisted, err);
+    tell_unlisted(places.other_media, second.unlisted, err);
+    status
 }
 
 /// Opens one of two lists over this folder.

@@ -1,6 +1,7 @@
 // A consolidation over folders that is compared with what it was made from, before its line is printed.
 ghost use Rattle.std.specs.Prelude.{◌≡◌, ◌≢◌, ◌≤◌, ◌⊎◌, codes, IfOk, OnErr};
 ghost use Rattle.shelf.specs.Folder.{folder_named};
+ghost use Rattle.shelf.specs.declared.Overwrite.TheVariants.{Never};
 ghost use Rattle.console.specs.Printing.{Prints};
 ghost use Rattle.console.specs.declared.lines.ListOfTwo.TheVariants.{Second};
 ghost use Rattle.adlcons.specs.Openings.{ComparesWritten, IsKeptOut, IsListUnread, VerifiesInFolders};
@@ -35,6 +36,15 @@ const PLAIN: Manner = Manner {
     searches: false,
     verifies: false,
 };
+
+/// A consolidation that is asked for between these places, over this list.
+#[derive(Clone, Copy)]
+struct Consolidating<'a> {
+    places: Places<'a>,
+    handle: u64,
+    report: MediaReport,
+    list: &'a [u8],
+}
 
 /// A consolidation between these places: what was answered, over which list, and the lines that are held of it.
 #[derive(Clone, Copy)]
@@ -93,30 +103,78 @@ where
     ensures statuses { IfOk result (λ status. status ≤ 1) }
     ensures nothing { OnErr result (out.new ≡ out.old) }
 {
-    let (rt, manner) = (session.rt, session.manner);
+    let rt = session.rt;
     let text = read_list(rt, places.list)?;
     let list = text.as_slice();
     let lock = ready_output(rt, places, list, Overwrite::Never, &[], err)?;
     lock.tell_unlocked(places.out, err);
-    let mut bench = FolderBench::new(rt.alloc(), rt.clone()?, places.out, Overwrite::Never)?;
+    verify_list(session, places, handle, report, list, out, err)
+}
+
+/// Does so over this list where both folders can be opened.
+fn verify_list<R, O: Console, E: Console, L: Progress>(
+    session: &Session<'_, R, L>,
+    places: Places<'_>,
+    handle: u64,
+    report: MediaReport,
+    list: &[u8],
+    out: &mut O,
+    err: &mut E,
+) -> Result<u8, OpenFault>
+where
+    R: Files + Input + AllocGlobal + Clone + Drop,
+    R::File: FileExt,
+    ensures answered { IfOk result (λ status. VerifiesInFolders
+        ⟦<ShownShelf<'static, R, L> as devices::Shelf>⟧ ⟦<FolderBench<R> as devices::Bench>⟧ O.Console handle report
+        places.entry.media.now places.entry.out.now out.old out.new status) }
+    ensures statuses { IfOk result (λ status. status ≤ 1) }
+    ensures nothing { OnErr result (out.new ≡ out.old) }
+{
+    let (rt, overwrite) = (session.rt, Overwrite::Never);
+    let mut bench = FolderBench::new(rt.alloc(), rt.clone()?, places.out, overwrite)?;
     let mut shelf = ShownShelf::open(session, places.media)?;
+    let work = Consolidating {
+        places,
+        handle,
+        report,
+        list,
+    };
+    verify_between(session, work, &mut shelf, &mut bench, out, err)
+}
+
+/// Does so between these folders, where memory remains for the lines.
+fn verify_between<R, O: Console, E: Console, L: Progress>(
+    session: &Session<'_, R, L>,
+    work: Consolidating<'_>,
+    shelf: &mut ShownShelf<'_, R, L>,
+    bench: &mut FolderBench<R>,
+    out: &mut O,
+    err: &mut E,
+) -> Result<u8, OpenFault>
+where
+    R: Files + Input + AllocGlobal + Clone + Drop,
+    R::File: FileExt,
+    requires media { shelf.old.folder ≡ folder_named work.places.media.now }
+    requires output { bench.old.folder ≡ folder_named work.places.out.now }
+    requires careful { bench.old.overwrite ≡ Never }
+    ensures answered { IfOk result (λ status. VerifiesInFolders
+        ⟦<ShownShelf<'static, R, L> as devices::Shelf>⟧ ⟦<FolderBench<R> as devices::Bench>⟧ O.Console
+        work.entry.handle work.entry.report work.entry.places.media.now work.entry.places.out.now out.old out.new status) }
+    ensures statuses { IfOk result (λ status. status ≤ 1) }
+    ensures nothing { OnErr result (out.new ≡ out.old) }
+{
+    let (rt, manner) = (session.rt, session.manner);
+    let (places, list) = (work.places, work.list);
     let unlisted = unlisted_reason(rt, places.media);
     let mut lines = HeldLines::new(rt.alloc());
-    let request = Request::Consolidate(places, handle, report);
+    let request = Request::Consolidate(places, work.handle, work.report);
     let mut terminal = Terminal {
         out: &mut lines,
         err,
         meter: WorkMeter::new(session.line),
         asides: FolderAsides::new(rt, places.media, manner),
     };
-    let answered = answer_standard(
-        rt.alloc(),
-        request,
-        list,
-        &mut shelf,
-        &mut bench,
-        &mut terminal,
-    );
+    let answered = answer_standard(rt.alloc(), request, list, shelf, bench, &mut terminal);
     let Ok(answer) = answered else {
         return Err(OpenFault::Passes);
     };
@@ -129,8 +187,8 @@ where
         list,
         lines: held,
     };
-    let status = put_answer(session, consolidated, &mut shelf, out, err);
-    report_room(session, request, list, answer, &bench, err);
+    let status = put_answer(session, consolidated, shelf, out, err);
+    report_room(session, request, list, answer, bench, err);
     report_found(shelf.sources(), manner, err);
     tell_unlisted(places.media, unlisted, err);
     Ok(status)

@@ -13,7 +13,7 @@ use Rattle.consolidate.specs.declared.Fault.{Fault}
 use Rattle.consolidate.specs.declared.Written.{Written}
 use Rattle.answers.specs.Answers.{IsAnswered, Tells, asking, lines_of, status_of, written_lines}
 use Rattle.adlcons.specs.Openings.{AnswersVerified, ComparesWritten, IsListUnread, VerifiesInFolders}
-use Rattle.adlcons.proofs.verification.try_verified.Goals as goal
+use Rattle.adlcons.proofs.verification.verify_between.Goals as goal
 
 -- by what is printed of held lines, which are those of an outcome
 answers_by : {O : Type 0} (shelf : source.Ghosts SourceFolder) (out : console.Ghosts O) (list target held : List ℕ)
@@ -68,10 +68,10 @@ pub returns-clause-answered : goal.returns-clause-answered
 returns-clause-answered g c =
     let same : c.lines-2-1.given.0 ≡ c.answer_standard-answered.new.terminal.out.now =
     c.lines-2-1.given.1 (sym c.answer_standard-answered.ensures.consoles.0) in
-    ends _ _ _ _ c.as_slice-list.result.now _ _ c.in-Some.held.now c.args.handle c.args.report c.in_ok-shelf.shelf
-    c.answer_standard-answered.new.shelf c.in_ok-bench.bench c.answer_standard-answered.new.bench c.new-lines.result
+    ends _ _ _ _ c.args.work.list.now _ _ c.in-Some.held.now c.args.work.handle c.args.work.report c.args.shelf.now
+    c.answer_standard-answered.new.shelf c.args.bench.now c.answer_standard-answered.new.bench c.new-lines.result
     c.answer_standard-answered.new.terminal.out.now c.args.out.now c.put_answer-status.new.out c.in-Ok.answer
-    c.put_answer-status.result c.in_ok-shelf.ensures.folder c.in_ok-bench.ensures.folder
-    c.in_ok-bench.ensures.overwrite (c.in-Ok.ensures.consolidated _ _ _ c.args.handle c.args.report refl)
+    c.put_answer-status.result c.requires.media c.requires.output
+    c.requires.careful (c.in-Ok.ensures.consolidated _ _ _ c.args.work.handle c.args.work.report refl)
     (ap Some c.new-lines.ensures.bytes) (rw same at (ap Some (sym c.in-Some.ensures.0))) c.new-lines.ensures.failures
     (rw same at c.in-Some.ensures.1) c.put_answer-status.ensures.refused c.put_answer-status.ensures.done

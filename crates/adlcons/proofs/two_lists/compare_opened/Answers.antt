@@ -1,5 +1,5 @@
 use Rattle.std.proofs.Common.{◌≡◌, sym}
-use Rattle.adlcons.proofs.two_lists.try_compare.Goals as goal
+use Rattle.adlcons.proofs.two_lists.compare_opened.Goals as goal
 
 pub returns-clause-answered : goal.returns-clause-answered
 returns-clause-answered g c = λ some.
@@ -8,12 +8,12 @@ returns-clause-answered g c = λ some.
     rw same (record {
       list = c.deref.result.now;
       other = c.deref-2.result.now;
-      before = c.in_ok-first.first.shelf;
+      before = c.args.first.now.shelf;
       after = c.answer_compare-status.new.first_shelf;
-      other_before = c.in_ok-second.second.shelf;
+      other_before = c.args.second.now.shelf;
       other_after = c.answer_compare-status.new.second_shelf;
-      folder = c.in_ok-first.ensures;
-      other_folder = c.in_ok-second.ensures;
+      folder = c.requires.media;
+      other_folder = c.requires.other_media;
       answered = c.answer_compare-status.ensures.compared some;
     })
 
