@@ -495,14 +495,15 @@ where
     let overwrite = overwrite_for(&request);
     let mut bench = FolderBench::new(rt.alloc(), rt.clone()?, places.out, overwrite)?;
     let mut shelf = ShownShelf::open(session, places.media)?;
-    work_between(session, work, &newer, &mut shelf, &mut bench, out, err)
+    let newer = newer.as_ref().map(|names| names.as_slice());
+    work_between(session, work, newer, &mut shelf, &mut bench, out, err)
 }
 
 /// Answers it between these folders, and tells what was found in both; `newer` are sources written to after the marks.
 fn work_between<R, O: Console, E: Console, L: Progress>(
     session: &Session<'_, R, L>,
     work: Work<'_>,
-    newer: &Option<Vec<String>>,
+    newer: Option<&[String]>,
     shelf: &mut ShownShelf<'_, R, L>,
     bench: &mut FolderBench<R>,
     out: &mut O,
