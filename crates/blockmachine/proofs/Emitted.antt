@@ -154,3 +154,17 @@ handed_out depth all kept frames out are whole fills long each =
     (long ∙ sym (length-take-le n kept.values (omega (arith, most, whole, long))))
     (λ k below. each k below
     ∙ ap (quantized depth) (sym (get_or-take n kept.values k (pos 0) (omega (arith, below, long)))))
+
+-- and so those that are kept at a depth, all of them
+pub each_handed_out : (depth : ℕ) (sums out : List ℤ) → length out ≡ length sums
+    → ((k : ℕ) → k < length out
+    → get_or out k (pos 0) ≡ quantized depth (full_scale depth (get_or sums k (pos 0))))
+    → out ≡ map (quantized depth) (map (full_scale depth) sums)
+each_handed_out depth sums out long each =
+    let full = length-map sums (full_scale depth) in
+    let rounded = length-map (map (full_scale depth) sums) (quantized depth) in
+    ext_get_or (pos 0) out (map (quantized depth) (map (full_scale depth) sums)) (long ∙ sym (rounded ∙ full))
+    (λ k below. each k below
+    ∙ ap (quantized depth) (sym (get_or-map (full_scale depth) sums k (pos 0) (pos 0) (omega (arith, below, long))))
+    ∙ sym (get_or-map (quantized depth) (map (full_scale depth) sums) k (pos 0) (pos 0)
+    (omega (arith, below, long, full))))

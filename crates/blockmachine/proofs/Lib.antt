@@ -2,6 +2,7 @@ pub mod Places
 pub mod Added
 pub mod Bounds
 pub mod UnclippedSums
+pub mod KeptSums
 pub mod Counted
 pub mod Emitted
 pub mod Fits

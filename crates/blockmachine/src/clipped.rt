@@ -6,7 +6,7 @@ ghost use Rattle.blockmachine.specs.Clipped.{IsBetween, TellsClips};
 ghost use Rattle.blockmachine.specs.Lines.{FillFrames};
 
 use crate::sums::Sums;
-use clipping::{Clips, Kept};
+use clipping::Clips;
 use sound_terms::Depth;
 use soundlaw::widen;
 
@@ -48,23 +48,9 @@ impl Sums {
         }
     }
 
-    /// What is clipped of the first sums, which were handed out at this depth as these samples.
-    pub fn clips(&self, depth: Depth, samples: &[i32]) -> Clips
-        requires { FillFrames self.now.extent samples.now }
-        ensures { TellsClips depth self.now samples.now result }
-    {
-        if self.at_depth && self.depth.bits() == depth.bits() {
-            return Clips::of_kept(&Kept {
-                sums: &self.layers[..samples.len()],
-                depth,
-                channels: self.lanes.channels,
-            });
-        }
-        self.clips_one_by_one(depth, samples)
-    }
-
-    /// The same of sums that are kept at another depth, or at full scale.
-    fn clips_one_by_one(&self, depth: Depth, samples: &[i32]) -> Clips
+    /// What is clipped of the first sums, which were handed out at this depth as these samples: one by one, wherever they
+    /// are kept.
+    pub(crate) fn clips_one_by_one(&self, depth: Depth, samples: &[i32]) -> Clips
         requires { FillFrames self.now.extent samples.now }
         ensures { TellsClips depth self.now samples.now result }
     {

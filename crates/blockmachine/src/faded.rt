@@ -49,7 +49,8 @@ fn fade_frames(shape: Shape, depth: Depth, frames: usize, channels: usize, sampl
 }
 
 /// The same. One and two channels have loops of their own.
-fn fade(shape: Shape, format: Format, frames: usize, samples: &mut [i32])
+#[inline(always)]
+fn fade_by_width(shape: Shape, format: Format, frames: usize, samples: &mut [i32])
     requires { AreFrames shape (bits_of format.depth) frames format.channels samples.old }
     ensures { HasFaded shape format.channels (bits_of format.depth) samples.old samples.new }
 {
@@ -58,6 +59,17 @@ fn fade(shape: Shape, format: Format, frames: usize, samples: &mut [i32])
         1 => fade_frames(shape, depth, frames, 1, samples),
         2 => fade_frames(shape, depth, frames, 2, samples),
         channels => fade_frames(shape, depth, frames, channels as usize, samples),
+    }
+}
+
+/// The same. What falls has loops of its own.
+fn fade(shape: Shape, format: Format, frames: usize, samples: &mut [i32])
+    requires { AreFrames shape (bits_of format.depth) frames format.channels samples.old }
+    ensures { HasFaded shape format.channels (bits_of format.depth) samples.old samples.new }
+{
+    match shape {
+        Shape::Fall { .. } => fade_by_width(shape, format, frames, samples),
+        Shape::Flat | Shape::Rise { .. } => fade_by_width(shape, format, frames, samples),
     }
 }
 

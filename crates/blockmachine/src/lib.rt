@@ -14,6 +14,7 @@ mod layers;
 mod machine;
 mod output;
 mod slope;
+mod storing;
 mod stretches;
 mod sums;
 

@@ -24,7 +24,6 @@ use crate::stretches::add_stretch;
 use crate::sums::Sums;
 use clipping::Clips;
 use devices::Shelf;
-use pcm::pack;
 use sound_terms::{Depth, Format, Instruction, Program, Shape, Stretch};
 use sourceindex::Bound;
 use std::alloc::Global;
@@ -138,7 +137,7 @@ impl Machine {
         Ok(Machine { sums, buffer })
     }
 
-    /// Adds what these instructions play to sums of zero, and hands the sums out. What of them is clipped is returned.
+    /// Adds what these instructions play to sums of zero, and hands the sums out.
     fn run_lines<S: Shelf>(
         &mut self,
         lines: &[Instruction],
@@ -146,15 +145,46 @@ impl Machine {
         sounds: &[Sound],
         shelf: &mut S,
         out: &mut [i32],
-    ) -> Result<Clips, MachineFault>
+    ) -> Result<(), MachineFault>
         requires { CanSum sounds.now self.old lines.now (length out.old) }
         ensures ran { IsTrue (S.honest shelf.old)
             → OnOk result ((frames : ℕ) (start : BlockState) → length out.old ≡ frames * self.old.channels
             → out.new ≡ (executed_all (reading_by (S.stored shelf.old) sounds.now) self.old.channels
             (instruction.Start frames ∷ (lines.now ++ instruction.Emit depth ∷ [])) start).out) }
         ensures fit { OnOk result (All (FitsDepth (bits_of depth)) out.new) }
+        ensures full { IsTrue (S.honest shelf.old)
+            → OnOk result (All (PlaysFull (reading_by (S.stored shelf.old) sounds.now)) lines.now) }
+        ensures ready { self.new ≡ self.old }
+        ensures source { IfErr result IsSource }
+        ensures only_reads { OnlyReads S.Shelf shelf.old shelf.new result (λ fault. IsSource fault)
+            (λ fault failed. FailsAt sounds.now fault failed) }
+    {
+        let sums = &mut self.sums;
+        sum_all(lines, depth, sounds, shelf, &mut self.buffer, sums)?;
+        sums.emit(depth, out);
+        Ok(())
+    }
+
+    /// Adds what these instructions play to sums of zero, and writes the sums over `bytes` as a file of this depth stores
+    /// them, with `samples` as room for them. What of them is clipped is returned.
+    fn store_lines<S: Shelf>(
+        &mut self,
+        lines: &[Instruction],
+        depth: Depth,
+        sounds: &[Sound],
+        shelf: &mut S,
+        samples: &mut [i32],
+        bytes: &mut [u8],
+    ) -> Result<Clips, MachineFault>
+        requires sum { CanSum sounds.now self.old lines.now (length samples.old) }
+        requires room { length bytes.old ≡ length samples.old * (bits_of depth / 8) }
+        ensures ran { IsTrue (S.honest shelf.old)
+            → OnOk result ((frames : ℕ) (start : BlockState) → length samples.old ≡ frames * self.old.channels
+            → bytes.new ≡ flat_map (sample_bytes (bits_of depth))
+            (executed_all (reading_by (S.stored shelf.old) sounds.now) self.old.channels
+            (instruction.Start frames ∷ (lines.now ++ instruction.Emit depth ∷ [])) start).out) }
         ensures clips { IsTrue (S.honest shelf.old)
-            → IfOk result (λ clips. (frames : ℕ) (start : BlockState) → length out.old ≡ frames * self.old.channels
+            → IfOk result (λ clips. (frames : ℕ) (start : BlockState) → length samples.old ≡ frames * self.old.channels
             → IsClippingOf (bits_of depth) self.old.channels
             (block_sums (executed_all (reading_by (S.stored shelf.old) sounds.now) self.old.channels
             (instruction.Start frames ∷ (lines.now ++ instruction.Emit depth ∷ [])) start).sums
@@ -168,8 +198,7 @@ impl Machine {
     {
         let sums = &mut self.sums;
         sum_all(lines, depth, sounds, shelf, &mut self.buffer, sums)?;
-        sums.emit(depth, out);
-        Ok(sums.clips(depth, out))
+        Ok(sums.store(depth, samples, bytes))
     }
 
     /// Runs the program of a block over the files that a project is bound to, and writes the samples that it hands out,
@@ -284,8 +313,7 @@ impl Machine {
         }
         let instructions = program.as_slice();
         let lines = &instructions[1..instructions.len() - 1];
-        let clips = self.run_lines(lines, depth, sounds, shelf, samples)?;
-        pack(depth, samples, bytes);
+        let clips = self.store_lines(lines, depth, sounds, shelf, samples, bytes)?;
         Ok(clips)
     }
 }

@@ -1,6 +1,7 @@
 // The share of a sample under a fraction, by a product of 128 bits.
-ghost use Rattle.std.specs.Prelude.{◌≡◌, ◌+◌, ◌*◌, ◌^◌, ◌≤◌, pos, neg_ℤ, ◌+ℤ◌, ◌*ℤ◌, ◌≤ℤ◌};
+ghost use Rattle.std.specs.Prelude.{◌≡◌, ◌+◌, ◌*◌, ◌^◌, ◌<◌, ◌≤◌, pos, neg_ℤ, ◌+ℤ◌, ◌*ℤ◌, ◌≤ℤ◌};
 ghost use Rattle.std.specs.Int.{int_div_euclid};
+ghost use Rattle.sampletime.specs.TimeCode.{day};
 ghost use Rattle.sound_terms.specs.Depth.{bits_of};
 ghost use Rattle.sound_terms.specs.Mix.{full_scale, quantized, share_of};
 ghost use Rattle.pcm.specs.Samples.{FitsDepth};
@@ -48,19 +49,10 @@ impl Gain {
     {
         match depth {
             Depth::Sixteen | Depth::TwentyFour => self.rounded_by_parts(sample, depth),
-            Depth::ThirtyTwo => self.rounded_at_full_scale(sample, depth),
+            Depth::ThirtyTwo => {
+                rounded_at_full_scale(sample, depth, self.fraction.num, self.fraction.den)
+            }
         }
-    }
-
-    /// The same at full scale.
-    #[cold]
-    #[inline(never)]
-    fn rounded_at_full_scale(&self, sample: i32, depth: Depth) -> i32
-        requires { FitsDepth (bits_of depth) sample }
-        ensures { result ≡ quantized (bits_of depth) (share_of (full_scale (bits_of depth) sample)
-            (self.now.fraction.num, self.now.fraction.den)) }
-    {
-        finish(self.share(widen(sample, depth)), depth)
     }
 
     /// The same of a sample of up to 24 bits.
@@ -77,9 +69,23 @@ impl Gain {
         if whole_parts(product + size) == share {
             share as i32
         } else {
-            self.rounded_at_full_scale(sample, depth)
+            rounded_at_full_scale(sample, depth, self.fraction.num, self.fraction.den)
         }
     }
+}
+
+/// The share of a sample of this depth, rounded to the depth, made at full scale. It takes a fraction's numbers, not a
+/// `Gain`, which a loop over frames would have to store for it.
+#[cold]
+#[inline(never)]
+fn rounded_at_full_scale(sample: i32, depth: Depth, num: u64, den: u64) -> i32
+    requires fit { FitsDepth (bits_of depth) sample }
+    requires fraction { num ≤ den }
+    requires some { 0 < den }
+    requires in_day { den ≤ day }
+    ensures { result ≡ quantized (bits_of depth) (share_of (full_scale (bits_of depth) sample) (num, den)) }
+{
+    finish(contribution(widen(sample, depth), num, den), depth)
 }
 
 /// So many parts of 2^39 of a sample of up to 24 bits, and half of them all, since what follows rounds down.

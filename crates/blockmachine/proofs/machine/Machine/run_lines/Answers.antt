@@ -1,4 +1,4 @@
-use Rattle.std.proofs.Common.{◌≡◌, ℕ, ◌+◌, ◌-◌, ◌*◌, [], ◌∷◌, IsTrue, length, refl, sym, ap, ◌∙◌, subst}
+use Rattle.std.proofs.Common.{◌≡◌, ℕ, ◌+◌, ◌-◌, ◌*◌, [], ◌∷◌, IsTrue, length, refl, sym, ap, ◌∙◌}
 use Rattle.std.proofs.lemmas.List.Elements.{All-weaker}
 use Rattle.std.specs.Prelude.{ℤ, pos, slice_index_or}
 use Rattle.sound_terms.specs.declared.block.Instruction.TheVariants.{Emit}
@@ -8,7 +8,6 @@ use Rattle.sound_terms.specs.Mix.{Reading}
 use Rattle.sound_terms.specs.Blocks.{BlockState, IsFormed, block_samples, executed_all}
 use Rattle.sound_terms.specs.BlockLaws.{executed_all-append, frames_kept}
 use Rattle.sound_terms.specs.Sounds.{reading_by}
-use Rattle.clipping.specs.Clips.{IsClippingOf, block_sums}
 use Rattle.blockmachine.specs.Lines.{CanAdd, silent}
 use Rattle.blockmachine.specs.Sums.{AreSums, Extent}
 use Rattle.blockmachine.proofs.Fits.{fits_block}
@@ -22,17 +21,17 @@ same_channels : (depth : Depth) (n m : ℕ) (all : ℕ → ℕ → ℤ) (frames 
 same_channels depth n m all frames same = ap (λ k. block_samples (bits_of depth) all k 0 frames) same
 
 -- the sums have the channels of the machine
-as_wide : (g : Over) (c : goal.After-clips g) → c.sum_all.new.sums.extent.channels ≡ c.args.self.now.channels
+as_wide : (g : Over) (c : goal.After-out-1 g) → c.sum_all.new.sums.extent.channels ≡ c.args.self.now.channels
 as_wide g c = ap (λ (e : Extent). e.channels) (c.sum_all.ensures.same_extent ∙ c.self.view_is)
 
 -- what the lines play in a block of so many frames
-abbrev added_to : (g : Over) (c : goal.After-clips g) → BlockState → BlockState
+abbrev added_to : (g : Over) (c : goal.After-out-1 g) → BlockState → BlockState
 added_to g c begun =
     executed_all (reading_by (g.S.Shelf.stored c.args.shelf.now) c.args.sounds.now) c.args.self.now.channels
     c.args.lines.now begun
 
 -- and that it was summed
-summed : (g : Over) (c : goal.After-clips g) → IsTrue (g.S.Shelf.honest c.args.shelf.now)
+summed : (g : Over) (c : goal.After-out-1 g) → IsTrue (g.S.Shelf.honest c.args.shelf.now)
     → (frames : ℕ) (start : BlockState)
     → AreSums c.sum_all.new.sums (added_to g c (silent (record start { frames = frames }))).sums
 summed g c honest frames start =
@@ -65,21 +64,3 @@ returns-clause-fit g c =
     c.requires.whole.2 ∙ ap (λ n. c.requires.whole.0 * n) (sym same) in
     rw (c.emit.ensures all (λ i channel room first there. refl) c.requires.whole.0 long)
     (fits_block c.args.depth all channels 0 c.requires.whole.0)
-
-pub returns-clause-clips : goal.returns-clause-clips
-returns-clause-clips g c = λ honest frames start long.
-    let reading : Reading = reading_by (g.S.Shelf.stored c.args.shelf.now) c.args.sounds.now in
-    let bits = bits_of c.args.depth in
-    let channels = c.args.self.now.channels in
-    let lines = c.args.lines.now in
-    let begun : BlockState = silent (record start { frames = frames }) in
-    let added = added_to g c begun in
-    let sums = summed g c honest frames start in
-    let same = as_wide g c in
-    let room = long ∙ ap (λ n. frames * n) (sym same) in
-    let found : IsClippingOf bits c.sum_all.new.sums.extent.channels
-    (block_sums added.sums c.sum_all.new.sums.extent.channels 0 frames) c.clips.result =
-    c.clips.ensures added.sums sums frames (c.emit.auto.out ∙ room) (c.emit.ensures added.sums sums frames room) in
-    let here = subst (λ (n : ℕ). IsClippingOf bits n (block_sums added.sums n 0 frames) c.clips.result) same found in
-    subst (λ (state : BlockState). IsClippingOf bits channels (block_sums state.sums channels 0 frames) c.clips.result)
-    (sym (executed_all-append reading channels lines (Emit c.args.depth ∷ []) begun)) here

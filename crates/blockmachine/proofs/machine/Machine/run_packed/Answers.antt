@@ -60,8 +60,8 @@ returns-in-Some-clause-clips g c = λ honest frames start whole.
     (length c.args.samples.now / channels)) c.in-Some.clips) told
     ((rw c.in-Some.is at (c.in_ok-played.ensures.clips honest)) start))
 
-pub run_lines-requires : goal.run_lines-requires
-run_lines-requires g c =
+pub store_lines-requires-clause-sum : goal.store_lines-requires-clause-sum
+store_lines-requires-clause-sum g c =
     let fits = c.requires.fits in
     record {
       lines = added_between c.args.sounds.now c.args.self.now fits.0 c.args.depth c.as_slice-instructions.result.now
