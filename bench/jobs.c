@@ -1,7 +1,7 @@
-// jobs SOURCE TARGET JOB PIECE: copies a file as the program renders one straight through, and does nothing else. The
-// target and its marks, a byte for each 24,576 bytes, are laid out and synced; then each JOB bytes are written and
-// synced, and their marks are written and synced. With PIECE 0 a job is read whole, before it is written, both by 256
-// KiB at once; else it is read and written by so many bytes at once.
+// jobs SOURCE TARGET JOB PIECE FIRST: copies a file as the program renders one straight through, and does nothing else.
+// The copy begins at byte FIRST of the target. The target and its marks, a byte for each 24,576 bytes, are laid out and
+// synced; then each JOB bytes are written and synced, and their marks are written and synced. With PIECE 0 a job is read
+// whole, before it is written, both by 256 KiB at once; else it is read and written by so many bytes at once.
 
 #include <err.h>
 #include <fcntl.h>
@@ -45,28 +45,29 @@ static size_t least(size_t one, size_t other)
     return one < other ? one : other;
 }
 
-static void copy_whole(int source, int target, char *bytes, size_t length, off_t at)
+static void copy_whole(int source, int target, char *bytes, size_t length, off_t at, off_t first)
 {
     for (size_t done = 0; done < length; done += AT_ONCE)
         read_all(source, bytes + done, least(AT_ONCE, length - done), at + done);
     for (size_t done = 0; done < length; done += AT_ONCE)
-        write_all(target, bytes + done, least(AT_ONCE, length - done), at + done);
+        write_all(target, bytes + done, least(AT_ONCE, length - done), first + at + done);
 }
 
-static void copy_pieces(int source, int target, char *bytes, size_t length, off_t at, size_t piece)
+static void copy_pieces(int source, int target, char *bytes, size_t length, off_t at, off_t first, size_t piece)
 {
     for (size_t done = 0; done < length; done += piece) {
         size_t part = least(piece, length - done);
         read_all(source, bytes, part, at + done);
-        write_all(target, bytes, part, at + done);
+        write_all(target, bytes, part, first + at + done);
     }
 }
 
 int main(int count, char **words)
 {
-    if (count != 5)
-        errx(2, "usage: jobs SOURCE TARGET JOB PIECE");
+    if (count != 6)
+        errx(2, "usage: jobs SOURCE TARGET JOB PIECE FIRST");
     size_t job = strtoul(words[3], NULL, 10), piece = strtoul(words[4], NULL, 10);
+    off_t first = strtoul(words[5], NULL, 10);
     int source = open(words[1], O_RDONLY);
     struct stat state;
     if (source < 0 || fstat(source, &state) || job == 0)
@@ -74,7 +75,7 @@ int main(int count, char **words)
     size_t length = state.st_size;
     char name[4096];
     snprintf(name, sizeof name, "%s.marks", words[2]);
-    int target = lay_out(words[2], length), marks = lay_out(name, length / BLOCK + 1);
+    int target = lay_out(words[2], first + length), marks = lay_out(name, length / BLOCK + 1);
     char *bytes = malloc(piece ? piece : job), *set = malloc(length / BLOCK + 1);
     if (!bytes || !set)
         err(1, "memory");
@@ -82,12 +83,12 @@ int main(int count, char **words)
     for (size_t at = 0; at < length; at += job) {
         size_t part = least(job, length - at);
         if (piece)
-            copy_pieces(source, target, bytes, part, at, piece);
+            copy_pieces(source, target, bytes, part, at, first, piece);
         else
-            copy_whole(source, target, bytes, part, at);
+            copy_whole(source, target, bytes, part, at, first);
         sync_file(target);
-        size_t first = at / BLOCK;
-        write_all(marks, set, (at + part) / BLOCK - first, first);
+        size_t block = at / BLOCK;
+        write_all(marks, set, (at + part) / BLOCK - block, block);
         sync_file(marks);
     }
     return 0;

@@ -116,10 +116,10 @@ def on_the_disk(command: str, *options: str, reports: tuple = ()):
 
 
 def lost_by_a_sync(scene: Scene) -> None:
-    """Jobs of 32 blocks are synced by fours. Where a sync of them fails the system may have lost the bytes
-    of all four, and the next sync wouldn't tell, so the last of them isn't taken for done though the device works again:
-    66, without a mark. What was marked before stays so, and the rendering is gone on with."""
-    frames = 4096 * 200
+    """Jobs of 96 blocks are synced by twos. Where a sync of them fails the system may have lost the bytes of both, and
+    the next sync wouldn't tell, so the last of them isn't taken for done though the device works again: 66, without a
+    mark. What was marked before stays so, and the rendering is gone on with."""
+    frames = 4096 * 300
     media = {"A.wav": wave([1, -2, 3, 4] * (frames // 4))}
     text = model.list_text(
         [model.source_line(1, "A.wav", MIDNIGHT)],
@@ -133,7 +133,7 @@ def lost_by_a_sync(scene: Scene) -> None:
     sound, marks = "sync render.wav", "sync render.marks"
     made = [sound, f"sync {OUT}", marks, f"sync {OUT}", marks, marks, marks]
     same("what is synced", log[:-1], [*made, sound, marks, sound, marks, sound, marks])
-    for fails, job, marked in ((8, 3, 0), (10, 6, 128)):
+    for fails, job, marked in ((8, 1, 0), (10, 3, 192)):
         scene.empty_out()
         got, log = run_logged(scene, words, environment, fails)
         same_outcome(got, 1, f"refused 66 at job {job}")

@@ -89,16 +89,16 @@ AreLongest most stretches = (k : ℕ) (d : Stretch) → k + 1 < length stretches
     → (slice_index_or stretches k d).end - (slice_index_or stretches k d).first ≡ most
 
 -- of how many blocks of so many bytes the marks are set together: of one; or, for speed, where there are more than 64, of
--- a thirty-second of them, but of at most 16 MiB, and at least 1 MiB and one block
+-- a thirty-second of them, but of at most 16 MiB, and at least 2 MiB and one block
 abbrev pub blocks_together : JobLength → (blocks block_size : ℕ) → ℕ
 blocks_together length_of_jobs.OneBlock blocks block_size = 1
 blocks_together length_of_jobs.Longer blocks block_size =
-    cond (nat_le blocks 64) 1 (max (max (min (blocks / 32) (16777216 / block_size)) (1048576 / block_size)) 1)
+    cond (nat_le blocks 64) 1 (max (max (min (blocks / 32) (16777216 / block_size)) (2097152 / block_size)) 1)
 
--- how many of these a job has: as many as make 256 KiB, and at least one; more where there were more than 65,536 jobs
+-- how many of these a job has: as many as make 768 KiB, and at least one; more where there were more than 65,536 jobs
 abbrev pub blocks_in_job : JobLength → (blocks block_size : ℕ) → ℕ
 blocks_in_job jobs blocks block_size =
-    min (blocks_together jobs blocks block_size) (max (max (262144 / block_size) (blocks / 65536)) 1)
+    min (blocks_together jobs blocks block_size) (max (max (786432 / block_size) (blocks / 65536)) 1)
 
 -- so many jobs have these blocks
 abbrev pub jobs_together : JobLength → (blocks block_size : ℕ) → ℕ

@@ -12,9 +12,9 @@ use std::alloc::{AllocError, Global};
 pub enum JobLength {
     /// One block, as the rule of the board has it: whatever is lost with a job is lost of one block.
     OneBlock,
-    /// For speed, where there are more than 64 blocks: as many as make 256 KiB, and one at least; else one. Of more
+    /// For speed, where there are more than 64 blocks: as many as make 768 KiB, and one at least; else one. Of more
     /// than 65,536 such jobs each is longer. The marks of a thirty-second of all blocks are set together, but of no
-    /// more than make 16 MiB, of no fewer than make 1 MiB, and of one at least.
+    /// more than make 16 MiB, of no fewer than make 2 MiB, and of one at least.
     Longer,
 }
 
@@ -32,13 +32,14 @@ const FEW: u32 = 64;
 const LONGEST: u32 = 16_777_216;
 
 /// The bytes that are marked together of a short file.
-const SHORTEST: u32 = 1_048_576;
+const SHORTEST: u32 = 2_097_152;
 
 /// How many times marks are set, where no time is bounded by its bytes.
 const TIMES: u32 = 32;
 
 /// The most bytes of a job of more than one block: so many stay in a processor's cache between being made and written.
-const JOB: u32 = 262_144;
+/// With fewer the system keeps what is written in many small parts, since no job begins where a page does.
+const JOB: u32 = 786_432;
 
 /// How many jobs there are about, where these are longer for it.
 const JOBS: u32 = 65_536;

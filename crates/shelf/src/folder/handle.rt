@@ -55,10 +55,14 @@ impl<F: OpenFile + FileExt + Drop> Handle<F> {
         self.write_pieces(at, bytes)
     }
 
-    /// Writes the bytes from `at` on, piece by piece.
+    /// Writes the bytes from `at` on, piece by piece. Each but the last ends at a multiple of so many bytes in the file,
+    /// so that the system keeps it in few and large parts.
     fn write_pieces(&self, at: u64, bytes: &[u8]) -> io::Result<()> {
-        let mut at = at;
-        for piece in bytes.chunks(AT_ONCE) {
+        let room = AT_ONCE - (at % AT_ONCE as u64) as usize;
+        let (first, others) = bytes.split_at(room.min(bytes.len()));
+        self.file.write_all_at(first, at)?;
+        let mut at = at.saturating_add(first.len() as u64);
+        for piece in others.chunks(AT_ONCE) {
             self.file.write_all_at(piece, at)?;
             at = at.saturating_add(piece.len() as u64);
         }

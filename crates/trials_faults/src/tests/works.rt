@@ -259,7 +259,7 @@ impl Job {
         Ok(job)
     }
 
-    /// The rendering of 200 blocks of two channels of 24 bits, in longer jobs of ten, the marks of four of which are set
+    /// The rendering of 200 blocks of two channels of 24 bits, in longer jobs of 32, the marks of two of which are set
     /// together.
     pub(crate) fn of_many_blocks(alloc: Global) -> Result<Self, Fail> {
         let source = sound(alloc, MANY_FRAMES)?;
