@@ -24,6 +24,7 @@ use consolidate::Fault;
 use explanations::Explanation;
 use opening::{further_faults, open_project};
 use picture::{Part, Picture};
+use projectcheck::Checked;
 use shelf::{Reasons, Shelf};
 use sourceindex::bind;
 use std::alloc::{AllocError, Global};
@@ -76,34 +77,66 @@ fn draw<S: Shelf + Reasons, O: Console, E: Console, M: Meter, A: Asides>(
     ensures consoles { GivesBack terminal.old terminal.new }
     ensures statuses { result ≤ 1 }
 {
-    let handle = drawing.handle;
-    let name = last_part(drawing.path);
     let outcome = open_project(alloc, list, shelf);
     tell_changed(alloc, shelf, terminal.err);
     let fault = match outcome {
-        Ok(checked) if part.is_empty(checked.project().events()) => Fault::EmptyRange,
-        Ok(checked) => match Picture::of(alloc, &checked, name, handle) {
-            Ok(picture) => {
-                terminal.out.print(picture.of_part(part));
-                report_room(room_of(alloc, &checked, handle), terminal.err);
-                return 0;
-            }
-            Err(fault) => Fault::Runs(fault),
-        },
+        Ok(checked) => return draw_checked(alloc, list, drawing, part, &checked, shelf, terminal),
         Err(fault) => Fault::Project(fault),
     };
-    let explanation = Explanation::of(&fault, list, shelf.reason(), None);
+    let status = refuse_drawing(alloc, list, &fault, shelf, terminal);
+    if let Fault::Project(of_list) = &fault {
+        let name = last_part(drawing.path);
+        draw_refused(alloc, name, list, part, of_list, shelf, terminal.out);
+    }
+    status
+}
+
+/// Draws this part of an accepted list.
+fn draw_checked<S: Reasons, O: Console, E: Console, M: Meter, A: Asides>(
+    alloc: Global,
+    list: &[u8],
+    drawing: Drawing<'_>,
+    part: Part,
+    checked: &Checked,
+    shelf: &S,
+    terminal: &mut Terminal<O, E, M, A>,
+) -> u8
+    ensures consoles { GivesBack terminal.old terminal.new }
+    ensures statuses { result ≤ 1 }
+{
+    if part.is_empty(checked.project().events()) {
+        return refuse_drawing(alloc, list, &Fault::EmptyRange, shelf, terminal);
+    }
+    match Picture::of(alloc, checked, last_part(drawing.path), drawing.handle) {
+        Ok(picture) => {
+            terminal.out.print(picture.of_part(part));
+            report_room(room_of(alloc, checked, drawing.handle), terminal.err);
+            0
+        }
+        Err(fault) => refuse_drawing(alloc, list, &Fault::Runs(fault), shelf, terminal),
+    }
+}
+
+/// Prints why nothing is drawn of a list, or not all of it, and answers 1.
+fn refuse_drawing<S: Reasons, O: Console, E: Console, M: Meter, A: Asides>(
+    alloc: Global,
+    list: &[u8],
+    fault: &Fault,
+    shelf: &S,
+    terminal: &mut Terminal<O, E, M, A>,
+) -> u8
+    ensures consoles { GivesBack terminal.old terminal.new }
+    ensures statuses { result ≡ 1 }
+{
+    let explanation = Explanation::of(fault, list, shelf.reason(), None);
     refuse_on(
         alloc,
         list,
-        &fault,
+        fault,
         explanation,
         &terminal.asides,
         terminal.err,
     );
-    if let Fault::Project(of_list) = &fault {
-        draw_refused(alloc, name, list, part, of_list, shelf, terminal.out);
-    }
     1
 }
 
