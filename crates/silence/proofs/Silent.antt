@@ -1,6 +1,6 @@
 -- A piece is called silent where what it plays of its file is zero.
-use Rattle.std.proofs.Common.{◌≡◌, ℕ, ◌+◌, ◌-◌, Bool, true, false, List, None, Some, refl, sym, ◌∙◌, IsTrue, arith}
-use Rattle.std.specs.Prelude.{◌↔◌, slice_get}
+use Rattle.std.proofs.Common.{◌≡◌, ℕ, ◌+◌, ◌-◌, Bool, true, false, List, None, Some, refl, sym, ap, ◌∙◌, IsTrue, arith}
+use Rattle.std.specs.Prelude.{ℤ, ◌↔◌, slice_get}
 use Rattle.sound_terms.specs.declared.piece.Piece.{Piece}
 use Rattle.sound_terms.specs.Sounds.{SoundFacts, reading_by}
 use Rattle.work_terms.specs.Disk.{Files}
@@ -9,6 +9,7 @@ use Rattle.passes.specs.Laws.{silent_is}
 use Rattle.devices.specs.declared.fault.ShelfFault.{ShelfFault}
 use Rattle.devices.specs.declared.fault.ShelfFault.TheVariants as shelf
 use Rattle.silence.specs.declared.part.Part.{Part}
+use Rattle.silence.specs.Holding.{Held, Holds}
 use Rattle.silence.specs.Zero.{IsZero, part_of, sound_by}
 
 pub device_of : (fault : ShelfFault) → (fault ≡ shelf.NotFound → ⊥) → fault ≡ shelf.Device
@@ -59,3 +60,32 @@ module _ (files : Files) (sounds : List SoundFacts) (p : Piece) where
   -- of no file nothing is heard
   pub silent_nowhere : slice_get sounds p.file ≡ None → true ≡ is_silent_in (reading_by files sounds) p
   silent_nowhere none = sym ((silent_is (reading_by files sounds) p).1 (λ j i wide below. rw none refl))
+
+-- what is held is so of equal samples
+pub held_as : (sound other : ℕ → ℕ → ℤ) (held : Held) → ((channel frame : ℕ) → sound channel frame ≡ other channel frame)
+    → Holds sound held → Holds other held
+held_as sound other held same holds i channel below first last =
+    let told = holds i channel below first last in (
+      λ silent. sym (same channel (held.from + i)) ∙ told.0 silent,
+      λ silent. told.1 (same channel (held.from + i) ∙ silent),
+    )
+
+-- where nothing is held that is so of any
+pub held_nothing : (sound : ℕ → ℕ → ℤ) (held : Held) → held.count ≡ 0 → Holds sound held
+held_nothing sound held none i channel below first last = absurd (omega (arith, none, below))
+
+module _ (files : Files) (sounds : List SoundFacts) (file : ℕ) (facts : SoundFacts)
+    (there : slice_get sounds file ≡ Some facts) (held : Held) where
+  -- what is held of the file of this number, by its sound
+  pub held_there : Holds (reading_by files sounds held.file) held → held.file ≡ file → Holds (sound_by files facts) held
+  held_there holds same =
+      held_as (reading_by files sounds held.file) (sound_by files facts) held
+      (λ channel frame. ap (λ n. reading_by files sounds n channel frame) same
+      ∙ heard_there files sounds file facts there channel frame) holds
+
+  -- and by its number
+  pub held_again : Holds (sound_by files facts) held → held.file ≡ file → Holds (reading_by files sounds held.file) held
+  held_again holds same =
+      held_as (sound_by files facts) (reading_by files sounds held.file) held
+      (λ channel frame. sym (heard_there files sounds file facts there channel frame)
+      ∙ ap (λ n. reading_by files sounds n channel frame) (sym same)) holds

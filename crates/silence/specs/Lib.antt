@@ -1,3 +1,4 @@
 pub mod Fault
+pub mod Holding
 pub mod Known
 pub mod Zero

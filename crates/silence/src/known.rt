@@ -4,12 +4,13 @@ ghost use Rattle.sound_terms.specs.Mix.{Reading};
 ghost use Rattle.sound_terms.specs.Sounds.{SoundFacts, reading_by};
 ghost use Rattle.devices.specs.Fault.{IsThere};
 ghost use Rattle.devices.specs.Frame.{OnlyReads};
+ghost use Rattle.silence.specs.Holding.{Holds};
 ghost use Rattle.silence.specs.Known.{IsSo, Reaches, Tells};
 ghost use Rattle.silence.specs.Zero.{LiesIn};
 
 use crate::part::Part;
 use crate::progress::Looking;
-use crate::room::Room;
+use crate::window::Window;
 use crate::zeros::first_sounding;
 use devices::{Shelf, ShelfFault, Watch};
 use wavread::Sound;
@@ -89,15 +90,21 @@ pub fn looked_at<S: Shelf, W: Watch>(
     part: &Part,
     sound: &Sound,
     shelf: &mut S,
-    room: &mut Room,
+    window: &mut Window,
     looking: &mut Looking<W>,
 ) -> Result<Known, ShelfFault>
     requires inside { LiesIn sound.now part.now }
     requires reaches { Reaches known known.file part.now }
     ensures so { IsTrue (S.honest shelf.old) → (sounds : List SoundFacts) → slice_get sounds known.file ≡ Some sound.now
         → IsSo (reading_by (S.stored shelf.old) sounds) known
+        → Holds (reading_by (S.stored shelf.old) sounds window.old.file) window.old
         → IfOk result (IsSo (reading_by (S.stored shelf.old) sounds)) }
-    ensures tells { IsTrue (S.honest shelf.old) → IfOk result (λ new. Tells new known.file part.now) }
+    ensures tells { IsTrue (S.honest shelf.old) → (sounds : List SoundFacts) → slice_get sounds known.file ≡ Some sound.now
+        → Holds (reading_by (S.stored shelf.old) sounds window.old.file) window.old
+        → IfOk result (λ new. Tells new known.file part.now) }
+    ensures held { IsTrue (S.honest shelf.old) → (sounds : List SoundFacts) → slice_get sounds known.file ≡ Some sound.now
+        → Holds (reading_by (S.stored shelf.old) sounds window.old.file) window.old
+        → Holds (reading_by (S.stored shelf.old) sounds window.new.file) window.new }
     ensures not_missing { IsThere result }
     ensures only_reads { OnlyReads S.Shelf shelf.old shelf.new result (λ fault. fault ≡ ShelfFault.Device)
         (λ _ failed. failed sound.now.name) }
@@ -109,6 +116,6 @@ pub fn looked_at<S: Shelf, W: Watch>(
         from: known.part.to,
         ..*part
     };
-    let found = first_sounding(&rest, sound, shelf, room, looking)?;
+    let found = first_sounding(&rest, known.file, sound, shelf, window, looking)?;
     Ok(known.until(found, part.to))
 }

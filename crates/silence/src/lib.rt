@@ -5,10 +5,10 @@ mod known;
 mod part;
 mod pieces;
 mod progress;
-mod room;
 mod search;
 mod silences;
 mod turns;
+mod window;
 mod zeros;
 
 pub use silences::silent_of;

@@ -1,17 +1,17 @@
 // A search for silence in opened sound files.
-ghost use Rattle.std.specs.Prelude.{◌≡◌, slice_get, IfOk, IsTrue, MatchOption, None, OnOk, OnErr, Some};
+ghost use Rattle.std.specs.Prelude.{◌≡◌, slice_get, IfOk, IsTrue, MatchOption, None, Some};
 ghost use Rattle.sound_terms.specs.Groups.{IsPiece};
 ghost use Rattle.sound_terms.specs.Mix.{Reading};
 ghost use Rattle.sound_terms.specs.Sounds.{reading_by};
 ghost use Rattle.passes.specs.Silent.{IsDevice, is_silent_in};
 ghost use Rattle.devices.specs.Frame.{OnlyReads};
 ghost use Rattle.silence.specs.Fault.{FailsAt};
-ghost use Rattle.silence.specs.Known.{IsSo};
+ghost use Rattle.silence.specs.Holding.{IsSearched};
 
 use crate::known::{Known, looked_at};
 use crate::part::Part;
 use crate::progress::Looking;
-use crate::room::Room;
+use crate::window::Window;
 use devices::{Shelf, Watch};
 use groups::Piece;
 use passes::PassFault;
@@ -27,30 +27,29 @@ fn sound_of(sounds: &[Sound], file: u32) -> Option<&Sound>
     sounds.get(file as usize)
 }
 
-/// Room for some frames of every file, and what is known of the last file that was looked at.
-/// A clause sees what is known.
+/// What is known of the last file that was looked at, and frames of the last one that was read. A clause sees both.
 #[derive(Drop)]
 pub struct Search {
     known: Known,
-    room: Room,
+    window: Window,
 }
 
 impl Model for Search {
-    ghost use Rattle.silence.specs.declared.known.Known.{Known};
+    ghost use Rattle.silence.specs.Holding.{Searched};
 
-    ghost Value = { Known };
+    ghost Value = { Searched };
 
-    ghost view = { λ search. search.known };
+    ghost view = { λ search. record { known = search.known; held = search.window } };
 }
 
 impl Search {
     /// A search that knows nothing yet.
     pub fn new(alloc: Global) -> Result<Self, AllocError>
-        ensures { (reading : Reading) → IfOk result (IsSo reading) }
+        ensures { (reading : Reading) → IfOk result (IsSearched reading) }
     {
         Ok(Search {
             known: Known::NOTHING,
-            room: Room::new(alloc)?,
+            window: Window::new(alloc)?,
         })
     }
 
@@ -63,11 +62,10 @@ impl Search {
         looking: &mut Looking<W>,
     ) -> Result<bool, PassFault>
         requires { IsPiece piece.now }
-        ensures answer { IsTrue (S.honest shelf.old) → IsSo (reading_by (S.stored shelf.old) sounds.now) self.old
+        ensures answer { IsTrue (S.honest shelf.old) → IsSearched (reading_by (S.stored shelf.old) sounds.now) self.old
             → IfOk result (λ silent. silent ≡ is_silent_in (reading_by (S.stored shelf.old) sounds.now) piece.now) }
-        ensures known { IsTrue (S.honest shelf.old) → IsSo (reading_by (S.stored shelf.old) sounds.now) self.old
-            → OnOk result (IsSo (reading_by (S.stored shelf.old) sounds.now) self.new) }
-        ensures unchanged { OnErr result (self.new ≡ self.old) }
+        ensures searched { IsTrue (S.honest shelf.old) → IsSearched (reading_by (S.stored shelf.old) sounds.now) self.old
+            → IsSearched (reading_by (S.stored shelf.old) sounds.now) self.new }
         ensures only_reads { OnlyReads S.Shelf shelf.old shelf.new result IsDevice (FailsAt sounds.now) }
     {
         let Some(sound) = sound_of(sounds, piece.file) else {
@@ -75,7 +73,7 @@ impl Search {
         };
         let part = Part::inside(piece, sound);
         let known = self.known.up_to(piece.file, &part);
-        match looked_at(known, &part, sound, shelf, &mut self.room, looking) {
+        match looked_at(known, &part, sound, shelf, &mut self.window, looking) {
             Ok(known) => {
                 self.known = known;
                 Ok(part.to <= known.part.to)

@@ -141,12 +141,12 @@ const REST_RENDERED: [Calls; 6] = [
 const RESUMED: [Calls; 2] = [(2, RENDERING), (4, MARKS)];
 
 /// The calls of the sources of a consolidation: its list is opened, and both fades and what lies between them are asked
-/// for silence.
-const HEARD: [Calls; 2] = [(5, Part::Open), (3, Part::Hear)];
+/// for silence, in one read.
+const HEARD: [Calls; 2] = [(5, Part::Open), (1, Part::Hear)];
 
 /// Where a report is asked for, the frames of the first medium are read for it, then the length and the bytes of the
 /// source as a whole, and then the frames of the second.
-const HEARD_TWICE: [Calls; 2] = [(5, Part::Open), (7, Part::Hear)];
+const HEARD_TWICE: [Calls; 2] = [(5, Part::Open), (5, Part::Hear)];
 
 /// Each job reads its frames.
 const FRAMES_READ: [Calls; 2] = [(1, Part::Job(0)), (1, Part::Job(1))];

@@ -95,9 +95,9 @@ fn asked(
 
 /// Which frame sounds, how far apart the pieces are, whether they are silent, and how many bytes are read of them.
 const ASKED: [(usize, u64, bool, u64); 3] = [
-    (9000, 0, true, 10_000),
-    (9999, 500, true, 19_000),
-    (4999, 500, false, 10_000),
+    (9000, 0, true, 10_240),
+    (9999, 500, true, 20_000),
+    (4999, 500, false, 10_240),
 ];
 
 #[test]
