@@ -62,14 +62,26 @@ fn fade_by_width(shape: Shape, format: Format, frames: usize, samples: &mut [i32
     }
 }
 
-/// The same. What falls has loops of its own.
+/// The same. What rises and what falls have loops of their own, which needn't ask in each frame which it is.
 fn fade(shape: Shape, format: Format, frames: usize, samples: &mut [i32])
     requires { AreFrames shape (bits_of format.depth) frames format.channels samples.old }
     ensures { HasFaded shape format.channels (bits_of format.depth) samples.old samples.new }
 {
     match shape {
-        Shape::Fall { .. } => fade_by_width(shape, format, frames, samples),
-        Shape::Flat | Shape::Rise { .. } => fade_by_width(shape, format, frames, samples),
+        // Built anew, or the compiler makes one loop of all.
+        Shape::Rise { offset, den } => fade_by_width(
+            Shape::Rise { offset, den },
+            format,
+            frames,
+            samples,
+        ),
+        Shape::Fall { offset, den } => fade_by_width(
+            Shape::Fall { offset, den },
+            format,
+            frames,
+            samples,
+        ),
+        Shape::Flat => fade_by_width(Shape::Flat, format, frames, samples),
     }
 }
 
