@@ -141,6 +141,8 @@ def same_shape(what: str, got: bytes, pattern: str) -> None:
 def same_answer(got: Outcome, wanted: model.Answer) -> None:
     """What was printed, and the status."""
     same_outcome(got, wanted.status, wanted.line, wanted.notices, wanted.further, wanted.clipped)
+    if wanted.most is not None:
+        same("how many bytes media would take at most", int(re.search(ROOM, got.error.decode()).group(1)), wanted.most)
     if wanted.saved is not None:
         kept, whole, written = map(int, re.match(SAVED, got.error.decode()).groups())
         told = whole, kept, written

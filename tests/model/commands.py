@@ -5,7 +5,7 @@ from bisect import bisect_right
 from typing import NamedTuple, Optional
 
 from .binding import Bound, bind, check_entry, faults_of_entries, faults_of_files
-from .groups import FALL, RISE, Run, runs_of, standard_groups
+from .groups import FALL, RISE, Run, from_checked, runs_of, standard_groups
 from .marks import marks_of
 from .mixing import Range, clipped_line, exact, rendered
 from .project import STANDARD_SEPARATORS, Entry, Project, Source
@@ -18,6 +18,9 @@ from .tokens import BadToken, tokens_of
 
 MOST_NUMBERED = 32_767
 MOST_FURTHER = 20
+
+# The bytes of a medium before its samples, its CodingHistory aside, and the byte that may pad that.
+HEAD = 691
 
 # Faults of a line alone, and not of its section.
 OF_A_LINE = (1, 2, 6, 7, 8, 9, 10, 13, 14, 16, 17)
@@ -54,7 +57,8 @@ STANDARD = Options()
 class Answer(NamedTuple):
     """The status, the last line printed, the files written, the lines of notices before; of a consolidation the bytes
     of samples in the sources, those that are kept, and all bytes that were written; of a refused check the faults told
-    behind the first one; of a rendering what standard error says of clipped samples."""
+    behind the first one; of a rendering what standard error says of clipped samples; of an accepted check how many bytes
+    the media of a consolidation would take at most."""
     status: int
     line: str
     files: dict
@@ -62,6 +66,7 @@ class Answer(NamedTuple):
     saved: Optional[tuple] = None
     further: tuple = ()
     clipped: str = ""
+    most: Optional[int] = None
 
     def output(self) -> str:
         return "".join(f"{line}\n" for line in (*self.notices, self.line))
@@ -83,7 +88,18 @@ def notices_of(project: Project, bound: Bound) -> tuple:
 def check(text: bytes, media: dict, _: Options) -> Answer:
     project, bound = accepted(text, media)
     line = f"accepted {len(project.entries)} entries {len(bound.indexes)} indexes"
-    return Answer(0, line, {}, notices_of(project, bound))
+    return Answer(0, line, {}, notices_of(project, bound), most=most_of_media(project, bound, STANDARD.handle))
+
+
+def most_of_media(project: Project, bound: Bound, handle: int) -> int:
+    """The media that keep the frames of all entries, silent ones too, and the head of one more for each entry."""
+    def head(name: str) -> int:
+        return HEAD + len(bound.sounds[name].history)
+
+    runs = runs_of(from_checked(project, bound), bound, handle)
+    samples = (run.length * bound.sounds[run.name].frame_size() for run in runs)
+    media = sum(head(run.name) + size + size % 2 for run, size in zip(runs, samples))
+    return media + sum(head(bound.indexes[entry.index].name) for entry in project.entries)
 
 
 def range_of(project: Project, options: Options) -> Range:

@@ -11,6 +11,7 @@ mod difference;
 mod drawing;
 mod explainer;
 mod held;
+mod kept;
 mod meter;
 mod refusal;
 mod report;

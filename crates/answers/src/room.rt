@@ -1,15 +1,13 @@
 // How many bytes the outputs of a list take.
+use crate::kept::{Kept, join, joined};
 use adlmodel::Project;
 use checkreport::Room;
 use commandline::Chosen;
 use console::Console;
-use interval::from_checked;
 use job_terms::Order;
-use mediaset::Runs;
 use projectcheck::Checked;
 use sampletime::{Rate, SampleTime, parse_time};
 use sound_terms::Depth;
-use sourceindex::Bound;
 use std::alloc::Global;
 use wavread::Sound;
 use wavwrite::{Bext, SoundInfo, data_length, fits, header};
@@ -70,16 +68,20 @@ pub fn rendering_size(alloc: Global, project: &Project, chosen: Chosen<'_>) -> O
 /// each entry the head of one more, since an entry that is silent between its fades may be in two.
 pub fn media_size(alloc: Global, checked: &Checked, handle: u64) -> Option<u64> {
     let bound = checked.bound();
-    let intervals = from_checked(alloc, checked).ok()?;
     let homes = bound.homes(alloc).ok()?;
-    let runs = Runs::kept(alloc, &intervals, homes, handle).ok()?;
+    let mut played = Vec::new(alloc);
     let mut size: u64 = 0;
-    for run in runs.as_slice() {
-        let sound = bound.sounds().get(run.file as usize)?;
-        size = size.saturating_add(medium_size(sound, run.length));
-    }
     for event in checked.project().events() {
-        size = size.saturating_add(head_size(bound, event.index));
+        let index = bound.index(event.index)?;
+        let sound = bound.sounds().get(index.file as usize)?;
+        size = size.saturating_add(head_size(sound));
+        if let Some(kept) = Kept::of(index, event, &homes, handle) {
+            join(&mut played, kept).ok()?;
+        }
+    }
+    for kept in joined(alloc, played).ok()?.as_slice() {
+        let sound = bound.sounds().get(kept.file as usize)?;
+        size = size.saturating_add(medium_size(sound, kept.frames()));
     }
     Some(size)
 }
@@ -88,25 +90,14 @@ pub fn media_size(alloc: Global, checked: &Checked, handle: u64) -> Option<u64> 
 fn medium_size(sound: &Sound, frames: u64) -> u64 {
     let bits = u64::from(sound.channels()).saturating_mul(u64::from(sound.depth().bits()));
     let samples = frames.saturating_mul(bits / 8);
-    medium_head(sound)
+    head_size(sound)
         .saturating_add(samples)
         .saturating_add(samples % 2)
 }
 
-/// How many bytes it takes before its samples.
-fn medium_head(sound: &Sound) -> u64 {
+/// How many bytes it takes before its samples at most.
+fn head_size(sound: &Sound) -> u64 {
     HEAD.saturating_add(sound.history().len() as u64)
-}
-
-/// How many bytes a medium of the file of this index takes before its samples; none where there is no such index.
-fn head_size(bound: &Bound, index: u32) -> u64 {
-    let Some(index) = bound.index(index) else {
-        return 0;
-    };
-    match bound.sounds().get(index.file as usize) {
-        Some(sound) => medium_head(sound),
-        None => 0,
-    }
 }
 
 /// What the head of a rendering that was chosen so tells; nothing where a time can't be read.
