@@ -140,8 +140,8 @@ fn refuse_drawing<S: Reasons, O: Console, E: Console, M: Meter, A: Asides>(
     1
 }
 
-/// Draws what can be drawn of a list that is refused by this fault: nothing of one whose text is at fault, or of which
-/// nothing lies in the part that is chosen.
+/// Draws this part of a list that is refused by this fault: its entries where its files can be bound, and else its files.
+/// Nothing is drawn of one whose text is at fault, or of which nothing lies in the part.
 fn draw_refused<S: Shelf, O: Console>(
     alloc: Global,
     name: &str,
@@ -159,40 +159,16 @@ fn draw_refused<S: Shelf, O: Console>(
     }
     match fault {
         opening::Fault::List(_) => {}
-        opening::Fault::Entry(_) => draw_bad_entries(alloc, name, &project, part, shelf, out),
-        opening::Fault::SameName { .. } | opening::Fault::Media { .. } => {
-            draw_bad_files(alloc, name, list, &project, part, fault, shelf, out);
+        opening::Fault::Entry(_) => {
+            if let Ok(bound) = bind(alloc, &project, shelf) {
+                out.print(Picture::of_bad_entries(&project, &bound, name).of_part(part));
+            }
         }
-    }
-}
-
-/// Draws this part of a project that has entries at fault, where its files can be bound.
-fn draw_bad_entries<S: Shelf, O: Console>(
-    alloc: Global,
-    name: &str,
-    project: &Project,
-    part: Part,
-    shelf: &mut S,
-    out: &mut O,
-) {
-    if let Ok(bound) = bind(alloc, project, shelf) {
-        out.print(Picture::of_bad_entries(project, &bound, name).of_part(part));
-    }
-}
-
-/// Draws this part of a project that has files at fault, of which this is the first.
-fn draw_bad_files<S: Shelf, O: Console>(
-    alloc: Global,
-    name: &str,
-    list: &[u8],
-    project: &Project,
-    part: Part,
-    fault: &opening::Fault,
-    shelf: &mut S,
-    out: &mut O,
-) {
-    if let Ok(bad_files) = bad_files_of(alloc, list, project, fault, shelf) {
-        out.print(Picture::of_bad_files(project, &bad_files, name).of_part(part));
+        opening::Fault::SameName { .. } | opening::Fault::Media { .. } => {
+            if let Ok(bad_files) = bad_files_of(alloc, list, &project, fault, shelf) {
+                out.print(Picture::of_bad_files(&project, &bad_files, name).of_part(part));
+            }
+        }
     }
 }
 

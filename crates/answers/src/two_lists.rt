@@ -132,20 +132,28 @@ fn answer_selection<
     tell_changed(alloc, second_shelf, terminal.err);
     match outcome {
         Ok(compared) => put_done(alloc, lists, choice, &compared, terminal),
-        Err(fault) => {
-            let reasons = (first_shelf.reason(), second_shelf.reason());
-            put_refusal_of_two(&fault, terminal.out);
-            explain_refusal(
-                alloc,
-                lists,
-                &fault,
-                reasons,
-                &terminal.asides,
-                terminal.err,
-            );
-            REFUSED
-        }
+        Err(fault) => refuse_two(alloc, lists, &fault, first_shelf, second_shelf, terminal),
     }
+}
+
+/// Prints why two lists aren't compared, explains it by what their stores know of a reason, and answers 1.
+pub fn refuse_two<S: Reasons, T: Reasons, O: Console, E: Console, M: Meter, A: Asides, B: Asides>(
+    alloc: Global,
+    lists: BothLists<'_>,
+    fault: &CompareFault,
+    first_shelf: &S,
+    second_shelf: &T,
+    terminal: &mut Terminal<O, E, M, AsidesOfTwo<A, B>>,
+) -> u8
+    ensures consoles { GivesBack terminal.old terminal.new }
+    ensures printed { Prints O.contents O.failures terminal.old.out.now terminal.new.out.now
+        (comparison_refusal_line fault.now) }
+    ensures status { result ≡ 1 }
+{
+    let reasons = (first_shelf.reason(), second_shelf.reason());
+    put_refusal_of_two(fault, terminal.out);
+    explain_refusal(alloc, lists, fault, reasons, &terminal.asides, terminal.err);
+    REFUSED
 }
 
 /// Prints what came of a comparison, and answers the status: a report, where that is asked for, or its lines, and what is
@@ -267,7 +275,7 @@ fn put_refusal_of_two<O: Console>(fault: &CompareFault, out: &mut O)
 }
 
 /// Prints the line of the refusal of one of two lists.
-pub fn put_refusal_in<O: Console>(list: ListOfTwo, fault: &ListFault, out: &mut O)
+fn put_refusal_in<O: Console>(list: ListOfTwo, fault: &ListFault, out: &mut O)
     ensures { Prints O.contents O.failures out.old out.new
         (list_refusal_line list (comparing.refusal_of fault.now)) }
 {
@@ -298,7 +306,7 @@ fn explain_refusal<E: Console, A: Asides, B: Asides>(
 }
 
 /// Prints the explanation of a refusal of one of two lists, with what a second look at its media finds.
-pub fn explain_list<'a, E: Console, A: Asides>(
+fn explain_list<'a, E: Console, A: Asides>(
     alloc: Global,
     list: ListText<'a>,
     fault: &'a ListFault,

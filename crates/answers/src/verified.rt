@@ -9,10 +9,10 @@ use crate::asides::{Asides, AsidesOfTwo};
 use crate::difference::BothLists;
 use crate::meter::Meter;
 use crate::report::tell_changed;
-use crate::requests::{DONE, REFUSED};
+use crate::requests::DONE;
 use crate::terminal::Terminal;
-use crate::two_lists::{explain_list, put_comparison, put_refusal_in, report_compared, status_of};
-use console::{Console, ListOfTwo};
+use crate::two_lists::{put_comparison, refuse_two, report_compared, status_of};
+use console::Console;
 use consolidate::{CompareFault, Compared, Comparison, Selection, compare};
 use shelf::{Reasons, Shelf};
 use std::alloc::Global;
@@ -67,32 +67,7 @@ pub fn answer_verified<
             put_lines(lines, terminal.out);
             DONE
         }
-        Err(CompareFault::First(fault)) => {
-            let (list, reason) = (lists.first(), shelf.reason());
-            put_refusal_in(ListOfTwo::First, &fault, terminal.out);
-            explain_list(
-                alloc,
-                list,
-                &fault,
-                reason,
-                &terminal.asides.first,
-                terminal.err,
-            );
-            REFUSED
-        }
-        Err(CompareFault::Second(fault)) => {
-            let (list, reason) = (lists.second(), written_shelf.reason());
-            put_refusal_in(ListOfTwo::Second, &fault, terminal.out);
-            explain_list(
-                alloc,
-                list,
-                &fault,
-                reason,
-                &terminal.asides.second,
-                terminal.err,
-            );
-            REFUSED
-        }
+        Err(fault) => refuse_two(alloc, lists, &fault, shelf, written_shelf, terminal),
     }
 }
 

@@ -167,15 +167,9 @@ fn passed_in(section: Section, line: &[u8]) -> Option<(&[u8], Unheard)> {
 fn words_in(sought: Sought, line: &[u8]) -> Option<&[u8]> {
     let mut tokens = Tokens::new(line);
     for position in 1..=line.len() {
-        match tokens.next_token() {
-            Ok(Some(token)) if sought.is_at(position, token) => {
-                return match sought {
-                    Sought::CrossfadeLength => Some(line),
-                    _ => from_token(line, token, tokens.rest),
-                };
-            }
-            Ok(Some(_)) => {}
-            _ => return None,
+        let token = tokens.next_token().ok()??;
+        if sought.is_at(position, token) {
+            return sought.words_from(line, token, tokens.rest);
         }
     }
     None
@@ -226,6 +220,15 @@ impl Sought {
             Sought::TrackSetting => Unheard::TrackSetting,
             Sought::CrossfadeLength => Unheard::Crossfades,
             Sought::BehindEntry => Unheard::BehindEntry,
+        }
+    }
+
+    /// What is sought of a line in which it begins with this token, behind which so much is left: the whole line of a
+    /// crossfade's length, and else all from the token on.
+    fn words_from<'a>(self, line: &'a [u8], token: Token<'_>, left: &[u8]) -> Option<&'a [u8]> {
+        match self {
+            Sought::CrossfadeLength => Some(line),
+            Sought::TrackSetting | Sought::BehindEntry => from_token(line, token, left),
         }
     }
 

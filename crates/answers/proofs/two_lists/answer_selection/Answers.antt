@@ -25,6 +25,6 @@ returns-in-Ok-clause-compared g c =
 
 pub returns-in-Err-clause-compared : goal.returns-in-Err-clause-compared
 returns-in-Err-clause-compared g c =
-    compared_by c.args.choice.now.is_report _ g.O.Console c.args.terminal.now.out.now c.put_refusal_of_two.new.out 1
-    (Err c.in-Err.fault) c.in-Err.ensures refl (λ plain. c.put_refusal_of_two.ensures)
-    c.put_refusal_of_two.ensures
+    compared_by c.args.choice.now.is_report _ g.O.Console c.args.terminal.now.out.now c.refuse_two.new.terminal.out.now
+    c.refuse_two.result (Err c.in-Err.fault) c.in-Err.ensures c.refuse_two.ensures.status
+    (λ plain. c.refuse_two.ensures.printed) c.refuse_two.ensures.printed
