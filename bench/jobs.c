@@ -1,7 +1,9 @@
-// jobs SOURCE TARGET JOB PIECE FIRST: copies a file as the program renders one straight through, and does nothing else.
-// The copy begins at byte FIRST of the target. The target and its marks, a byte for each 24,576 bytes, are laid out and
-// synced; then each JOB bytes are written and synced, and their marks are written and synced. With PIECE 0 a job is read
-// whole, before it is written, both by 256 KiB at once; else it is read and written by so many bytes at once.
+// jobs SOURCE TARGET JOB PIECE FIRST BEHIND: copies a file as the program renders one straight through, and does nothing
+// else. The copy begins at byte FIRST of the target. The target and its marks, a byte for each 24,576 bytes, are laid out
+// and synced; then each JOB bytes are written and synced, and their marks are written and synced. With PIECE 0 a job is
+// read whole, before it is written, both by 256 KiB at once; else it is read and written by so many bytes at once. Where
+// BEHIND isn't 0, the kernel is told to put out what was written up to each multiple of so many bytes, and isn't waited
+// for.
 
 #include <err.h>
 #include <fcntl.h>
@@ -53,21 +55,33 @@ static void copy_whole(int source, int target, char *bytes, size_t length, off_t
         write_all(target, bytes + done, least(AT_ONCE, length - done), first + at + done);
 }
 
-static void copy_pieces(int source, int target, char *bytes, size_t length, off_t at, off_t first, size_t piece)
+// Linux puts out what it is told isn't needed any more.
+static void put_out(int target, off_t from, off_t to, off_t behind)
+{
+    off_t first = from / behind * behind, end = to / behind * behind;
+    if (first < end)
+        posix_fadvise(target, first, end - first, POSIX_FADV_DONTNEED);
+}
+
+static void copy_pieces(int source, int target, char *bytes, size_t length, off_t at, off_t first, size_t piece,
+                        off_t behind)
 {
     for (size_t done = 0; done < length; done += piece) {
         size_t part = least(piece, length - done);
+        off_t from = first + at + done;
         read_all(source, bytes, part, at + done);
-        write_all(target, bytes, part, first + at + done);
+        write_all(target, bytes, part, from);
+        if (behind)
+            put_out(target, from, from + part, behind);
     }
 }
 
 int main(int count, char **words)
 {
-    if (count != 6)
-        errx(2, "usage: jobs SOURCE TARGET JOB PIECE FIRST");
+    if (count != 7)
+        errx(2, "usage: jobs SOURCE TARGET JOB PIECE FIRST BEHIND");
     size_t job = strtoul(words[3], NULL, 10), piece = strtoul(words[4], NULL, 10);
-    off_t first = strtoul(words[5], NULL, 10);
+    off_t first = strtoul(words[5], NULL, 10), behind = strtoul(words[6], NULL, 10);
     int source = open(words[1], O_RDONLY);
     struct stat state;
     if (source < 0 || fstat(source, &state) || job == 0)
@@ -83,7 +97,7 @@ int main(int count, char **words)
     for (size_t at = 0; at < length; at += job) {
         size_t part = least(job, length - at);
         if (piece)
-            copy_pieces(source, target, bytes, part, at, first, piece);
+            copy_pieces(source, target, bytes, part, at, first, piece, behind);
         else
             copy_whole(source, target, bytes, part, at, first);
         sync_file(target);

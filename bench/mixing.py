@@ -27,14 +27,25 @@ SHORT = 125
 MARKS_HEAD = 44
 MEBIBYTE = 1 << 20
 
-# Copies by a C program: the bytes of a job, how many are read and written at once, 0 where a job is read whole, and at
-# which byte of its file the copy begins.
+class Copy(NamedTuple):
+    """A copy by a C program: the bytes of a job, behind which it syncs; how many are read and written at once, 0 where a
+    job is read whole; at which byte of its file the copy begins; and by how many bytes it has the kernel put out what was
+    written, 0 where it hasn't."""
+    job: int
+    piece: int
+    first: int = 0
+    behind: int = 0
+
+
 COPIES = {
-    "a C program: jobs of 256 KiB, marked by 16 MiB": (16 * MEBIBYTE, MEBIBYTE // 4, 0),
-    "a C program: jobs of 240 KiB behind a header, marked by 16 MiB": (16 * MEBIBYTE, 245_760, HEAD),
-    "a C program: jobs of 768 KiB behind a header, marked by 16 MiB": (16 * MEBIBYTE, 786_432, HEAD),
-    "a C program: jobs of 16 MiB, made and then written": (16 * MEBIBYTE, 0, 0),
-    "a C program: jobs of 1 MiB, made and then written": (MEBIBYTE, 0, 0),
+    "a C program: jobs of 256 KiB, marked by 16 MiB": Copy(16 * MEBIBYTE, MEBIBYTE // 4),
+    "a C program: jobs of 240 KiB behind a header, marked by 16 MiB": Copy(16 * MEBIBYTE, 245_760, HEAD),
+    "a C program: jobs of 768 KiB behind a header, marked by 16 MiB": Copy(16 * MEBIBYTE, 786_432, HEAD),
+    "the same, put out by 1 MiB while it goes on": Copy(16 * MEBIBYTE, 786_432, HEAD, MEBIBYTE),
+    "a C program: jobs of 16 MiB, made and then written": Copy(16 * MEBIBYTE, 0),
+    "a C program: jobs of 1 MiB, made and then written": Copy(MEBIBYTE, 0),
+    "a C program: pieces of 384 KiB behind a header, synced once": Copy(1 << 40, 393_216, HEAD),
+    "such pieces, put out by 1 MiB while it goes on": Copy(1 << 40, 393_216, HEAD, MEBIBYTE),
 }
 
 
@@ -158,14 +169,14 @@ def copied_in_jobs(bench: Bench, source: Path) -> list:
     target = bench.out() / "copy.wav"
     copier = job_copier(bench.folder)
 
-    def copied(job: int, piece: int, first: int) -> Job:
+    def copied(copy: Copy) -> Job:
         def look(out: Path) -> None:
-            if subprocess.run(["cmp", "-i", f"0:{first}", source, out / "copy.wav"]).returncode:
+            if subprocess.run(["cmp", "-i", f"0:{copy.first}", source, out / "copy.wav"]).returncode:
                 sys.exit("bench: a copy has other bytes")
 
-        return Job([copier, source, target, str(job), str(piece), str(first)], look)
+        return Job([copier, source, target, *map(str, copy)], look)
 
-    jobs = {name: copied(*words) for name, words in COPIES.items()}
+    jobs = {name: copied(copy) for name, copy in COPIES.items()}
     costs = bench.costs_of({"cp": copy_of(source, target), **jobs})
     return [line(name, costs[name], (costs["cp"], None, None)) for name in COPIES]
 
