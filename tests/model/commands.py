@@ -92,14 +92,14 @@ def check(text: bytes, media: dict, _: Options) -> Answer:
 
 
 def most_of_media(project: Project, bound: Bound, handle: int) -> int:
-    """The media that keep the frames of all entries, silent ones too, and the head of one more for each entry."""
+    """The media that keep the frames of all entries, silent ones too, and for each that has frames the head of one more."""
     def head(name: str) -> int:
         return HEAD + len(bound.sounds[name].history)
 
     runs = runs_of(from_checked(project, bound), bound, handle)
     samples = (run.length * bound.sounds[run.name].frame_size() for run in runs)
     media = sum(head(run.name) + size + size % 2 for run, size in zip(runs, samples))
-    return media + sum(head(bound.indexes[entry.index].name) for entry in project.entries)
+    return media + sum(head(bound.indexes[entry.index].name) for entry in project.entries if entry.length())
 
 
 def range_of(project: Project, options: Options) -> Range:

@@ -1,11 +1,13 @@
 // Which frames of the files a consolidation keeps at most.
 use sound_terms::{BoundIndex, Event, Homes};
+use sourceindex::Bound;
 use std::alloc::{AllocError, Global};
 
-/// Frames of a file that are kept, from `first` up to, and without, `end`.
+/// Frames of a file that are kept, from `first` up to, and without, `end`, and how many entries play them.
 #[derive(Clone, Copy)]
 pub struct Kept {
     pub file: u32,
+    pub entries: u64,
     first: u64,
     end: u64,
 }
@@ -13,7 +15,7 @@ pub struct Kept {
 impl Kept {
     /// The frames that an entry plays over its index and those at most `handle` away, as far as they can be addressed;
     /// `None` where there are none.
-    pub fn of(index: BoundIndex, event: &Event, homes: &Homes, handle: u64) -> Option<Self> {
+    fn of(index: BoundIndex, event: &Event, homes: &Homes, handle: u64) -> Option<Self> {
         let played = event.dest_out.get().saturating_sub(event.dest_in.get());
         let from = event.source_in.get().saturating_sub(index.base);
         let first = from.saturating_sub(handle);
@@ -26,6 +28,7 @@ impl Kept {
         }
         Some(Kept {
             file: index.file,
+            entries: 1,
             first,
             end,
         })
@@ -43,10 +46,11 @@ impl Kept {
 }
 
 /// Adds frames to the last ones, where they go on from there, and else behind them.
-pub fn join(kept: &mut Vec<Kept>, next: Kept) -> Result<(), AllocError> {
+fn join(kept: &mut Vec<Kept>, next: Kept) -> Result<(), AllocError> {
     if let Some(last) = kept.last_mut() {
         if last.goes_on(&next) {
             last.end = last.end.max(next.end);
+            last.entries = last.entries.saturating_add(next.entries);
             return Ok(());
         }
     }
@@ -54,12 +58,52 @@ pub fn join(kept: &mut Vec<Kept>, next: Kept) -> Result<(), AllocError> {
     Ok(())
 }
 
-/// The same frames file by file, in their order there; none of them touches another.
-pub fn joined(alloc: Global, mut kept: Vec<Kept>) -> Result<Vec<Kept>, AllocError> {
-    kept.sort_by_key(|kept| (kept.file, kept.first))?;
-    let mut joined = Vec::new(alloc);
-    for next in kept.as_slice() {
-        join(&mut joined, *next)?;
+/// The frames that the entries of a list keep, as long as there is memory for them.
+#[derive(Drop)]
+pub struct KeptFrames<'a> {
+    bound: &'a Bound,
+    homes: Option<Homes>,
+    handle: u64,
+    kept: Vec<Kept>,
+    is_whole: bool,
+}
+
+impl<'a> KeptFrames<'a> {
+    /// Those of no entry yet, with this handle.
+    pub fn new(alloc: Global, bound: &'a Bound, handle: u64) -> Self {
+        KeptFrames {
+            bound,
+            homes: bound.homes(alloc).ok(),
+            handle,
+            kept: Vec::new(alloc),
+            is_whole: true,
+        }
     }
-    Ok(joined)
+
+    /// With those of an entry.
+    pub fn take_in(&mut self, event: &Event) {
+        self.is_whole = self.is_whole && self.keep(event).is_some();
+    }
+
+    fn keep(&mut self, event: &Event) -> Option<()> {
+        let index = self.bound.index(event.index)?;
+        let homes = self.homes.as_ref()?;
+        if let Some(kept) = Kept::of(index, event, homes, self.handle) {
+            join(&mut self.kept, kept).ok()?;
+        }
+        Some(())
+    }
+
+    /// All of them file by file, in their order there; none of them touches another. `None` where memory ran out.
+    pub fn joined(&mut self, alloc: Global) -> Option<Vec<Kept>> {
+        if !self.is_whole {
+            return None;
+        }
+        self.kept.sort_by_key(|kept| (kept.file, kept.first)).ok()?;
+        let mut joined = Vec::new(alloc);
+        for next in self.kept.as_slice() {
+            join(&mut joined, *next).ok()?;
+        }
+        Some(joined)
+    }
 }

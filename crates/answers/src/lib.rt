@@ -13,6 +13,7 @@ mod explainer;
 mod held;
 mod kept;
 mod meter;
+mod reach;
 mod refusal;
 mod report;
 mod requests;

@@ -1,5 +1,6 @@
 // How many bytes the outputs of a list take.
-use crate::kept::{Kept, join, joined};
+use crate::kept::{Kept, KeptFrames};
+use crate::reach::Reach;
 use adlmodel::Project;
 use checkreport::Room;
 use commandline::Chosen;
@@ -23,7 +24,8 @@ const FRONT: u64 = 44;
 
 const BLOCK: u64 = 4096;
 
-/// How much the media of an accepted list with this handle take at most, and its rendering as a whole.
+/// How much the media of an accepted list with this handle take at most, and its rendering as a whole. Its entries are
+/// gone over once.
 pub fn room_of(alloc: Global, checked: &Checked, handle: u64) -> Room {
     let whole = Chosen {
         from: None,
@@ -33,9 +35,17 @@ pub fn room_of(alloc: Global, checked: &Checked, handle: u64) -> Room {
         order: Order::ByTime,
         report: false,
     };
+    let project = checked.project();
+    let bound = checked.bound();
+    let mut kept = KeptFrames::new(alloc, bound, handle);
+    let mut reach = Reach::new();
+    for event in project.events() {
+        kept.take_in(event);
+        reach.take_in(event);
+    }
     Room {
-        media: media_size(alloc, checked, handle),
-        rendering: rendering_size(alloc, checked.project(), whole),
+        media: size_of_media(alloc, bound.sounds(), &mut kept),
+        rendering: size_of_rendering(alloc, info_of(alloc, project.rate(), reach, whole)),
     }
 }
 
@@ -51,7 +61,12 @@ pub fn report_room<E: Console>(room: Room, err: &mut E) {
 
 /// How many bytes the rendering of a list that was chosen so takes, with its marks.
 pub fn rendering_size(alloc: Global, project: &Project, chosen: Chosen<'_>) -> Option<u64> {
-    let info = rendering_info(alloc, project, chosen)?;
+    size_of_rendering(alloc, rendering_info(alloc, project, chosen))
+}
+
+/// How many bytes a rendering takes whose head tells this, with its marks.
+fn size_of_rendering(alloc: Global, info: Option<SoundInfo>) -> Option<u64> {
+    let info = info?;
     if info.frames() == 0 || !fits(&info) {
         return None;
     }
@@ -64,24 +79,26 @@ pub fn rendering_size(alloc: Global, project: &Project, chosen: Chosen<'_>) -> O
     Some(sound.saturating_add(marks))
 }
 
-/// How many bytes the media of a list with this handle take at most: those that are kept where nothing is silent, and for
-/// each entry the head of one more, since an entry that is silent between its fades may be in two.
+/// How many bytes the media of a list with this handle take at most.
 pub fn media_size(alloc: Global, checked: &Checked, handle: u64) -> Option<u64> {
     let bound = checked.bound();
-    let homes = bound.homes(alloc).ok()?;
-    let mut played = Vec::new(alloc);
-    let mut size: u64 = 0;
+    let mut kept = KeptFrames::new(alloc, bound, handle);
     for event in checked.project().events() {
-        let index = bound.index(event.index)?;
-        let sound = bound.sounds().get(index.file as usize)?;
-        size = size.saturating_add(head_size(sound));
-        if let Some(kept) = Kept::of(index, event, &homes, handle) {
-            join(&mut played, kept).ok()?;
-        }
+        kept.take_in(event);
     }
-    for kept in joined(alloc, played).ok()?.as_slice() {
-        let sound = bound.sounds().get(kept.file as usize)?;
-        size = size.saturating_add(medium_size(sound, kept.frames()));
+    size_of_media(alloc, bound.sounds(), &mut kept)
+}
+
+/// How many bytes the media of these frames take at most: those that are kept where nothing is silent, and for each entry
+/// the head of one more, since an entry that is silent between its fades may be in two.
+fn size_of_media(alloc: Global, sounds: &[Sound], kept: &mut KeptFrames<'_>) -> Option<u64> {
+    let mut size: u64 = 0;
+    for kept in kept.joined(alloc)?.as_slice() {
+        let sound = sounds.get(kept.file as usize)?;
+        let heads = head_size(sound).saturating_mul(kept.entries);
+        size = size
+            .saturating_add(heads)
+            .saturating_add(medium_size(sound, kept.frames()));
     }
     Some(size)
 }
@@ -102,12 +119,17 @@ fn head_size(sound: &Sound) -> u64 {
 
 /// What the head of a rendering that was chosen so tells; nothing where a time can't be read.
 pub fn rendering_info(alloc: Global, project: &Project, chosen: Chosen<'_>) -> Option<SoundInfo> {
-    let from = time_or(chosen.from, project.rate(), project.first_in())?;
-    let to = time_or(chosen.to, project.rate(), project.last_out())?;
+    info_of(alloc, project.rate(), Reach::of(project.events()), chosen)
+}
+
+/// The same of entries that reach so far.
+fn info_of(alloc: Global, rate: Rate, reach: Reach, chosen: Chosen<'_>) -> Option<SoundInfo> {
+    let from = time_or(chosen.from, rate, reach.first_in())?;
+    let to = time_or(chosen.to, rate, reach.last_out)?;
     let frames = to.get().checked_sub(from.get())?;
     let channels = match chosen.channels {
         Some(channels) => channels,
-        None => project.last_channel(),
+        None => reach.last_channel,
     };
     let bext = Bext {
         text: [0; 338],

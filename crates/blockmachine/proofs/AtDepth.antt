@@ -74,6 +74,19 @@ cleared_few depth n from new rest zero long =
       λ k later below. nothing k below,
     )
 
+-- samples in place of the sums
+pub samples_few : (depth : Depth) (samples : List ℤ) (n : ℕ) → length samples ≡ n
+    → All (FitsDepth (bits_of depth)) samples → AreFew 1 n (widened (bits_of depth) samples)
+samples_few depth samples n long fit =
+    let bits = bits_of depth in
+    let wide = length-map samples (full_scale bits) in (
+      λ k d below.
+          let inside : k < length samples = omega (arith, below, wide) in
+          subst (IsWithin 1) (sym (get_or_default (widened bits samples) k d (pos 0) below ∙ get_or-widened bits samples k inside))
+          (full_sample depth (get_or samples k (pos 0)) (fit k (pos 0) inside)),
+      λ k later below. absurd (omega (arith, later, below, wide, long)),
+    )
+
 pub cleared_sums : (depth n frames channels : ℕ) (new rest : List ℤ) → AreZero new → length new ≡ n
     → n ≡ frames * channels
     → AreSums (block_of frames channels (widened depth (take n (new ++ rest)))) (λ _ _. pos 0)

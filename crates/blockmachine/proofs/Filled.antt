@@ -24,7 +24,9 @@ use Rattle.soundlaw.specs.Laws.{floor_whole, kept_inside, share_fits}
 use Rattle.blockmachine.specs.Alone.{filling}
 use Rattle.blockmachine.specs.Fading.{HasFaded}
 use Rattle.blockmachine.specs.Playing.{Plays}
+use Rattle.blockmachine.specs.Sums.{AreSums, block_of, widened}
 use Rattle.blockmachine.proofs.Added.{flat_share}
+use Rattle.blockmachine.proofs.AtDepth.{get_or-widened}
 use Rattle.blockmachine.proofs.Bounds.{held_few, share_within}
 use Rattle.blockmachine.proofs.Emitted.{by_sums}
 use Rattle.blockmachine.proofs.Full.{full_sample}
@@ -195,3 +197,20 @@ pub itself : (channels : ℕ) (depth : Depth) (stored : List ℤ) → All (FitsD
 itself channels depth stored fit = λ k below.
     sym (ap (quantized (bits_of depth)) (flat_share (full_scale (bits_of depth) (get_or stored k (pos 0))))
     ∙ same_depth depth (get_or stored k (pos 0)) (fit k (pos 0) below))
+
+-- samples are the sums of the layer that they are
+pub layer_sums : (reading : Reading) (file frame frames channels : ℕ) (depth : Depth) (stored : List ℤ)
+    → Plays reading (filling file frame frames channels) channels (bits_of depth) stored
+    → All (FitsDepth (bits_of depth)) stored → length stored ≡ frames * channels
+    → AreSums (block_of frames channels (widened (bits_of depth) stored))
+    (sums_with reading (filling file frame frames channels) Flat (λ i channel. pos 0))
+layer_sums reading file frame frames channels depth stored plays fit long = λ i channel near low high.
+    let j = channel - 1 in
+    let is : channel ≡ 1 + j = omega (arith, low) in
+    let on : j < channels = omega (arith, low, high) in
+    let row : suc i * channels ≤ frames * channels = mul-le-mul_right channels near in
+    let sums : ℕ → ℕ → ℤ = sums_with reading (filling file frame frames channels) Flat (λ i channel. pos 0) in
+    get_or-widened (bits_of depth) stored (i * channels + j) (omega (arith, row, on, long))
+    ∙ sym (ap (sums i) is
+    ∙ sum_at reading file frame frames channels depth Flat stored plays fit long tt i j near on
+    ∙ flat_share (full_scale (bits_of depth) (get_or stored (i * channels + j) (pos 0))))

@@ -1,5 +1,5 @@
 -- A program that one stretch fills.
-use Rattle.std.proofs.Common.{◌≡◌, ◌≤◌, ℕ, ◌*◌, All, List, [], ◌∷◌, ◌++◌, sym, ap, ◌∙◌, subst, arith}
+use Rattle.std.proofs.Common.{◌≡◌, ◌≤◌, ℕ, ◌*◌, All, List, [], ◌∷◌, ◌++◌, refl, sym, ap, ◌∙◌, subst, arith}
 use Rattle.std.specs.Prelude.{Some, slice_get}
 use Rattle.std.proofs.lemmas.Option.{same_Some}
 use Rattle.sound_terms.specs.declared.Depth.{Depth}
@@ -64,6 +64,38 @@ formed_alone sounds frames channels depth program lines stretch shape fills bloc
       ramp = subst (IsRamp shape) long formed.1;
     }
 
+-- one that fills a block alone does so whatever else is there, and in as many frames and channels
+pub fills_as : (sounds : List SoundFacts) (frames channels most wide : ℕ) (depth : Depth) (lines : List Instruction)
+    (stretch : Stretch) (shape : Shape) → frames ≡ most → channels ≡ wide
+    → FillsAlone sounds frames channels depth lines stretch shape
+    → FillsAlone sounds most wide depth (adding stretch shape ∷ []) stretch shape
+fills_as sounds frames channels most wide depth lines stretch shape long broad fills = record {
+  alone = refl;
+  whole = rw (sym long, sym broad) fills.whole;
+  facts = fills.facts;
+  there = fills.there;
+  channels_alike = fills.channels_alike ∙ broad;
+  depth_alike = fills.depth_alike;
+}
+
+-- what is read of one is played
+pub played_alone : (reading : Reading) (sounds : List SoundFacts) (frames channels : ℕ) (depth : Depth)
+    (lines : List Instruction) (stretch : Stretch) (shape : Shape) (bytes : List ℕ)
+    → FillsAlone sounds frames channels depth lines stretch shape
+    → ((facts : SoundFacts) → slice_get sounds stretch.file ≡ Some facts
+    → Plays reading stretch facts.channels (bits_of facts.depth)
+    (samples_in (bits_of facts.depth) (stretch.length * facts.channels) bytes))
+    → Plays reading (filling stretch.file stretch.frame frames channels) channels (bits_of depth)
+    (samples_in (bits_of depth) (frames * channels) bytes)
+played_alone reading sounds frames channels depth lines stretch shape bytes fills read =
+    let is : stretch ≡ filling stretch.file stretch.frame frames channels = fills.whole in
+    let long : stretch.length ≡ frames = ap (λ (s : Stretch). s.length) is in
+    let played : Plays reading stretch channels (bits_of depth) (samples_in (bits_of depth) (frames * channels) bytes) =
+    subst (λ m. Plays reading stretch channels (bits_of depth) (samples_in (bits_of depth) (m * channels) bytes)) long
+    (rw (fills.channels_alike, ap bits_of fills.depth_alike) at (read fills.facts fills.there)) in
+    subst (λ (s : Stretch). Plays reading s channels (bits_of depth)
+    (samples_in (bits_of depth) (frames * channels) bytes)) is played
+
 -- this stretch alone is the program, and these bytes hold what it plays
 pub record IsFilled (reading : Reading) (stretch : Stretch) (shape : Shape) (frames channels : ℕ) (depth : Depth)
     (program : List Instruction) (bytes : List ℕ) : Type 0 where
@@ -83,14 +115,9 @@ pub filled_alone : (reading : Reading) (sounds : List SoundFacts) (frames channe
     → IsFilled reading stretch shape frames channels depth program bytes
 filled_alone reading sounds frames channels depth program lines stretch shape bytes fills block between read =
     let is : stretch ≡ filling stretch.file stretch.frame frames channels = fills.whole in
-    let long : stretch.length ≡ frames = ap (λ (s : Stretch). s.length) is in
     let only : adding stretch shape ∷ [] ≡ block.lines = sym fills.alone ∙ between in
-    let played : Plays reading stretch channels (bits_of depth) (samples_in (bits_of depth) (frames * channels) bytes) =
-    subst (λ m. Plays reading stretch channels (bits_of depth) (samples_in (bits_of depth) (m * channels) bytes)) long
-    (rw (fills.channels_alike, ap bits_of fills.depth_alike) at (read fills.facts fills.there)) in
     record {
-      plays = subst (λ (s : Stretch). Plays reading s channels (bits_of depth)
-          (samples_in (bits_of depth) (frames * channels) bytes)) is played;
+      plays = played_alone reading sounds frames channels depth lines stretch shape bytes fills read;
       program_is = ap (λ (l : List Instruction). Start frames ∷ (l ++ Emit depth ∷ []))
           (ap (λ (s : Stretch). adding s shape ∷ []) (sym is) ∙ only) ∙ sym block.whole;
       ramp = (formed_alone sounds frames channels depth program lines stretch shape fills block between).ramp;

@@ -9,6 +9,7 @@ mod clipped;
 mod exact;
 mod faded;
 mod fault;
+mod first_layer;
 mod frames;
 mod layers;
 mod machine;

@@ -19,6 +19,7 @@ ghost use Rattle.blockmachine.specs.Sums.{AreSums};
 use crate::MachineFault;
 use crate::buffer::Buffer;
 use crate::faded::play_alone;
+use crate::first_layer::begin_sums;
 use crate::frames::Lanes;
 use crate::stretches::add_stretch;
 use crate::sums::Sums;
@@ -98,10 +99,9 @@ pub(crate) fn sum_all<S: Shelf>(
     ensures only_reads { OnlyReads S.Shelf shelf.old shelf.new result (λ fault. IsSource fault)
         (λ fault failed. FailsAt sounds.now fault failed) }
 {
-    sums.clear(depth);
-    buffer.held = None;
-    for line in lines {
-        let Some((stretch, shape)) = added_by(line) else {
+    let begun = begin_sums(lines, depth, sounds, shelf, buffer, sums)?;
+    for k in begun..lines.len() {
+        let Some((stretch, shape)) = added_by(&lines[k]) else {
             continue;
         };
         add_stretch(&stretch, shape, sounds, shelf, buffer, sums)?;
@@ -262,8 +262,9 @@ impl Machine {
 
     /// Runs the program of a block, which hands its samples out at this depth, and writes them over `bytes` as a file of
     /// this depth stores them. `samples` has room for them. The frames of a file that fills the block as it is are read
-    /// to where they go, and those of one that fills it under a fade are faded there. What is clipped of the sums is returned. It takes no memory. `Source` where a read fails; what was
-    /// written is then unspecified, and the machine as ready as before.
+    /// to where they go, and those of one that fills it under a fade are faded there. What is clipped of the sums is
+    /// returned. It takes no memory. `Source` where a read fails; what was written is then unspecified, and the machine
+    /// as ready as before.
     pub fn run_packed<S: Shelf>(
         &mut self,
         program: &Program,

@@ -1,10 +1,10 @@
 // The sums of a block.
-ghost use Rattle.std.specs.Prelude.{◌≡◌, ◌*◌, ℕ, ℤ, pos, length, IfOk};
+ghost use Rattle.std.specs.Prelude.{◌≡◌, ◌*◌, ◌/◌, ℕ, ℤ, pos, length, IfOk};
 ghost use Rattle.sound_terms.specs.Depth.{bits_of};
 ghost use Rattle.sound_terms.specs.Blocks.{FitsBlock, block_samples};
 ghost use Rattle.pcm.specs.Samples.{samples_in};
 ghost use Rattle.blockmachine.specs.Lines.{FillFrames};
-ghost use Rattle.blockmachine.specs.Sums.{AreSums, BlockSums, HasPlayed, TakeStored};
+ghost use Rattle.blockmachine.specs.Sums.{AreSums, BlockSums, HasPlayed, TakeStored, widened};
 
 use crate::addition;
 use crate::additions::Additions;
@@ -92,6 +92,22 @@ impl Sums {
         self.additions = Additions {
             most: 0,
             fewer_from: 0,
+        };
+    }
+
+    /// The sums are these samples, one for each, which are stored at the depth of the block.
+    pub fn fill(&mut self, depth: Depth, bytes: &[u8])
+        requires { length bytes.now ≡ self.old.extent.frames * self.old.extent.channels * (bits_of depth / 8) }
+        ensures filled { self.new.values ≡ widened (bits_of depth)
+            (samples_in (bits_of depth) (self.old.extent.frames * self.old.extent.channels) bytes.now) }
+        ensures same_extent { self.new.extent ≡ self.old.extent }
+    {
+        unpack(depth, bytes, self.layers.as_mut_slice());
+        self.at_depth = true;
+        self.depth = depth;
+        self.additions = Additions {
+            most: 1,
+            fewer_from: self.lanes.frames as u32,
         };
     }
 

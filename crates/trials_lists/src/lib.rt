@@ -1,4 +1,4 @@
-//! Tests of lists: their tokens, copies of their projects, comparisons, consolidations by any passes, and works by the events of any
+//! Tests of lists: their tokens, copies of their projects, consolidations by any passes, and works by the events of any
 //! workers.
 #![tactic(auto)]
 

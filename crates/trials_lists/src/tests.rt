@@ -1,5 +1,4 @@
 // Lists, and what is made of them.
-mod comparisons;
 mod consolidations;
 mod copies;
 mod flat_cut;
