@@ -30,7 +30,7 @@ COMPARED = re.compile(rb"refused (\d\d)[^\n]* in list [12]\n")
 HEAD = 690
 BLOCK = 8_192
 # The tests of the libraries, as they are built, of which those of memory make something by events.
-TRIALS = Path(__file__).resolve().parent.parent / "crates/trials_faults/out/trials_faults_tests"
+TRIALS = Path(__file__).resolve().parent.parent / "crates/trials_lists/out/trials_lists_tests"
 BY_EVENTS = {
     "a_consolidation_by_events": {18, 31, 47, 51, 54, 56, 60, 62},
     "a_rendering_by_events": {18, 31, 47, 57, 60, 62, 69},
@@ -173,7 +173,7 @@ def each_allocation_of_test(name: str, met: set):
     """A test of the library goes well, and tells the refusal that it saw; or it has no memory for itself."""
     def body(scene: Scene) -> None:
         if not TRIALS.exists():
-            raise Skipped("the tests of trials_faults aren't built (rt test in its folder)")
+            raise Skipped("the tests of trials_lists aren't built (rt test in its folder)")
         log = scene.folder / "log"
         environment = preloaded(scene, ALLOC_LOG=str(log))
         numbers = set()

@@ -17,8 +17,9 @@ use Rattle.sound_terms.specs.Mix.{full_scale, quantized}
 use Rattle.sound_terms.specs.Blocks.{held}
 use Rattle.pcm.specs.Samples.{FitsDepth}
 use Rattle.soundlaw.specs.Laws.{floor_whole}
-use Rattle.blockmachine.specs.Sums.{AreFew, AreSums, AreZero, IsWithin, block_of, widened}
-use Rattle.blockmachine.proofs.Bounds.{held_few, within_add}
+use Rattle.soundlaw.specs.Sums.{IsWithin}
+use Rattle.blockmachine.specs.Sums.{AreFew, AreSums, AreZero, block_of, widened}
+use Rattle.soundlaw.specs.SumLaws.{held_few, within_add}
 use Rattle.blockmachine.proofs.Full.{full_sample}
 
 -- ---- places

@@ -16,8 +16,9 @@ use Rattle.sound_terms.specs.Groups.{IsRamp, fraction_of}
 use Rattle.sound_terms.specs.Blocks.{FitsBlock, IsFull, held, is_on, share_at, sums_with}
 use Rattle.pcm.specs.Samples.{FitsDepth}
 use Rattle.blockmachine.specs.Playing.{Plays}
-use Rattle.blockmachine.specs.Sums.{AreFew, BlockSums, Counts, HasPlayed, IsWithin, block_of, few_additions}
-use Rattle.blockmachine.proofs.Bounds.{held_grow, share_within, within_add, within_more}
+use Rattle.soundlaw.specs.Sums.{IsWithin}
+use Rattle.blockmachine.specs.Sums.{AreFew, BlockSums, Counts, HasPlayed, block_of, few_additions}
+use Rattle.soundlaw.specs.SumLaws.{held_grow, share_within, within_add, within_more}
 use Rattle.blockmachine.proofs.Full.{full_frames}
 
 -- what is written over all of a list

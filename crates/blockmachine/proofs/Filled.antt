@@ -27,7 +27,7 @@ use Rattle.blockmachine.specs.Playing.{Plays}
 use Rattle.blockmachine.specs.Sums.{AreSums, block_of, widened}
 use Rattle.blockmachine.proofs.Added.{flat_share}
 use Rattle.blockmachine.proofs.AtDepth.{get_or-widened}
-use Rattle.blockmachine.proofs.Bounds.{held_few, share_within}
+use Rattle.soundlaw.specs.SumLaws.{held_few, share_within}
 use Rattle.blockmachine.proofs.Emitted.{by_sums}
 use Rattle.blockmachine.proofs.Full.{full_sample}
 

@@ -8,7 +8,8 @@ use Rattle.sound_terms.specs.declared.piece.Shape.{Shape}
 use Rattle.sound_terms.specs.Mix.{full_scale}
 use Rattle.sound_terms.specs.Groups.{fraction_of}
 use Rattle.sound_terms.specs.Blocks.{FitsBlock, sums_with}
-use Rattle.blockmachine.specs.Sums.{AreSums, HasAdded, HasPlayed, IsWithin, TakeLayer, block_of, widened}
+use Rattle.soundlaw.specs.Sums.{IsWithin}
+use Rattle.blockmachine.specs.Sums.{AreSums, HasAdded, HasPlayed, TakeLayer, block_of, widened}
 use Rattle.blockmachine.proofs.Added.{IsRun, no_sample, run_fits, run_more}
 use Rattle.blockmachine.proofs.AtDepth.{widened-part, widened-put}
 use Rattle.blockmachine.proofs.Places.{get_or-part}

@@ -1,6 +1,5 @@
 pub mod Places
 pub mod Added
-pub mod Bounds
 pub mod UnclippedSums
 pub mod KeptSums
 pub mod Counted
@@ -8,7 +7,6 @@ pub mod Emitted
 pub mod Fits
 pub mod Full
 pub mod Held
-pub mod Lanes
 pub mod Layered
 pub mod AtDepth
 pub mod Played

@@ -8,7 +8,8 @@ use Rattle.sound_terms.specs.Depth.{bits_of}
 use Rattle.sound_terms.specs.Mix.{full_scale}
 use Rattle.pcm.specs.Samples.{FitsDepth, summed}
 use Rattle.pcm.specs.Laws.{get_or-summed, length-summed}
-use Rattle.blockmachine.specs.Sums.{HasAdded, IsWithin, widened}
+use Rattle.soundlaw.specs.Sums.{IsWithin}
+use Rattle.blockmachine.specs.Sums.{HasAdded, widened}
 use Rattle.blockmachine.proofs.Added.{flat_share}
 use Rattle.blockmachine.proofs.AtDepth.{get_or-widened, layer_fits, layer_sum}
 

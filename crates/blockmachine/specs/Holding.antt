@@ -1,9 +1,14 @@
 -- What a buffer holds of the files between two reads.
 use Rattle.std.specs.Prelude.{◌≡◌, ℕ, ◌+◌, ◌*◌, ⊤, Bool, List, IsTrue, Option, None, Some, slice_get, take}
 use Rattle.work_terms.specs.Disk.{Files, IsRange}
+use Rattle.sound_terms.specs.declared.block.Stretch.{Stretch}
 use Rattle.sound_terms.specs.Media.{frame_length}
 use Rattle.sound_terms.specs.Sounds.{SoundFacts}
 use Rattle.blockmachine.specs.declared.buffer.Held.{Held}
+
+-- the frames of a stretch
+abbrev pub held_of : Stretch → Held
+held_of stretch = record { file = stretch.file; frame = stretch.frame; length = stretch.length }
 
 -- the bytes begin with these frames, as they stand in their file
 abbrev pub AreHeld : Files → List SoundFacts → Held → List ℕ → Type 0

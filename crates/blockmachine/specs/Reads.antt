@@ -18,13 +18,11 @@ pub record IsRead (sounds : List SoundFacts) (stretch : Stretch) (bytes : ℕ) :
   pub whole : (facts : SoundFacts) → slice_get sounds stretch.file ≡ Some facts
       → bytes ≡ stretch.length * facts.channels * (bits_of facts.depth / 8)
 
--- it lies in one, its frames have room in a buffer, and what this holds so far is known
-pub record CanHold (honest : Bool) (files : Files) (sounds : List SoundFacts) (part : Stretch) (now : Option Held)
-    (bytes : List ℕ) : Type 0 where
+-- it lies in one, and its frames have room in these bytes
+pub record HasRoom (sounds : List SoundFacts) (part : Stretch) (bytes : List ℕ) : Type 0 where
   pub lies : LiesInFile sounds part.file part.first part.width part.frame part.length
   pub room : (facts : SoundFacts) → slice_get sounds part.file ≡ Some facts
       → part.length * frame_length facts ≤ length bytes
-  pub held : Holds honest files sounds now bytes
 
 -- it can be played under a shape, and what a buffer holds so far is known
 pub record IsReady (honest : Bool) (files : Files) (sounds : List SoundFacts) (extent : Extent) (stretch : Stretch)

@@ -1,5 +1,5 @@
 -- The sums of a block as a machine keeps them: frame after frame.
-use Rattle.std.specs.Prelude.{◌≡◌, ◌⊎◌, ℕ, ◌+◌, ◌-◌, ◌*◌, ◌^◌, ◌<◌, ◌≤◌, Bool, true, ℤ, pos, neg_ℤ, ◌+ℤ◌, ◌≤ℤ◌, List, All, IsTrue, length, map, slice_index_or, if◌then◌else◌}
+use Rattle.std.specs.Prelude.{◌≡◌, ◌⊎◌, ℕ, ◌+◌, ◌-◌, ◌*◌, ◌<◌, ◌≤◌, Bool, true, ℤ, pos, ◌+ℤ◌, List, All, IsTrue, length, map, slice_index_or, if◌then◌else◌}
 use Rattle.sound_terms.specs.declared.Depth.{Depth}
 use Rattle.sound_terms.specs.declared.block.Stretch.{Stretch}
 use Rattle.sound_terms.specs.declared.piece.Shape.{Shape}
@@ -8,6 +8,7 @@ use Rattle.sound_terms.specs.Depth.{bits_of}
 use Rattle.sound_terms.specs.Mix.{Reading, full_scale, quantized, share_of}
 use Rattle.sound_terms.specs.Blocks.{FitsBlock, held, sums_with}
 use Rattle.pcm.specs.Samples.{FitsDepth}
+use Rattle.soundlaw.specs.Sums.{IsWithin}
 use Rattle.blockmachine.specs.Playing.{Plays}
 
 -- what a machine has room for
@@ -37,10 +38,6 @@ widened depth sums = map (full_scale depth) sums
 abbrev pub kept_sums : (at_depth : Bool) → (depth : ℕ) → (layers values : List ℤ) → List ℤ
 kept_sums at_depth depth layers values = if at_depth then widened depth layers else values
 
--- as large as the sum of m samples at most
-abbrev pub IsWithin : ℕ → ℤ → Type 0
-IsWithin m z = (neg_ℤ (pos (m * 2 ^ 47)) ≤ℤ z) × (z ≤ℤ pos (m * 2 ^ 47))
-
 -- as many sums are kept at a depth as at full scale, and they are zero where nothing was added
 pub record CanWiden (at_depth is_clear : Bool) (depth : ℕ) (layers values : List ℤ) : Type 0 where
   pub each : length layers ≡ length values
@@ -58,11 +55,6 @@ Counts most fewer_from at more = (more ≡ most + 1) ⊎ ((more ≡ most) × (1 
 -- the most additions that are added plainly: none of them can leave 64 bits
 abbrev pub few_additions : ℕ
 few_additions = 32767
-
--- a sample, or a share of one, is added to a sum; where this is small, it is the sum of few
-pub record TakeShare (is_small : Bool) (sum added : ℤ) : Type 0 where
-  pub small : IsTrue is_small → IsWithin 32766 sum
-  pub share : IsWithin 1 added
 
 -- so many samples are added to as many sums; where these are small none is, at full scale, larger than so many samples
 pub record TakeSamples (samples most : ℕ) (is_small : Bool) (kept full : List ℤ) : Type 0 where

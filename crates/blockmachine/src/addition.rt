@@ -1,29 +1,15 @@
 // Frames of a stretch, added to sums.
-ghost use Rattle.std.specs.Prelude.{if◌then◌else◌, IsTrue, true, ◌≡◌, ◌∷◌, [], ◌<◌, ◌≤◌, pos, ◌+ℤ◌, length, slice_index_or};
+ghost use Rattle.std.specs.Prelude.{if◌then◌else◌, IsTrue, true, ◌≡◌, ◌<◌, ◌≤◌, pos, length, slice_index_or};
 ghost use Rattle.sound_terms.specs.declared.piece.Shape.TheVariants as shape;
 ghost use Rattle.sound_terms.specs.Depth.{bits_of};
 ghost use Rattle.sound_terms.specs.Mix.{full_scale};
-ghost use Rattle.sound_terms.specs.Blocks.{held};
-ghost use Rattle.blockmachine.specs.Sums.{HasAdded, HasAddedTo, HasPlayed, IsWithin, TakeRows, TakeSamples, TakeShare, TakeStretch, block_of};
+ghost use Rattle.soundlaw.specs.Sums.{IsWithin};
+ghost use Rattle.blockmachine.specs.Sums.{HasAdded, HasAddedTo, HasPlayed, TakeRows, TakeSamples, TakeStretch, block_of};
 
 use crate::frames::{Frames, Lanes, Played, Row};
 use crate::slope::Slope;
 use sound_terms::{Depth, Shape};
-use soundlaw::{Gain, Scale};
-use std::simd::prelude::*;
-
-/// A sum and a share more. What is small can't leave 64 bits.
-#[inline(always)]
-fn added(sum: i64, share: i64, is_small: bool) -> i64
-    requires { TakeShare is_small sum share }
-    ensures { result ≡ held (sum +ℤ share) }
-{
-    if is_small {
-        sum + share
-    } else {
-        sum.saturating_add(share)
-    }
-}
+use soundlaw::{Gain, Scale, added, two_added};
 
 /// Sample k of these at full scale.
 #[inline(always)]
@@ -33,16 +19,6 @@ fn full_sample(row: &Row, k: usize) -> i64
     ensures within { IsWithin 1 result }
 {
     row.scale.widen(row.samples[k])
-}
-
-/// Two small sums, each with a sample more.
-#[inline(always)]
-fn two_added(first: i64, second: i64, low: i64, high: i64) -> [i64; 2]
-    requires first { TakeShare true first low }
-    requires second { TakeShare true second high }
-    ensures { result ≡ held (first +ℤ low) ∷ held (second +ℤ high) ∷ [] }
-{
-    (i64x2::from_array([first, second]) + i64x2::from_array([low, high])).to_array()
 }
 
 /// Adds samples to small sums two at a time, as long as two are left; gives how many it added.

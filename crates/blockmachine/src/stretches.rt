@@ -6,8 +6,8 @@ ghost use Rattle.sound_terms.specs.Blocks.{IsFull, sums_with};
 ghost use Rattle.devices.specs.Frame.{OnlyReads};
 ghost use Rattle.blockmachine.specs.Fault.{FailsAt, IsSource};
 ghost use Rattle.pcm.specs.Samples.{samples_in};
-ghost use Rattle.blockmachine.specs.Holding.{Holds};
-ghost use Rattle.blockmachine.specs.Reads.{CanHold, IsPart, IsRead, IsReady};
+ghost use Rattle.blockmachine.specs.Holding.{Holds, held_of};
+ghost use Rattle.blockmachine.specs.Reads.{HasRoom, IsPart, IsRead, IsReady};
 ghost use Rattle.blockmachine.specs.Playing.{Plays};
 ghost use Rattle.blockmachine.specs.Sums.{AreSums};
 
@@ -44,6 +44,29 @@ pub fn read_stored<S: Shelf>(
     }
 }
 
+/// Reads the frames of a stretch, with all channels of their file, to the front of the bytes.
+fn read_part<S: Shelf>(
+    part: &Stretch,
+    sounds: &[Sound],
+    shelf: &mut S,
+    bytes: &mut [u8],
+) -> Result<(), MachineFault>
+    requires { HasRoom sounds.now part.now bytes.old }
+    ensures held { OnOk result (Holds (S.honest shelf.old) (S.stored shelf.old) sounds.now
+        (Some (held_of part.now)) bytes.new) }
+    ensures source { IfErr result IsSource }
+    ensures only_reads { OnlyReads S.Shelf shelf.old shelf.new result (λ fault. IsSource fault)
+        (λ fault failed. FailsAt sounds.now fault failed) }
+{
+    let sound = &sounds[part.file as usize];
+    let frame = usize::from(sound.channels()) * usize::from(sound.depth().bits() / 8);
+    let count = part.length as usize * frame;
+    match sound.read_bytes(shelf, part.frame, &mut bytes[..count]) {
+        Ok(()) => Ok(()),
+        Err(_) => Err(MachineFault::Source { file: part.file }),
+    }
+}
+
 /// Sees to it that the bytes begin with the frames of a stretch, with all channels of their file: they are read, unless
 /// they stand there already.
 fn hold<S: Shelf>(
@@ -53,12 +76,9 @@ fn hold<S: Shelf>(
     bytes: &mut [u8],
     held: &mut Option<Held>,
 ) -> Result<(), MachineFault>
-    requires { CanHold (S.honest shelf.old) (S.stored shelf.old) sounds.now part.now held.old bytes.old }
-    ensures this { OnOk result (held.new ≡ Some (record {
-      file = part.now.file;
-      frame = part.now.frame;
-      length = part.now.length;
-    })) }
+    requires room { HasRoom sounds.now part.now bytes.old }
+    requires held { Holds (S.honest shelf.old) (S.stored shelf.old) sounds.now held.old bytes.old }
+    ensures this { OnOk result (held.new ≡ Some (held_of part.now)) }
     ensures held { OnOk result (Holds (S.honest shelf.old) (S.stored shelf.old) sounds.now held.new bytes.new) }
     ensures source { IfErr result IsSource }
     ensures only_reads { OnlyReads S.Shelf shelf.old shelf.new result (λ fault. IsSource fault)
@@ -73,16 +93,9 @@ fn hold<S: Shelf>(
         return Ok(());
     }
     *held = None;
-    let sound = &sounds[part.file as usize];
-    let frame = usize::from(sound.channels()) * usize::from(sound.depth().bits() / 8);
-    let count = part.length as usize * frame;
-    match sound.read_bytes(shelf, part.frame, &mut bytes[..count]) {
-        Ok(()) => {
-            *held = Some(wanted);
-            Ok(())
-        }
-        Err(_) => Err(MachineFault::Source { file: part.file }),
-    }
+    read_part(part, sounds, shelf, bytes)?;
+    *held = Some(wanted);
+    Ok(())
 }
 
 /// Adds the frames of a stretch, few enough to be read at once. They are read where the bytes don't hold them.

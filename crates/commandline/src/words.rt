@@ -1,6 +1,6 @@
 // What the program's words may be, as clap's command.
 ghost use Rattle.std.specs.Prelude.{◌≡◌, codes, IfOk, false};
-ghost use Rattle.clap.specs.Words.{app_of, new_rule, rule_of, shape_of, with_rule};
+ghost use Rattle.clap.specs.Words.{app_of, new_app, new_rule, rule_of, shape_of, with_rule};
 ghost use Rattle.commandline.specs.CommandLine.{adlcons_app, check_shape, compare_shape, consolidate_shape, default_rule, explain_shape, flag_rule, option_rule, over_both, over_folders, over_media, place_rule, rendering_shape, show_shape, top_app, with_choice, with_range, with_times};
 ghost use Rattle.commandline.specs.Globals.{AsGlobal, HasNoGlobals};
 
@@ -48,13 +48,20 @@ Example: adlcons render session.adl sources rendered";
 /// What the help says of a folder in which nothing is replaced.
 const EMPTY_FOLDER: &str = "The folder to write to: an existing, empty one";
 
+/// A command of this name, of which the help says this first and that last.
+fn told<'a>(alloc: Global, name: &'a str, about: &'a str, after: &'a str) -> Command<'a>
+    ensures app { app_of result ≡ new_app name.entry.now }
+    ensures local { HasNoGlobals result }
+{
+    Command::new(alloc, name).about(about).after_help(after)
+}
+
 /// The program itself, which wants a command.
 fn top_command<'a>(alloc: Global) -> Result<Command<'a>, AllocError>
     ensures { IfOk result (λ command. app_of command ≡ top_app) }
 {
-    Command::new(alloc, "adlcons")
-        .about("Checks, consolidates and renders audio decision lists (AES31-3) over WAVE files")
-        .after_help(STATUSES)
+    let about = "Checks, consolidates and renders audio decision lists (AES31-3) over WAVE files";
+    told(alloc, "adlcons", about, STATUSES)
         .version(VERSION)
         .no_binary_name(true)
         .arg_required_else_help(true)
@@ -202,7 +209,7 @@ fn over_media<'a>(
     ensures app { IfOk result (λ command. app_of command ≡ over_media name.entry.now) }
     ensures local { IfOk result HasNoGlobals }
 {
-    let command = Command::new(alloc, name).about(about).after_help(example);
+    let command = told(alloc, name, about, example);
     let list = "The list, a file; - is standard input";
     let command = with_place(alloc, command, "LIST", list)?;
     let media = "The folder of the list's WAVE files";
@@ -250,13 +257,22 @@ fn explain_command<'a>(alloc: Global) -> Result<Command<'a>, AllocError>
     ensures shape { IfOk result (λ command. shape_of command ≡ explain_shape) }
     ensures local { IfOk result HasNoGlobals }
 {
-    let command = Command::new(alloc, "explain")
-        .about("Tell what the number of a refusal or notice means, and what to do")
-        .after_help("Examples: adlcons explain 46, adlcons explain notice 3");
+    let about = "Tell what the number of a refusal or notice means, and what to do";
+    let examples = "Examples: adlcons explain 46, adlcons explain notice 3";
+    let command = told(alloc, "explain", about, examples);
     let what = "The number of a refusal, or 'notice'; without it all refusals";
     let command = with_word(alloc, command, "WHAT", what)?;
     let number = "Behind 'notice': its number; without it all notices";
     with_word(alloc, command, "NUMBER", number)
+}
+
+/// The command with one more word or option, which holds for this command alone.
+fn with_argument<'a>(command: Command<'a>, argument: Arg<'a>) -> Result<Command<'a>, AllocError>
+    requires { argument.global ≡ false }
+    ensures app { IfOk result (λ added. app_of added ≡ with_rule (app_of command.entry) (rule_of argument.entry)) }
+    ensures local { IfOk result (AsGlobal command.entry) }
+{
+    command.arg(argument)
 }
 
 /// The command with one more word that may be left out.
@@ -269,7 +285,15 @@ fn with_word<'a>(
     ensures app { IfOk result (λ added. app_of added ≡ with_rule (app_of command.entry) (new_rule id.entry.now)) }
     ensures local { IfOk result (AsGlobal command.entry) }
 {
-    command.arg(Arg::new(alloc, id).help(help))
+    with_argument(command, Arg::new(alloc, id).help(help))
+}
+
+/// A word that has to be given.
+fn place<'a>(alloc: Global, id: &'a str, help: &'a str) -> Arg<'a>
+    ensures rule { rule_of result ≡ place_rule id.entry.now }
+    ensures local { result.global ≡ false }
+{
+    Arg::new(alloc, id).required(true).help(help)
 }
 
 /// The command with one more word that has to be given.
@@ -282,7 +306,18 @@ fn with_place<'a>(
     ensures app { IfOk result (λ added. app_of added ≡ with_rule (app_of command.entry) (place_rule id.entry.now)) }
     ensures local { IfOk result (AsGlobal command.entry) }
 {
-    command.arg(Arg::new(alloc, id).required(true).help(help))
+    with_argument(command, place(alloc, id, help))
+}
+
+/// An option of this name that has no value.
+fn flag<'a>(alloc: Global, id: &'a str, help: &'a str) -> Arg<'a>
+    ensures rule { rule_of result ≡ flag_rule id.entry.now }
+    ensures local { result.global ≡ false }
+{
+    Arg::new(alloc, id)
+        .long(id)
+        .action(ArgAction::SetTrue)
+        .help(help)
 }
 
 /// The command with one more option that has no value.
@@ -295,12 +330,7 @@ fn with_flag<'a>(
     ensures app { IfOk result (λ added. app_of added ≡ with_rule (app_of command.entry) (flag_rule id.entry.now)) }
     ensures local { IfOk result (AsGlobal command.entry) }
 {
-    command.arg(
-        Arg::new(alloc, id)
-            .long(id)
-            .action(ArgAction::SetTrue)
-            .help(help),
-    )
+    with_argument(command, flag(alloc, id, help))
 }
 
 /// An option of this name, whose value the help calls `value`.
@@ -322,7 +352,7 @@ fn with_option<'a>(
     ensures app { IfOk result (λ added. app_of added ≡ with_rule (app_of command.entry) (option_rule id.entry.now)) }
     ensures local { IfOk result (AsGlobal command.entry) }
 {
-    command.arg(option(alloc, id, value, help))
+    with_argument(command, option(alloc, id, value, help))
 }
 
 /// The command with one more option, which has a value where it is left out.
@@ -338,5 +368,6 @@ fn with_default<'a>(
         (λ added. app_of added ≡ with_rule (app_of command.entry) (default_rule id.entry.now default.entry.now)) }
     ensures local { IfOk result (AsGlobal command.entry) }
 {
-    command.arg(option(alloc, id, value, help).default_value(default))
+    let argument = option(alloc, id, value, help).default_value(default);
+    with_argument(command, argument)
 }

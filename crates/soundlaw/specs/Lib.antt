@@ -1,2 +1,4 @@
 pub mod Crossfade
 pub mod Laws
+pub mod SumLaws
+pub mod Sums

@@ -8,11 +8,13 @@ ghost use Rattle.sound_terms.specs.Mix.{full_scale, quantized, share_of};
 ghost use Rattle.pcm.specs.Samples.{FitsDepth};
 ghost use Rattle.soundlaw.specs.Crossfade.{IsCrossfadeExact};
 
+mod addition;
 mod fraction;
 mod gain;
 mod rise;
 mod scale;
 
+pub use addition::{added, two_added};
 pub use fraction::Fraction;
 pub use gain::Gain;
 use pcm::Depth;

@@ -1,18 +1,34 @@
 //! The public calls as a caller writes them: each type named, each call made once, with its arguments and its answer.
-//! That it is proved keeps these names, arguments and answers as they are. A consolidation and a rendering are made of
-//! their parts here, too.
+//! That it is proved, with the tests, keeps these names, arguments and answers as they are. A consolidation and a rendering
+//! are made of their parts here, too. The tests are of these, and of the program as a call, over stores in memory: the
+//! status, and all that is printed.
 #![tactic(auto)]
 
-pub mod blocks;
-pub mod boards;
-pub mod calls;
-pub mod fields;
-pub mod files;
-pub mod lists;
-pub mod marks;
-pub mod media;
-pub mod numbers;
-pub mod samples;
-pub mod sounding;
-pub mod stores;
-pub mod words;
+#[cfg(test)]
+mod blocks;
+#[cfg(test)]
+mod boards;
+#[cfg(test)]
+mod calls;
+#[cfg(test)]
+mod fields;
+#[cfg(test)]
+mod files;
+#[cfg(test)]
+mod lists;
+#[cfg(test)]
+mod marks;
+#[cfg(test)]
+mod media;
+#[cfg(test)]
+mod numbers;
+#[cfg(test)]
+mod samples;
+#[cfg(test)]
+mod sounding;
+#[cfg(test)]
+mod stores;
+#[cfg(test)]
+mod tests;
+#[cfg(test)]
+mod words;

@@ -1,8 +1,14 @@
-// Lists, and what is made of them.
+// Lists, what is made of them, and how that ends where a call of a store fails.
 mod consolidations;
 mod copies;
+mod failing_devices;
+mod failing_schedules;
 mod flat_cut;
 mod media_schedules;
+mod memory;
 mod orders;
+mod resumed;
 mod schedules;
+mod stops;
 mod tokens;
+mod works;

@@ -6,7 +6,8 @@ use Rattle.sound_terms.specs.Depth.{bits_of}
 use Rattle.sound_terms.specs.declared.Depth.{Depth}
 use Rattle.sound_terms.specs.Groups.{fraction_of}
 use Rattle.sound_terms.specs.Blocks.{sums_with}
-use Rattle.blockmachine.specs.Sums.{AreSums, HasAdded, IsWithin, block_of}
+use Rattle.soundlaw.specs.Sums.{IsWithin}
+use Rattle.blockmachine.specs.Sums.{AreSums, HasAdded, block_of}
 use Rattle.blockmachine.proofs.Added.{IsRun, no_sample, run_fits, run_more, ramp_shorter}
 use Rattle.blockmachine.proofs.Slopes.{slope_fraction, slope_more, slope_next}
 use Rattle.blockmachine.proofs.Places.{get_or-part, kept_elsewhere}

@@ -7,7 +7,8 @@ use mir.Val.{SFits, of_z, to_z}
 use Rattle.sound_terms.specs.Depth.{bits_of}
 use Rattle.sound_terms.specs.Mix.{full_scale, share_of}
 use Rattle.sound_terms.specs.Blocks.{held}
-use Rattle.blockmachine.specs.Sums.{HasAddedTo, IsWithin, widened}
+use Rattle.soundlaw.specs.Sums.{IsWithin}
+use Rattle.blockmachine.specs.Sums.{HasAddedTo, widened}
 use Rattle.blockmachine.proofs.Added.{added_more, flat_share}
 use Rattle.blockmachine.proofs.AtDepth.{get_or-widened}
 use Rattle.blockmachine.proofs.layers.add_samples.Goals as goal

@@ -1,6 +1,7 @@
 use Rattle.std.proofs.Common.{◌≡◌, ◌∙◌, Bool, All, ap, subst, sym}
 use Rattle.sound_terms.specs.Depth.{bits_of}
-use Rattle.blockmachine.specs.Sums.{IsWithin, kept_sums, widened}
+use Rattle.soundlaw.specs.Sums.{IsWithin}
+use Rattle.blockmachine.specs.Sums.{kept_sums, widened}
 use Rattle.blockmachine.proofs.AtDepth.{zeros_widened}
 use Rattle.blockmachine.proofs.layers.widen_layers.Goals as goal
 

@@ -14,11 +14,10 @@ use Rattle.blockmachine.proofs.Held.{AreRead, bytes_of, held_full, held_plays, l
 use Rattle.blockmachine.proofs.stretches.add_part.Given.{Over}
 use Rattle.blockmachine.proofs.stretches.add_part.Goals as goal
 
-pub hold-requires : goal.hold-requires
-hold-requires g c = record {
+pub hold-requires-clause-room : goal.hold-requires-clause-room
+hold-requires-clause-room g c = record {
   lies = c.requires.ready.plays.lies;
   room = λ facts there. room_for facts c.args.part.now.length _ _ (c.requires.few facts there) c.requires.room;
-  held = c.requires.ready.held;
 }
 
 pub returns-clause-held : goal.returns-clause-held

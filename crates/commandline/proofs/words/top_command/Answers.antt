@@ -5,9 +5,8 @@ use Rattle.commandline.proofs.words.top_command.Goals as goal
 
 pub returns : goal.returns
 returns c =
-    let named = ap app_of_fields c.after_help.ensures ∙ ap app_of_fields c.about.ensures ∙ c.new.ensures.app in
     let versioned = ap app_of_fields c.version.ensures
-    ∙ ap (on_top (λ s. record s { has_version = true })) named in
+    ∙ ap (on_top (λ s. record s { has_version = true })) c.told.ensures.app in
     let bare = ap app_of_fields c.no_binary_name.ensures
     ∙ ap (on_top (λ s. record s { no_binary_name = true })) versioned in
     let helpful = ap app_of_fields c.arg_required_else_help.ensures

@@ -6,8 +6,8 @@ use Rattle.std.proofs.lemmas.Int.{ints, to_z-of_z}
 use mir.Syntax.{w64}
 use mir.Val.{SFits, of_z, to_z}
 use Rattle.sound_terms.specs.Blocks.{held}
-use Rattle.blockmachine.specs.Sums.{IsWithin}
-use Rattle.blockmachine.proofs.Bounds.{held_few, within_add}
+use Rattle.soundlaw.specs.Sums.{IsWithin}
+use Rattle.soundlaw.specs.SumLaws.{held_few, within_add}
 
 -- a number less another one, or the other way round
 less : (n m : ℕ) → m ≤ n → negsuc n +ℤ pos m ≡ negsuc (n - m)

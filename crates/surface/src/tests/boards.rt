@@ -1,6 +1,6 @@
 // A board of two jobs, as workers meet it.
+use crate::boards::{counted, failed, new_board, resumed_board, round};
 use std::test::Fail;
-use surface::boards::{counted, failed, new_board, resumed_board, round};
 use workboard::{BoardFault, Ticket};
 
 #[test]

@@ -1,6 +1,6 @@
 // A rendering that is gone on with behind the events of two workers: the first one's job is taken back, and the second one
 // delivers it.
-use crate::tests::schedules::TAKEN_BACK;
+use crate::tests::failing_schedules::TAKEN_BACK;
 use crate::tests::works::{Call, Job};
 use std::test::Fail;
 

@@ -1,4 +1,8 @@
 // A consolidation and a rendering that a caller makes of their parts, beside those of the calls.
+use crate::blocks::{first_source, samples_of};
+use crate::calls::rendered;
+use crate::lists::bound_and_checked;
+use crate::media::consolidated_by_parts;
 use adlread::read;
 use consolidate::consolidate;
 use projectcheck::Checked;
@@ -8,10 +12,6 @@ use sound_terms::{Bext, Depth};
 use std::alloc::Global;
 use std::process::Abort;
 use std::test::Fail;
-use surface::blocks::{first_source, samples_of};
-use surface::calls::rendered;
-use surface::lists::bound_and_checked;
-use surface::media::consolidated_by_parts;
 use trials_projects::lists::list;
 use trials_projects::media::{head_with, with_samples};
 

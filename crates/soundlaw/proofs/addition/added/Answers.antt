@@ -3,8 +3,8 @@ use Rattle.std.specs.Prelude.{◌+ℤ◌}
 use Rattle.std.proofs.lemmas.Int.{to_z-of_z}
 use mir.Syntax.{w64}
 use mir.Val.{SFits}
-use Rattle.blockmachine.proofs.Bounds.{held_few, within_add}
-use Rattle.blockmachine.proofs.addition.added.Goals as goal
+use Rattle.soundlaw.specs.SumLaws.{held_few, within_add}
+use Rattle.soundlaw.proofs.addition.added.Goals as goal
 
 pub returns-then-is_small : goal.returns-then-is_small
 returns-then-is_small c =

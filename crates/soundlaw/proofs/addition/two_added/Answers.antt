@@ -1,6 +1,6 @@
 use Rattle.std.proofs.Common.{refl}
-use Rattle.blockmachine.proofs.Lanes.{lane_added}
-use Rattle.blockmachine.proofs.addition.two_added.Goals as goal
+use Rattle.soundlaw.proofs.Lanes.{lane_added}
+use Rattle.soundlaw.proofs.addition.two_added.Goals as goal
 
 pub returns : goal.returns
 returns c = rw (

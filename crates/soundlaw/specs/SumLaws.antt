@@ -7,7 +7,7 @@ use Rattle.std.proofs.Math.Nat.{div-le_of_le-mul, div-lt_iff_lt-mul, mul-le-mul_
 use Rattle.std.proofs.Math.IntN.{negsuc-*ℤ-pos, pos-*ℤ-pos}
 use Rattle.sound_terms.specs.Mix.{share_of}
 use Rattle.sound_terms.specs.Blocks.{held}
-use Rattle.blockmachine.specs.Sums.{IsWithin}
+use Rattle.soundlaw.specs.Sums.{IsWithin}
 
 pub within_add : (m n : ℕ) (x y : ℤ) → IsWithin m x → IsWithin n y → IsWithin (m + n) (x +ℤ y)
 within_add m n x y first second = (omega (arith, ints, first, second), omega (arith, ints, first, second))
