@@ -5,30 +5,6 @@
 #![tactic(auto)]
 
 #[cfg(test)]
-mod blocks;
-#[cfg(test)]
-mod boards;
-#[cfg(test)]
-mod calls;
-#[cfg(test)]
-mod fields;
-#[cfg(test)]
-mod files;
-#[cfg(test)]
-mod lists;
-#[cfg(test)]
-mod marks;
-#[cfg(test)]
-mod media;
-#[cfg(test)]
-mod numbers;
-#[cfg(test)]
-mod samples;
-#[cfg(test)]
-mod sounding;
-#[cfg(test)]
-mod stores;
+mod callers;
 #[cfg(test)]
 mod tests;
-#[cfg(test)]
-mod words;

@@ -1,5 +1,5 @@
 // A board of two jobs, as workers meet it.
-use crate::boards::{counted, failed, new_board, resumed_board, round};
+use crate::callers::boards::{counted, failed, new_board, resumed_board, round};
 use std::test::Fail;
 use workboard::{BoardFault, Ticket};
 

@@ -1,8 +1,8 @@
 // A consolidation and a rendering that a caller makes of their parts, beside those of the calls.
-use crate::blocks::{first_source, samples_of};
-use crate::calls::rendered;
-use crate::lists::bound_and_checked;
-use crate::media::consolidated_by_parts;
+use crate::callers::blocks::{first_source, samples_of};
+use crate::callers::calls::rendered;
+use crate::callers::lists::bound_and_checked;
+use crate::callers::media::consolidated_by_parts;
 use adlread::read;
 use consolidate::consolidate;
 use projectcheck::Checked;

@@ -1,5 +1,5 @@
 use Rattle.std.proofs.Common.{◌≡◌}
-use Rattle.surface.proofs.blocks.samples_of.Given as goal
+use Rattle.surface.proofs.callers.blocks.samples_of.Given as goal
 
 abbrev pub invariant-loop-k : goal.invariant-loop-k
 invariant-loop-k g l = (l.machine ≡ l.initial.machine) × (l.program.room ≡ l.initial.program.room)

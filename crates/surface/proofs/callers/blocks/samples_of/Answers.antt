@@ -5,7 +5,7 @@ use Rattle.sound_terms.specs.Media.{IsPieceOf}
 use Rattle.list_terms.specs.Binding.{Binding}
 use Rattle.list_terms.specs.Heard.{sounds_of}
 use Rattle.renderplan.specs.Planned.{Planned}
-use Rattle.surface.proofs.blocks.samples_of.Goals as goal
+use Rattle.surface.proofs.callers.blocks.samples_of.Goals as goal
 
 pub run-requires-clause-inside : goal.run-requires-clause-inside
 run-requires-clause-inside g c =
