@@ -1,5 +1,5 @@
-//! Tests of lists: their tokens, copies of their projects, consolidations by any passes, works by the events of any
-//! workers, and works whose stores fail or stop at a chosen call, each call in turn.
+//! Tests of lists: their tokens, copies of their projects, pieces of their media, consolidations by any passes, works by
+//! the events of any workers, and works whose stores fail or stop at a chosen call, each call in turn.
 #![tactic(auto)]
 
 #[cfg(test)]

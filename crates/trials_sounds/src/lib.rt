@@ -1,4 +1,4 @@
-//! Tests of sound: kernels, chunks, pieces that are cut and go by any passes, programs of blocks, what is read for
+//! Tests of sound: kernels, chunks, pieces that are cut, what passes ask about, programs of blocks, what is read for
 //! silence, and the longest files.
 #![tactic(auto)]
 

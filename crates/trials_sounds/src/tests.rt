@@ -4,7 +4,6 @@ mod chunks;
 mod intervals;
 mod kernels;
 mod long_files;
-mod media;
 mod pass_lists;
 mod programs;
 mod silences;

@@ -10,7 +10,6 @@ use sampletime::SampleTime;
 use shelf::{MemoryBench, MemoryShelf};
 use sound_terms::{Bext, Depth};
 use std::alloc::Global;
-use std::process::Abort;
 use std::test::Fail;
 use trials_projects::lists::list;
 use trials_projects::media::{head_with, with_samples};
@@ -50,32 +49,45 @@ fn checked(alloc: Global, shelf: &mut MemoryShelf) -> Result<Checked, Fail> {
     Ok(checked)
 }
 
-/// Fails unless both have this file, with the same bytes.
-fn require_same(rt: &impl Abort, one: &MemoryBench, other: &MemoryBench, name: &str) {
-    assert!(rt; one.bytes(name).is_some(), "{name}");
-    assert!(rt; one.bytes(name) == other.bytes(name), "{name}");
+/// What a caller makes of its parts, with ten frames on either side.
+fn made_of_parts(alloc: Global, shelf: &mut MemoryShelf) -> Result<MemoryBench, Fail> {
+    let mut bench = MemoryBench::new(alloc);
+    let checked = checked(alloc, shelf)?;
+    if consolidated_by_parts(alloc, &checked, 10, shelf, &mut bench).is_err() {
+        return Err("not made".into());
+    }
+    Ok(bench)
+}
+
+/// What the call makes.
+fn made_by_call(alloc: Global, shelf: &mut MemoryShelf) -> Result<MemoryBench, Fail> {
+    let mut bench = MemoryBench::new(alloc);
+    let text = list(alloc, ENTRIES)?;
+    consolidate(
+        alloc,
+        text.as_bytes(),
+        10,
+        Vec::new(alloc),
+        shelf,
+        &mut bench,
+    )?;
+    Ok(bench)
+}
+
+/// Whether both have this file, with the same bytes.
+fn have_same(one: &MemoryBench, other: &MemoryBench, name: &str) -> bool {
+    one.bytes(name).is_some() & (one.bytes(name) == other.bytes(name))
 }
 
 #[test]
 fn parts_make_the_media_and_the_list_of_the_call(rt: HostRuntime) -> Result<(), Fail> {
     let mut shelf = sources(rt.alloc())?;
-    let checked = checked(rt.alloc(), &mut shelf)?;
-    let mut by_parts = MemoryBench::new(rt.alloc());
-    assert!(rt; consolidated_by_parts(rt.alloc(), &checked, 10, &mut shelf, &mut by_parts).is_ok());
-    let mut by_call = MemoryBench::new(rt.alloc());
-    let passes = Vec::new(rt.alloc());
-    let text = list(rt.alloc(), ENTRIES)?;
-    consolidate(
-        rt.alloc(),
-        text.as_bytes(),
-        10,
-        passes,
-        &mut shelf,
-        &mut by_call,
-    )?;
-    for name in ["M00001.wav", "M00002.wav", "consolidated.adl"] {
-        require_same(&rt, &by_parts, &by_call, name);
-    }
+    let by_parts = made_of_parts(rt.alloc(), &mut shelf)?;
+    let by_call = made_by_call(rt.alloc(), &mut shelf)?;
+    let are_same = have_same(&by_parts, &by_call, "M00001.wav")
+        & have_same(&by_parts, &by_call, "M00002.wav")
+        & have_same(&by_parts, &by_call, "consolidated.adl");
+    assert!(rt; are_same);
     Ok(())
 }
 
@@ -88,19 +100,38 @@ fn are_bytes_of(bytes: &[u8], samples: &[i32]) -> bool {
         })
 }
 
+/// The samples that a caller makes of its blocks.
+fn samples_of_blocks(alloc: Global, shelf: &mut MemoryShelf) -> Result<Vec<i32>, Fail> {
+    let end = SampleTime::new(END).ok_or("no time")?;
+    let checked = checked(alloc, shelf)?;
+    match samples_of(alloc, &checked, end, shelf) {
+        Ok(samples) => Ok(samples),
+        Err(_) => Err("no samples".into()),
+    }
+}
+
+/// Whether these are the samples that the call renders.
+fn are_rendered(alloc: Global, samples: &[i32], shelf: &mut MemoryShelf) -> Result<bool, Fail> {
+    let mut bench = MemoryBench::new(alloc);
+    let text = list(alloc, ENTRIES)?;
+    rendered(alloc, text.as_bytes(), shelf, &mut bench)?;
+    let file = bench.bytes("render.wav").unwrap_or(&[]);
+    Ok(are_bytes_of(file.get(SAMPLES_AT..).unwrap_or(&[]), samples))
+}
+
 #[test]
 fn blocks_make_the_samples_of_the_call(rt: HostRuntime) -> Result<(), Fail> {
     let mut shelf = sources(rt.alloc())?;
-    let checked = checked(rt.alloc(), &mut shelf)?;
+    let samples = samples_of_blocks(rt.alloc(), &mut shelf)?;
+    assert!(rt; are_rendered(rt.alloc(), samples.as_slice(), &mut shelf)?);
+    Ok(())
+}
+
+#[test]
+fn the_first_source_of_a_project_is_told(rt: HostRuntime) -> Result<(), Fail> {
+    let mut shelf = sources(rt.alloc())?;
     let end = SampleTime::new(END).ok_or("no time")?;
-    let Ok(samples) = samples_of(rt.alloc(), &checked, end, &mut shelf) else {
-        return Err("no samples".into());
-    };
-    let mut bench = MemoryBench::new(rt.alloc());
-    let text = list(rt.alloc(), ENTRIES)?;
-    rendered(rt.alloc(), text.as_bytes(), &mut shelf, &mut bench)?;
-    let file = bench.bytes("render.wav").unwrap_or(&[]);
-    assert!(rt; are_bytes_of(file.get(SAMPLES_AT..).unwrap_or(&[]), samples.as_slice()));
+    let checked = checked(rt.alloc(), &mut shelf)?;
     assert!(rt; first_source(rt.alloc(), &checked, end).is_ok_and(|found| found == Some((0, 3))));
     Ok(())
 }

@@ -76,44 +76,46 @@ fn answer_over(
 }
 
 /// Fails unless the status and both texts are these.
-fn require(
-    rt: &impl Abort,
-    answered: &Answered,
-    status: u8,
-    out: &str,
-    err: &str,
-) -> Result<(), Fail> {
+fn require(rt: &impl Abort, answered: Answered, status: u8, out: &str, err: &str) {
     assert_eq!(rt; answered.status, status);
     assert!(rt; answered.out.text() == Some(out.as_bytes()));
     assert!(rt; answered.err.text() == Some(err.as_bytes()));
-    Ok(())
+}
+
+/// Answers the words over the entry of four frames.
+fn answer_four(
+    alloc: Global,
+    words: &[&str],
+    bench: &mut MemoryBench,
+) -> Result<Answered, AllocError> {
+    let folder = folder(alloc, FOUR_SAMPLES)?;
+    answer_over(alloc, words, SHORT_ENTRY, folder, bench)
+}
+
+/// Whether a file on a bench has the four samples, and so many bytes.
+fn has_four(bench: &MemoryBench, name: &str, length: usize) -> bool {
+    let file = bench.bytes(name).unwrap_or(&[]);
+    file.len() == length && file.get(SAMPLES_AT..) == FOUR_SAMPLES.get(4..)
 }
 
 #[test]
 fn four_samples_are_rendered(rt: HostRuntime) -> Result<(), Fail> {
-    let alloc = rt.alloc();
-    let mut bench = MemoryBench::new(alloc);
+    let mut bench = MemoryBench::new(rt.alloc());
     let words = ["render", "L.adl", "M", "O", "--depth", "16"];
-    let folder = folder(alloc, FOUR_SAMPLES)?;
-    let answered = answer_over(alloc, &words, SHORT_ENTRY, folder, &mut bench)?;
-    require(&rt, &answered, 0, "rendered 4 frames 1 channels\n", "")?;
-    let file = bench.bytes("render.wav").unwrap_or(&[]);
-    assert_eq!(rt; file.len(), 698);
-    assert!(rt; file.get(SAMPLES_AT..) == FOUR_SAMPLES.get(4..));
+    let answered = answer_four(rt.alloc(), &words, &mut bench)?;
+    require(&rt, answered, 0, "rendered 4 frames 1 channels\n", "");
+    assert!(rt; has_four(&bench, "render.wav", 698));
     Ok(())
 }
 
 #[test]
 fn four_samples_are_consolidated(rt: HostRuntime) -> Result<(), Fail> {
-    let alloc = rt.alloc();
-    let mut bench = MemoryBench::new(alloc);
+    let mut bench = MemoryBench::new(rt.alloc());
     let words = ["consolidate", "L.adl", "M", "O"];
-    let folder = folder(alloc, FOUR_SAMPLES)?;
-    let answered = answer_over(alloc, &words, SHORT_ENTRY, folder, &mut bench)?;
+    let answered = answer_four(rt.alloc(), &words, &mut bench)?;
     let saved = "kept 8 of 8 bytes of samples; wrote 1017 bytes in all\n";
-    require(&rt, &answered, 0, "written 1 media 1 entries\n", saved)?;
-    let medium = bench.bytes("M00001.wav").unwrap_or(&[]);
-    assert!(rt; medium.get(SAMPLES_AT..) == FOUR_SAMPLES.get(4..));
+    require(&rt, answered, 0, "written 1 media 1 entries\n", saved);
+    assert!(rt; has_four(&bench, "M00001.wav", 698));
     Ok(())
 }
 
@@ -135,7 +137,8 @@ fn fades_longer_than_their_entry_are_refused(rt: HostRuntime) -> Result<(), Fail
     let explanation =
         "the fades are longer than the entry: in-fade and out-fade together are longer than from in to out; \
         shorten the fades (adlcons explain 43)\n";
-    require(&rt, &answered, 1, "refused 43 at entry 7\n", explanation)
+    require(&rt, answered, 1, "refused 43 at entry 7\n", explanation);
+    Ok(())
 }
 
 #[test]
@@ -143,7 +146,8 @@ fn fades_as_long_as_their_entry_are_accepted(rt: HostRuntime) -> Result<(), Fail
     let answered = checked_with_fades(rt.alloc(), "00.00.00.00/0004")?;
     let room =
         "consolidate would write at most 1406 bytes of media\nrender would write 765 bytes\n";
-    require(&rt, &answered, 0, "accepted 1 entries 1 indexes\n", room)
+    require(&rt, answered, 0, "accepted 1 entries 1 indexes\n", room);
+    Ok(())
 }
 
 #[test]
@@ -154,19 +158,17 @@ fn a_missing_file_is_refused_by_its_name(rt: HostRuntime) -> Result<(), Fail> {
     let explanation =
         "there is no such file: the media folder has no file of that name, or its name is spelled differently; \
         put the file into the folder, or name the folder that has it (adlcons explain 21)\n";
-    require(&rt, &answered, 1, refusal, explanation)
+    require(&rt, answered, 1, refusal, explanation);
+    Ok(())
 }
 
 #[test]
 fn words_that_lack_the_output_are_a_mistake(rt: HostRuntime) -> Result<(), Fail> {
-    let alloc = rt.alloc();
-    let mut bench = MemoryBench::new(alloc);
-    let words = ["render", "L.adl", "M"];
-    let folder = folder(alloc, FOUR_SAMPLES)?;
-    let answered = answer_over(alloc, &words, SHORT_ENTRY, folder, &mut bench)?;
+    let mut bench = MemoryBench::new(rt.alloc());
+    let answered = answer_four(rt.alloc(), &["render", "L.adl", "M"], &mut bench)?;
     let usage = "error: the following required arguments were not provided:\n  <OUT>\n\n\
         Usage: adlcons render <LIST> <MEDIA> <OUT>\n\nFor more information, try '--help'.\n";
-    require(&rt, &answered, 2, "", usage)?;
+    require(&rt, answered, 2, "", usage);
     assert!(rt; bench.bytes("render.wav").is_none());
     Ok(())
 }

@@ -1,11 +1,12 @@
 // Renderings by the events of several workers, as they are worked out by hand.
-use crate::tests::works::{BLOCK, Call, Job, rounds};
+use crate::tests::works::{BLOCK, Call, Job, round, rounds};
 use consolidate::{BoardEvent, Progress};
 use std::alloc::{AllocError, Global};
+use std::process::Abort;
 use std::test::Fail;
 
 /// The first job is taken back from the first worker, the second one delivers it, and the first does the others.
-pub(crate) const TAKEN_BACK: [BoardEvent; 13] = [
+const TAKEN_BACK: [BoardEvent; 13] = [
     BoardEvent::Give(1),
     BoardEvent::Reclaim(0),
     BoardEvent::Give(2),
@@ -16,13 +17,6 @@ pub(crate) const TAKEN_BACK: [BoardEvent; 13] = [
     BoardEvent::Give(1),
     BoardEvent::Work(1),
     BoardEvent::Deliver(1),
-    BoardEvent::Give(1),
-    BoardEvent::Work(1),
-    BoardEvent::Deliver(1),
-];
-
-/// The first block is made and delivered.
-const FIRST_BLOCK: [BoardEvent; 3] = [
     BoardEvent::Give(1),
     BoardEvent::Work(1),
     BoardEvent::Deliver(1),
@@ -45,7 +39,7 @@ fn three_at_once(alloc: Global) -> Result<Vec<BoardEvent>, AllocError> {
 fn a_block_that_was_taken_back_is_delivered_twice(rt: HostRuntime) -> Result<(), Fail> {
     let job = Job::new(rt.alloc(), Call::Render)?;
     let mut bench = job.bench()?;
-    let progress = job.render_by(&TAKEN_BACK, &mut job.shelf(0, 0)?, &mut bench)?;
+    let progress = job.brought(&TAKEN_BACK, &mut bench)?;
     let wanted = Progress {
         idle: 0,
         out: 0,
@@ -58,39 +52,73 @@ fn a_block_that_was_taken_back_is_delivered_twice(rt: HostRuntime) -> Result<(),
     Ok(())
 }
 
-#[test]
-fn only_work_reads_samples(rt: HostRuntime) -> Result<(), Fail> {
-    let job = Job::new(rt.alloc(), Call::Render)?;
-    let mut counts = [0; 3];
-    for (i, range) in [None, Some((0, BLOCK)), Some((0, BLOCK))]
-        .iter()
-        .enumerate()
-    {
-        let mut shelf = job.recorded()?;
-        job.render_by(&FIRST_BLOCK[..i + 1], &mut shelf, &mut job.bench()?)?;
-        counts[i] = shelf.reads();
-        assert!(rt; shelf.take_range() == *range, "{i}");
-    }
-    assert_eq!(rt; (counts[0], counts[2]), (0, counts[1]));
+/// Goes on with a rendering whose first job was taken back from its worker and delivered by another: no sample of the block
+/// is read again.
+fn goes_on(rt: &impl Abort, job: &Job) -> Result<(), Fail> {
+    let mut shelf = job.recorded()?;
+    let mut bench = job.bench()?;
+    let progress = job.run_events(&TAKEN_BACK[..6], &mut shelf, &mut bench)??;
+    assert!(rt; progress.idle == 2 && progress.done == 1);
+    shelf.take_range();
+    let resumed = job.resume(&mut shelf, &mut bench)?;
+    assert!(rt; resumed.marked == 1);
+    assert!(rt; shelf.take_range() == job.range_behind(1));
+    assert!(rt; job.is_whole(&bench));
     Ok(())
 }
 
 #[test]
+fn a_rendering_goes_on_behind_its_events(rt: HostRuntime) -> Result<(), Fail> {
+    goes_on(&rt, &Job::new(rt.alloc(), Call::Render)?)
+}
+
+/// How often these events read samples, and between which of their bytes.
+fn read_by(job: &Job, events: &[BoardEvent]) -> Result<(u32, Option<(u64, u64)>), Fail> {
+    let mut shelf = job.recorded()?;
+    let mut bench = job.bench()?;
+    let _ = job.run_events(events, &mut shelf, &mut bench)??;
+    Ok((shelf.reads(), shelf.take_range()))
+}
+
+#[test]
+fn only_work_reads_samples(rt: HostRuntime) -> Result<(), Fail> {
+    let job = Job::new(rt.alloc(), Call::Render)?;
+    let events = round(1);
+    assert!(rt; read_by(&job, &events[..1])? == (0, None));
+    let (reads, range) = read_by(&job, &events[..2])?;
+    assert!(rt; range == Some((0, BLOCK)));
+    assert!(rt; read_by(&job, &events)? == (reads, range));
+    Ok(())
+}
+
+/// Whether these events end a rendering of 200 blocks, whole, where three calls of the sources fail behind so many: it is
+/// refused where these are calls that open its list.
+fn is_done_behind(
+    rt: &impl Abort,
+    job: &Job,
+    events: &[BoardEvent],
+    from: u64,
+) -> Result<bool, Fail> {
+    let mut shelf = job.shelf(from, 3)?;
+    let mut bench = job.bench()?;
+    let Ok(progress) = job.run_events(events, &mut shelf, &mut bench)? else {
+        return Ok(false);
+    };
+    assert!(rt; progress.finished & (progress.done == 200), "{from}");
+    assert_eq!(rt; shelf.failures(), 3, "{from}");
+    assert!(rt; job.is_whole(&bench), "{from}");
+    Ok(true)
+}
+
+#[test]
 fn three_blocks_of_many_that_fail_once_are_made_again(rt: HostRuntime) -> Result<(), Fail> {
-    let job = Job::of_many_blocks(rt.alloc())?;
     let events = three_at_once(rt.alloc())?;
+    let job = Job::of_many_blocks(rt.alloc())?;
     for from in 0..100 {
-        let mut shelf = job.shelf(from, 3)?;
-        let mut bench = job.bench()?;
-        let answer = job.render_by(events.as_slice(), &mut shelf, &mut bench);
-        let Ok(progress) = answer else {
-            continue;
-        };
         // the first three calls that don't fail the opening of the list are those of the three workers
-        assert!(rt; progress.finished & (progress.done == 200), "{from}");
-        assert_eq!(rt; shelf.failures(), 3, "{from}");
-        assert!(rt; job.is_whole(&bench), "{from}");
-        return Ok(());
+        if is_done_behind(&rt, &job, events.as_slice(), from)? {
+            return Ok(());
+        }
     }
     Err("it is never done".into())
 }

@@ -1,7 +1,7 @@
 // Works whose jobs go by time and by source.
 ghost use Rattle.rendering.specs.Rendering.{HaveChannels};
 
-use crate::tests::schedules::round;
+use crate::tests::works::round;
 use consolidate::{Depth, Options, Order, Work, run_schedule};
 use sampletime::SampleTime;
 use shelf::{MemoryBench, MemoryShelf};

@@ -117,6 +117,37 @@ fn medium(alloc: Global, first: u64) -> Result<Vec<u8>, Fail> {
     Ok(file)
 }
 
+/// One file.
+fn one_file(alloc: Global, name: &'static str, bytes: Vec<u8>) -> Result<Files, AllocError> {
+    let mut files = Vec::new(alloc);
+    files.push((name, bytes))?;
+    Ok(files)
+}
+
+/// What is rendered of three blocks.
+fn rendered(alloc: Global) -> Result<Files, Fail> {
+    Ok(one_file(alloc, SOUND, sound(alloc, FRAMES)?)?)
+}
+
+/// Adds a copy of a file.
+fn push_file(files: &mut Files, name: &'static str, bytes: &[u8]) -> Result<(), AllocError> {
+    let bytes = bytes.to_vec(*files.allocator())?;
+    files.push((name, bytes))?;
+    Ok(())
+}
+
+/// What is left of the entry with a silent middle, with a report or without one.
+fn consolidated(alloc: Global, is_reported: bool) -> Result<Files, Fail> {
+    let mut files = one_file(alloc, "M00001.wav", medium(alloc, 0)?)?;
+    push_file(&mut files, "M00002.wav", medium(alloc, 8)?.as_slice())?;
+    push_file(&mut files, "consolidated.adl", CONSOLIDATED)?;
+    if is_reported {
+        push_file(&mut files, "consolidated.json", REPORT)?;
+        push_file(&mut files, "SHA256SUMS", SUMS)?;
+    }
+    Ok(files)
+}
+
 /// The four standard passes.
 fn standard(alloc: Global) -> Result<Vec<Box<dyn Pass>>, AllocError> {
     let mut passes: Vec<Box<dyn Pass>> = Vec::new(alloc);
@@ -127,19 +158,26 @@ fn standard(alloc: Global) -> Result<Vec<Box<dyn Pass>>, AllocError> {
     Ok(passes)
 }
 
-/// So many rounds of one worker, who is given a job, makes its bytes and delivers them.
+/// One worker's round: it is given a job, makes its bytes and delivers them.
+pub(crate) fn round(worker: u32) -> [BoardEvent; 3] {
+    [
+        BoardEvent::Give(worker),
+        BoardEvent::Work(worker),
+        BoardEvent::Deliver(worker),
+    ]
+}
+
+/// So many rounds of the first worker.
 pub(crate) fn rounds(alloc: Global, count: usize) -> Result<Vec<BoardEvent>, AllocError> {
     let mut events = Vec::new(alloc);
     for _ in 0..count {
-        events.push(BoardEvent::Give(1))?;
-        events.push(BoardEvent::Work(1))?;
-        events.push(BoardEvent::Deliver(1))?;
+        events.extend_from_slice(&round(1))?;
     }
     Ok(events)
 }
 
 /// A call of the product that writes.
-#[derive(Clone, Copy, Debug, PartialEq, Eq)]
+#[derive(Clone, Copy)]
 pub(crate) enum Call {
     Consolidate,
     /// A consolidation with a report.
@@ -173,7 +211,7 @@ impl Call {
 }
 
 /// Files by their names.
-type Files = Vec<(&'static str, Vec<u8>)>;
+pub(crate) type Files = Vec<(&'static str, Vec<u8>)>;
 
 /// A list over `A.wav`, a call that makes something of it, the files that are there before, and those that it leaves.
 #[derive(Drop)]
@@ -195,38 +233,31 @@ pub(crate) struct Job {
 impl Job {
     /// The rendering of three blocks, or the consolidation without handles of an entry with a silent middle.
     pub(crate) fn new(alloc: Global, call: Call) -> Result<Self, Fail> {
-        if !call.is_rendering() {
-            return Job::consolidation(alloc, call);
+        if call.is_rendering() {
+            // what is rendered of it is the file itself
+            let wanted = rendered(alloc)?;
+            Ok(Job::over(
+                alloc,
+                call,
+                THREE_BLOCKS,
+                sound(alloc, FRAMES)?,
+                FRAMES,
+                wanted,
+            )?)
+        } else {
+            let wanted = consolidated(alloc, matches!(call, Call::Report))?;
+            Ok(Job::over(alloc, call, FADED, silent_middle(alloc)?, 12, wanted)?)
         }
-        // what is rendered of it is the file itself
-        let source = sound(alloc, FRAMES)?;
-        let wanted = source.to_vec(alloc)?;
-        let mut job = Job::over(alloc, call, THREE_BLOCKS, source, FRAMES)?;
-        job.wanted.push((SOUND, wanted))?;
-        Ok(job)
     }
 
-    fn consolidation(alloc: Global, call: Call) -> Result<Self, Fail> {
-        let mut job = Job::over(alloc, call, FADED, silent_middle(alloc)?, 12)?;
-        job.wanted.push(("M00001.wav", medium(alloc, 0)?))?;
-        job.wanted.push(("M00002.wav", medium(alloc, 8)?))?;
-        job.wanted
-            .push(("consolidated.adl", CONSOLIDATED.to_vec(alloc)?))?;
-        if call == Call::Report {
-            job.wanted
-                .push(("consolidated.json", REPORT.to_vec(alloc)?))?;
-            job.wanted.push(("SHA256SUMS", SUMS.to_vec(alloc)?))?;
-        }
-        Ok(job)
-    }
-
-    /// A call over these entries and a source of so many frames, block by block at 16 bits, which leaves nothing so far.
-    fn over(
+    /// A call over these entries and a source of so many frames, block by block at 16 bits, which leaves these files.
+    pub(crate) fn over(
         alloc: Global,
         call: Call,
         entries: &str,
         source: Vec<u8>,
         frames: u64,
+        wanted: Files,
     ) -> Result<Self, AllocError> {
         Ok(Job {
             alloc,
@@ -238,7 +269,7 @@ impl Job {
             source,
             frames,
             before: Vec::new(alloc),
-            wanted: Vec::new(alloc),
+            wanted,
         })
     }
 
@@ -246,28 +277,34 @@ impl Job {
     /// and mark a block.
     pub(crate) fn half_done(alloc: Global) -> Result<Self, Fail> {
         let mut job = Job::new(alloc, Call::Resume)?;
-        let mut bench = MemoryBench::new(alloc).stop_at(16, 0);
-        let _ = job.run_by(Call::Render, &mut job.shelf(0, 0)?, &mut bench)?;
-        // it is so where memory is there
-        if marks_on(&bench) != [1, 0, 0].as_slice() {
-            Err(AllocError)?;
-        }
-        for name in [SOUND, MARKS] {
-            let bytes = bench.bytes(name).ok_or("no file")?;
-            job.before.push((name, bytes.to_vec(alloc)?))?;
-        }
+        let before = job.stopped()?;
+        job.before = before;
         Ok(job)
+    }
+
+    /// What is left of it where it is stopped so.
+    fn stopped(&self) -> Result<Files, Fail> {
+        let mut bench = MemoryBench::new(self.alloc).stop_at(16, 0);
+        let _ = self.run_by(Call::Render, &mut self.shelf(0, 0)?, &mut bench)?;
+        first_block_on(self.alloc, &bench)
     }
 
     /// The rendering of 200 blocks of two channels of 24 bits, in longer jobs of 32, the marks of two of which are set
     /// together.
     pub(crate) fn of_many_blocks(alloc: Global) -> Result<Self, Fail> {
         let source = sound(alloc, MANY_FRAMES)?;
-        let mut job = Job::over(alloc, Call::Render, MANY_BLOCKS, source, MANY_FRAMES)?;
+        let wanted = one_file(alloc, SOUND, many_rendered(alloc)?)?;
+        let mut job = Job::over(
+            alloc,
+            Call::Render,
+            MANY_BLOCKS,
+            source,
+            MANY_FRAMES,
+            wanted,
+        )?;
         job.is_wide = true;
         job.jobs = JobLength::Longer;
         job.depth = Depth::TwentyFour;
-        job.wanted.push((SOUND, many_rendered(alloc)?))?;
         Ok(job)
     }
 
@@ -358,33 +395,36 @@ impl Job {
         Ok(())
     }
 
-    /// Renders by these events.
-    pub(crate) fn render_by<S: Shelf>(
+    /// Does it by these events.
+    pub(crate) fn run_events<S: Shelf>(
         &self,
         events: &[BoardEvent],
         shelf: &mut S,
         bench: &mut MemoryBench,
-    ) -> Result<Progress, Fault> {
-        let options = self.options();
+    ) -> Result<Result<Progress, Fault>, AllocError> {
         let list = self.list.as_bytes();
-        let work = Work::Render { list, options };
-        run_schedule(self.alloc, work, events, shelf, bench)
+        let work = if self.call.is_rendering() {
+            let options = self.options();
+            Work::Render { list, options }
+        } else {
+            Work::Consolidate {
+                list,
+                handle: 0,
+                passes: standard(self.alloc)?,
+                order: Order::ByTime,
+            }
+        };
+        Ok(run_schedule(self.alloc, work, events, shelf, bench))
     }
 
-    fn consolidate_by<S: Shelf>(
+    /// How far these events bring it where no call fails.
+    pub(crate) fn brought(
         &self,
         events: &[BoardEvent],
-        passes: Vec<Box<dyn Pass>>,
-        shelf: &mut S,
         bench: &mut MemoryBench,
-    ) -> Result<Progress, Fault> {
-        let work = Work::Consolidate {
-            list: self.list.as_bytes(),
-            handle: 0,
-            passes,
-            order: Order::ByTime,
-        };
-        run_schedule(self.alloc, work, events, shelf, bench)
+    ) -> Result<Progress, Fail> {
+        let mut shelf = self.shelf(0, 0)?;
+        Ok(self.run_events(events, &mut shelf, bench)??)
     }
 
     /// Does it.
@@ -414,17 +454,9 @@ impl Job {
                 let passes = standard(self.alloc)?;
                 Ok(self.consolidate(passes, Some(ASKED), shelf, bench))
             }
-            Call::Schedule {
-                is_rendering: true,
-                rounds: count,
-            } => {
-                let events = rounds(self.alloc, count)?;
-                Ok(self.render_by(events.as_slice(), shelf, bench).map(|_| ()))
-            }
             Call::Schedule { rounds: count, .. } => {
                 let events = rounds(self.alloc, count)?;
-                let passes = standard(self.alloc)?;
-                let done = self.consolidate_by(events.as_slice(), passes, shelf, bench);
+                let done = self.run_events(events.as_slice(), shelf, bench)?;
                 Ok(done.map(|_| ()))
             }
         }
@@ -439,6 +471,11 @@ impl Job {
     pub(crate) fn is_marked(&self, bench: &MemoryBench) -> bool {
         let blocks = marks_on(bench);
         blocks.len() as u64 == self.frames.div_ceil(4_096) && blocks.iter().all(|block| *block == 1)
+    }
+
+    /// Whether it left all that it has to leave: a rendering marks each of its blocks, too.
+    pub(crate) fn is_done(&self, bench: &MemoryBench) -> bool {
+        self.is_whole(bench) && (!self.call.is_rendering() || self.is_marked(bench))
     }
 
     /// Whether the files are as they were before.
@@ -457,6 +494,18 @@ impl Job {
     pub(crate) fn is_unchanged(&self, bench: MemoryBench) -> Result<bool, AllocError> {
         Ok(self.are_as_before(&bench) && self.are_as_before(&bench.after_crash(0, 7)?))
     }
+}
+
+/// The files of a rendering whose first block alone is marked, which it is where memory is there.
+fn first_block_on(alloc: Global, bench: &MemoryBench) -> Result<Files, Fail> {
+    if marks_on(bench) != [1, 0, 0].as_slice() {
+        Err(AllocError)?;
+    }
+    let mut files = Vec::new(alloc);
+    for name in [SOUND, MARKS] {
+        push_file(&mut files, name, bench.bytes(name).ok_or("no file")?)?;
+    }
+    Ok(files)
 }
 
 /// The bytes of the file of a name.
