@@ -13,7 +13,7 @@ use Rattle.list_terms.specs.ReadingLaws.{BlankEvent, FrontRemark, Further, IsEve
 use Rattle.list_terms.specs.Tokens.{TokenText, token_at}
 use Rattle.list_terms.specs.Fields.{is_keyword, is_zero}
 use Rattle.list_terms.specs.Forms.{Done, Number, Then, Unless, any, mapped, reads}
-use Rattle.list_terms.specs.EntryLines.{entry_with, event_fields, fade_fields, remark, with_fall, with_rise}
+use Rattle.list_terms.specs.EntryLines.{entry_keyword, entry_with, event_fields, fade_fields, remark, with_fall, with_rise}
 use Rattle.list_terms.specs.Text as list
 use Rattle.list_terms.specs.Text.{Context, Entries, all_events, entry_of, further_line, in_event_list, in_section, is_tag, with_event}
 use Rattle.list_terms.specs.WholeProject.{AreDistinct, entry_numbers}
@@ -101,7 +101,7 @@ record TellsFade (rate : ℕ) (entry : OpenEntry) (name : List ℕ) (with : ℕ 
 
 tells_rise :
     (rate : ℕ) (entry : OpenEntry) → TellsFade rate entry (codes "Infade") (with_rise entry) entry.has_rise
-unfolding entry_with
+unfolding entry_keyword entry_with
 tells_rise rate entry = record {
   other = λ token is. other_keyword (codes "Infade") (codes "Entry") token refl is;
   form = λ token is. rw is refl;
@@ -109,7 +109,7 @@ tells_rise rate entry = record {
 
 tells_fall :
     (rate : ℕ) (entry : OpenEntry) → TellsFade rate entry (codes "Outfade") (with_fall entry) entry.has_fall
-unfolding entry_with
+unfolding entry_keyword entry_with
 tells_fall rate entry = record {
   other = λ token is. other_keyword (codes "Outfade") (codes "Entry") token refl is;
   form = λ token is. rw (other_keyword (codes "Outfade") (codes "Infade") token refl is, is) refl;
@@ -165,7 +165,7 @@ module _ (rate : ℕ) where
       Tells new = Leads (behind events entry separators) (behind events new separators)
 
       remark_read : (tokens : List TokenText) → HasTokens text tokens → IsTrue (is_remark tokens) → Tells entry
-      unfolding further_line entry_with
+      unfolding further_line entry_keyword entry_with
       remark_read [] h is = blank_read (behind events entry separators) h
       remark_read (token ∷ tokens) h is =
           let f = first_cut h.cut in
@@ -179,7 +179,7 @@ module _ (rate : ℕ) where
           ) refl)
 
       gain_read : (tokens : List TokenText) → HasTokens text tokens → IsTrue (is_zero_gain tokens) → Tells entry
-      unfolding further_line entry_with
+      unfolding further_line entry_keyword entry_with
       gain_read [] h is = absurd (cc)
       gain_read (token ∷ tokens) h both =
           let f = first_cut h.cut in
@@ -345,7 +345,7 @@ module _ (rate : ℕ) where
 
     entry_with_is :
         (entry new : OpenEntry) → reads (entry_with rate entry token) rest ≡ Ok new → IsFurther text entry new
-    unfolding entry_with
+    unfolding entry_keyword entry_with
     entry_with_is entry new e =
         by_keyword (is_keyword (codes "Infade") token) refl (is_keyword (codes "Outfade") token) refl
         (is_keyword (codes "Rem") token) refl (is_keyword (codes "Gain") token) refl where

@@ -5,7 +5,7 @@ use Rattle.list_terms.specs.Lines.{cut_lines, lines_of}
 use Rattle.list_terms.specs.Tokens.{token_at, all_tokens}
 use Rattle.list_terms.specs.Fields.{number_up_to, channels_of, is_zero, is_whole_number, told_rate, field, optional_time, end_line}
 use Rattle.list_terms.specs.Forms.{mapped, reads, reads_line, value_at}
-use Rattle.list_terms.specs.EntryLines.{entry_with, remark, sequence_line, system_line}
+use Rattle.list_terms.specs.EntryLines.{entry_keyword, entry_with, remark, sequence_line, system_line}
 use Rattle.list_terms.specs.Text.{section_of, opened, before_list, outside, kept_line, in_header, in_unsupported, source_with, index_line, dropped_line, in_source_index, entry_of, entry_line, further_line, in_event_list, in_section, with_line, finished, read_from, opens, passed_before, passed_outside, passed_inside, passed, rate_of_line, rate_from, rate_of}
 use Rattle.adlread.specs.FaultSpans.{end_span, event_line_span, fault_span, form_span, index_line_span, line_span, lines_span, next_span, section_span, text_span}
 
@@ -33,7 +33,7 @@ pub faults_stand_at :
     ∷ codes "<ADL>\n<SOURCE_INDEX>\n <x y" ∷ codes "<ADL>\n<EVENT_LIST>\n(Gain) 0" ∷ codes "<ADL>\n<PAN>\n\n y z" ∷ [])
     ≡ spans ((0, 0) ∷ (1, 1) ∷ (0, 3) ∷ (1, 6) ∷ (18, 5) ∷ (20, 1) ∷ (11, 1) ∷ (17, 16) ∷ (1, 2) ∷ (0, 6) ∷ (1, 1) ∷ []))
 unfolding cut_lines lines_of token_at all_tokens number_up_to channels_of is_zero
-    is_whole_number told_rate field optional_time end_line value_at reads reads_line mapped entry_with remark sequence_line
+    is_whole_number told_rate field optional_time end_line value_at reads reads_line mapped entry_keyword entry_with remark sequence_line
     system_line section_of opened before_list outside kept_line in_header in_unsupported source_with index_line
     dropped_line in_source_index entry_of entry_line further_line in_event_list in_section with_line finished read_from
     opens passed_before passed_outside passed_inside passed rate_of_line rate_from rate_of end_span event_line_span

@@ -7,7 +7,7 @@ use Rattle.list_terms.specs.Lines.{cut_lines, lines_of}
 use Rattle.list_terms.specs.Tokens.{token_at, all_tokens}
 use Rattle.list_terms.specs.Fields.{number_up_to, channels_of, is_zero, is_whole_number, told_rate, field, optional_time, end_line}
 use Rattle.list_terms.specs.Forms.{mapped, reads, reads_line, value_at}
-use Rattle.list_terms.specs.EntryLines.{entry_with, remark, sequence_line, system_line}
+use Rattle.list_terms.specs.EntryLines.{entry_keyword, entry_with, remark, sequence_line, system_line}
 use Rattle.list_terms.specs.Text.{section_of, opened, before_list, outside, kept_line, in_header, in_unsupported, source_with, index_line, dropped_line, in_source_index, entry_of, entry_line, further_line, in_event_list, in_section, with_line, finished, read_from, opens, passed_before, passed_outside, passed_inside, passed, rate_of_line}
 use Rattle.adlread.specs.declared.fault.AdlFault.{AdlFault}
 use Rattle.adlread.specs.declared.fault.AdlFault.TheVariants.{Text}
@@ -39,7 +39,7 @@ pub of_entries :
     ∷ codes "(Entry) 0003 (Cut) I 0001 1 1 00.00.00.24/0000 01.00.00.00/0000 01.00.00.04/0000"
     ∷ codes "</EVENT_LIST>" ∷ [])) bad_index (at_entry 13 11 1 ∷ at_entry 8 12 2 ∷ at_entry 6 14 3 ∷ []) true
 unfolding cut_lines lines_of token_at all_tokens number_up_to channels_of is_zero
-    is_whole_number told_rate field optional_time end_line value_at reads reads_line mapped entry_with remark
+    is_whole_number told_rate field optional_time end_line value_at reads reads_line mapped entry_keyword entry_with remark
     sequence_line system_line section_of opened before_list outside kept_line in_header in_unsupported source_with
     index_line dropped_line in_source_index entry_of entry_line further_line in_event_list in_section with_line finished
     read_from opens passed_before passed_outside passed_inside passed rate_of_line rate_beside without without_entry
@@ -48,7 +48,7 @@ of_entries = More _ refl refl (More _ refl refl (More _ refl refl (Spelled _ ref
 -- a section that is opened again ends them
 pub of_section : AreFurther (list_with (codes "<SEQUENCE>" ∷ [])) bad_index (at_line 5 9 ∷ []) false
 unfolding cut_lines lines_of token_at all_tokens number_up_to channels_of is_zero
-    is_whole_number told_rate field optional_time end_line value_at reads reads_line mapped entry_with remark
+    is_whole_number told_rate field optional_time end_line value_at reads reads_line mapped entry_keyword entry_with remark
     sequence_line system_line section_of opened before_list outside kept_line in_header in_unsupported source_with
     index_line dropped_line in_source_index entry_of entry_line further_line in_event_list in_section with_line finished
     read_from opens passed_before passed_outside passed_inside passed rate_of_line rate_beside without without_entry

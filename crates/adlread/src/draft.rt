@@ -15,7 +15,7 @@ ghost use Rattle.adlread.specs.Context.{context_of};
 ghost use Rattle.adlread.specs.SoFar.{IsSoFar};
 
 use crate::fault::{AdlFault, at_line, first_in, located};
-use crate::fields::{end_line, is_keyword, number_field};
+use crate::fields::{end_line, number_field};
 use crate::header::{HeaderSoFar, is_tag};
 use crate::reader::{cut_next, reached, tokens_of};
 use crate::sections::{EventList, SourceIndex};
@@ -278,7 +278,7 @@ impl<'a> Draft<'a> {
         let Some(token) = located(cut_next(&mut tokens), location, reached(&tokens))? else {
             return Ok(());
         };
-        if is_keyword(b"Index", &token) {
+        if token.is_keyword(b"Index") {
             self.index_line(alloc, &mut tokens, number, rate)
         } else {
             self.dropped_line(&mut tokens, number)
@@ -343,7 +343,7 @@ impl<'a> Draft<'a> {
         let Some(token) = located(cut_next(&mut tokens), location, reached(&tokens))? else {
             return Ok(());
         };
-        if is_keyword(b"Entry", &token) {
+        if token.is_keyword(b"Entry") {
             self.entry_line(&mut tokens, number, rate)
         } else {
             let said = self.events.add_further(&token, &mut tokens, rate);

@@ -17,12 +17,12 @@ ghost use Rattle.adlread.specs.FurtherLines.{HasNumberOf, StaysWhole};
 
 use crate::fault::LineFault;
 use crate::fields::{
-    channels_field, end_line, end_with_zeros, field, identifier_field, is_keyword, is_missing,
-    is_zero, keyword_field, number_field, optional_time_field, time_field, told_rate,
+    channels_field, end_line, end_with_zeros, field, identifier_field, is_missing, is_zero,
+    keyword_field, number_field, optional_time_field, time_field, told_rate,
 };
 use crate::reader::cut_next;
 use adlmodel::{Bytes, Channels, Event, Fade, Source, place_of};
-use adltoken::{TextFault, Token, Tokens, is_same_name, skip_blanks};
+use adltoken::{EntryKeyword, TextFault, Token, Tokens, is_same_name, skip_blanks};
 use list_terms::{OpenEntry, Rates};
 use sampletime::{Rate, SampleTime, Separators, parse_time};
 use std::alloc::Global;
@@ -180,18 +180,18 @@ pub fn entry_with(
     ensures span { OnErr result (reached tokens.new
         ≡ form_from (spec.entry_with (frames_per_second rate) entry (token_view token.now)) tokens.old) }
 {
-    if is_keyword(b"Infade", token) {
-        with_rise(entry, tokens, rate)
-    } else if is_keyword(b"Outfade", token) {
-        with_fall(entry, tokens, rate)
-    } else if is_keyword(b"Rem", token) {
-        end_line(tokens)?;
-        Ok(entry)
-    } else if is_keyword(b"Gain", token) {
-        end_with_zeros(tokens)?;
-        Ok(entry)
-    } else {
-        Err(TextFault::Unsupported)
+    match token.entry_keyword() {
+        Some(EntryKeyword::Infade) => with_rise(entry, tokens, rate),
+        Some(EntryKeyword::Outfade) => with_fall(entry, tokens, rate),
+        Some(EntryKeyword::Rem) => {
+            end_line(tokens)?;
+            Ok(entry)
+        }
+        Some(EntryKeyword::Gain) => {
+            end_with_zeros(tokens)?;
+            Ok(entry)
+        }
+        None => Err(TextFault::Unsupported),
     }
 }
 
@@ -239,7 +239,7 @@ pub fn remark(token: &Token<'_>, tokens: &mut Tokens<'_>) -> Result<(), TextFaul
     ensures exact { ok_map (λ _. tt) result ≡ reads (spec.remark (token_view token.now)) tokens.old.rest.now }
     ensures span { OnErr result (reached tokens.new ≡ form_from (spec.remark (token_view token.now)) tokens.old) }
 {
-    if is_keyword(b"Rem", token) {
+    if token.is_keyword(b"Rem") {
         end_line(tokens)
     } else {
         Err(TextFault::Unplaced)
@@ -257,10 +257,10 @@ pub fn sequence_line(rates: Rates, tokens: &mut Tokens<'_>, rate: Rate) -> Resul
         return Ok(rates);
     };
     let mut rates = rates;
-    if is_keyword(b"SEQ_SAMPLE_RATE", &token) {
+    if token.is_keyword(b"SEQ_SAMPLE_RATE") {
         sample_rate_field(tokens)?;
         rates.sample_rate = true;
-    } else if is_keyword(b"SEQ_FRAME_RATE", &token) {
+    } else if token.is_keyword(b"SEQ_FRAME_RATE") {
         frame_rate_field(tokens, rate)?;
         rates.frame_rate = true;
     }
@@ -319,9 +319,9 @@ pub fn system_line(tokens: &mut Tokens<'_>, rate: Rate) -> Result<(), TextFault>
     let Some(token) = cut_next(tokens)? else {
         return Ok(());
     };
-    if is_keyword(b"SYS_SRC_OFFSET", &token) {
+    if token.is_keyword(b"SYS_SRC_OFFSET") {
         offset_setting(tokens, rate)
-    } else if is_keyword(b"SYS_GAIN", &token) {
+    } else if token.is_keyword(b"SYS_GAIN") {
         gain_setting(tokens)
     } else {
         end_line(tokens)

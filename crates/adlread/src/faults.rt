@@ -13,7 +13,6 @@ ghost use Rattle.adlread.specs.declared.fault.AdlFault.TheVariants.{Memory};
 
 use crate::draft::Draft;
 use crate::fault::{AdlFault, at_line, first_in};
-use crate::fields::is_keyword;
 use crate::header::is_tag;
 use crate::outline::{Outline, UNTOLD};
 use adltoken::{Lines, Tokens};
@@ -257,7 +256,7 @@ fn opens_entry(line: &[u8]) -> bool
     ensures { result ≡ spec.opens_entry line.now }
 {
     match Tokens::new(line).cut_next() {
-        Ok(Some(token)) => is_keyword(b"Entry", &token),
+        Ok(Some(token)) => token.is_keyword(b"Entry"),
         _ => false,
     }
 }

@@ -16,18 +16,8 @@ ghost use Rattle.adlread.specs.FaultSpans.{StepsOver, end_from, reached};
 use crate::numbers::{channels_of, number_up_to};
 use crate::reader::cut_next;
 use adlmodel::Channels;
-use adltoken::{TextFault, Token, TokenKind, Tokens, behind_byte, is_same_name, length_before};
+use adltoken::{TextFault, Token, Tokens, behind_byte, length_before};
 use sampletime::{Rate, SampleTime, Separators, parse_time};
-
-/// Whether a token is the keyword of this name.
-pub fn is_keyword(name: &[u8], token: &Token<'_>) -> bool
-    ensures { result ≡ spec.is_keyword name.now (token_view token.now) }
-{
-    match token.kind {
-        TokenKind::Keyword => is_same_name(token.content, name),
-        TokenKind::Quoted | TokenKind::Word => false,
-    }
-}
 
 /// The next token, which has to be there.
 #[tactic(auto, unfolding(list_terms::specs::Fields::field))]
@@ -49,7 +39,7 @@ pub fn keyword_field(name: &[u8], tokens: &mut Tokens<'_>) -> Result<(), TextFau
     ensures steps { StepsOver tokens.old tokens.new }
 {
     let token = field(tokens)?;
-    if is_keyword(name, &token) {
+    if token.is_keyword(name) {
         Ok(())
     } else {
         Err(TextFault::Unsupported)

@@ -7,7 +7,7 @@ ghost use Rattle.list_terms.specs.Text as spec;
 ghost use Rattle.adltoken.specs.Views.{token_view};
 ghost use Rattle.adlread.specs.Outline.{outline_of};
 
-use crate::fields::{end_line, is_keyword, told_rate};
+use crate::fields::{end_line, told_rate};
 use crate::header::is_tag;
 use crate::tags::{is_end, is_list_begin, opened_name, section_of};
 use adltoken::{Lines, Token, Tokens, trimmed};
@@ -239,7 +239,7 @@ fn rate_of_line(line: &[u8]) -> Option<Rate>
 {
     let mut tokens = Tokens::new(line);
     let keyword = whole_token(&mut tokens)?;
-    if !is_keyword(b"SEQ_FRAME_RATE", &keyword) {
+    if !keyword.is_keyword(b"SEQ_FRAME_RATE") {
         return None;
     }
     let value = whole_token(&mut tokens)?;

@@ -6,6 +6,7 @@
 
 mod blanks;
 mod fault;
+mod keywords;
 mod lines;
 mod names;
 mod tokens;
@@ -13,6 +14,6 @@ mod tokens;
 pub use blanks::{is_blank, skip_blanks, trimmed};
 pub use fault::TokenFault;
 pub use lines::Lines;
-pub use list_terms::{TextFault, TokenKind};
+pub use list_terms::{EntryKeyword, TextFault, TokenKind};
 pub use names::{behind_byte, is_same_name, length_before, starts_in_any_case};
 pub use tokens::{Span, Token, Tokens};

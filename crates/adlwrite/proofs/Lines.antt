@@ -9,7 +9,7 @@ use Rattle.sound_terms.specs.declared.Event.{Event}
 use Rattle.list_terms.specs.declared.OpenEntry.{OpenEntry}
 use Rattle.list_terms.specs.declared.TokenKind.TheVariants.{Keyword}
 use Rattle.list_terms.specs.declared.TextFault.TheVariants.{RepeatedFade, Unsupported}
-use Rattle.list_terms.specs.EntryLines.{curve_field, entry_with, event_fields, fade_fields, is_cut, is_linear, source_fields, with_fall, with_rise}
+use Rattle.list_terms.specs.EntryLines.{curve_field, entry_keyword, entry_with, event_fields, fade_fields, is_cut, is_linear, source_fields, with_fall, with_rise}
 use Rattle.list_terms.specs.Fields.{field}
 use Rattle.list_terms.specs.FormLaws.{told_read}
 use Rattle.list_terms.specs.Forms.{Done, MayTime, Passes, Then, Time, any, keyword, reads, value_at}
@@ -158,7 +158,7 @@ module _ (project : ListProject) (rate : IsTrue (is_rate project.rate)) (separat
         → reads (entry_with project.rate entry (record { kind = Keyword; content = fade_keyword is_rise }))
         (codes " " ++ (time_text project (Some length) ++ codes " LIN _ _ _"))
         ≡ Ok (with_fade is_rise entry length)
-    unfolding entry_with
+    unfolding entry_keyword entry_with
     fade_is_read true entry length h some new =
         told_read (with_rise entry) entry.has_rise RepeatedFade (fade_fields project.rate) _ length new (fade_fields-written length h some)
     fade_is_read false entry length h some new =

@@ -1,6 +1,6 @@
 // Words of a list that are passed over though they may be meant to be heard.
 use crate::shown::Shown;
-use adltoken::{Lines, Token, TokenKind, Tokens, is_same_name, trimmed};
+use adltoken::{Lines, Token, Tokens, is_same_name, trimmed};
 use std::fmt;
 
 /// How many lines are told.
@@ -253,18 +253,14 @@ fn ends_with_time(line: &[u8]) -> bool {
 /// Whether a line begins with this keyword.
 fn begins_with(line: &[u8], keyword: &[u8]) -> bool {
     match Tokens::new(line).next_token() {
-        Ok(Some(token)) => is_keyword(token, keyword),
+        Ok(Some(token)) => token.is_keyword(keyword),
         _ => false,
     }
 }
 
-fn is_keyword(token: Token<'_>, keyword: &[u8]) -> bool {
-    token.kind == TokenKind::Keyword && token.content.eq_ignore_ascii_case(keyword)
-}
-
 /// Whether this keyword says how loud a track is, or where.
 fn is_track_setting(token: Token<'_>) -> bool {
-    is_keyword(token, b"Mute") || is_keyword(token, b"Gain") || is_keyword(token, b"Pan")
+    token.is_keyword(b"Mute") || token.is_keyword(b"Gain") || token.is_keyword(b"Pan")
 }
 
 /// Whether a time is zero, or none.

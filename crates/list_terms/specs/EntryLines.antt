@@ -1,8 +1,10 @@
 -- What the lines of the source index, of the event list and of the two sections of settings say.
-use Rattle.std.specs.Prelude.{ℕ, ◌-◌, ◌==◌, ◌||◌, not, Bool, true, false, List, Result, if◌then◌else◌, bytes_eq, codes, unwrap_or, option_map}
+use Rattle.std.specs.Prelude.{ℕ, ◌-◌, ◌==◌, ◌||◌, not, Bool, true, false, List, Option, None, Some, Result, if◌then◌else◌, bytes_eq, codes, unwrap_or, option_map}
 use Rattle.sampletime.specs.TimeCode.{samples_of}
 use Rattle.sound_terms.specs.declared.Channels.{Channels}
 use Rattle.sound_terms.specs.declared.Event.{Event}
+use Rattle.list_terms.specs.declared.EntryKeyword.{EntryKeyword}
+use Rattle.list_terms.specs.declared.EntryKeyword.TheVariants.{Gain, Infade, Outfade, Rem}
 use Rattle.list_terms.specs.declared.OpenEntry.{OpenEntry}
 use Rattle.list_terms.specs.declared.Rates.{Rates}
 use Rattle.list_terms.specs.declared.TextFault.{TextFault}
@@ -82,14 +84,24 @@ told_rise rate entry = Unless entry.has_rise RepeatedFade (mapped (with_rise ent
 abbrev pub told_fall : ℕ → OpenEntry → Form OpenEntry
 told_fall rate entry = Unless entry.has_fall RepeatedFade (mapped (with_fall entry) (fade_fields rate))
 
+-- which line behind an entry's own begins with this token; no other can be honoured
+unfoldable pub entry_keyword : TokenText → Option EntryKeyword
+entry_keyword token =
+    if is_keyword (codes "Infade") token then Some Infade
+    else if is_keyword (codes "Outfade") token then Some Outfade
+    else if is_keyword (codes "Rem") token then Some Rem
+    else if is_keyword (codes "Gain") token then Some Gain
+    else None
+
 -- The entry with what a line behind its own says: a fade, a remark, or a gain of zero. The first token tells which.
 unfoldable pub entry_with : ℕ → OpenEntry → TokenText → Form OpenEntry
-entry_with rate entry token =
-    if is_keyword (codes "Infade") token then told_rise rate entry
-    else if is_keyword (codes "Outfade") token then told_fall rate entry
-    else if is_keyword (codes "Rem") token then Done any entry
-    else if is_keyword (codes "Gain") token then Done (λ t. is_zero t.content) entry
-    else Refused Unsupported
+entry_with rate entry token = said (entry_keyword token) where
+  said : Option EntryKeyword → Form OpenEntry
+  said None = Refused Unsupported
+  said (Some Infade) = told_rise rate entry
+  said (Some Outfade) = told_fall rate entry
+  said (Some Rem) = Done any entry
+  said (Some Gain) = Done (λ t. is_zero t.content) entry
 
 -- before the first entry remarks alone may stand
 unfoldable pub remark : TokenText → Form (Unit {0})

@@ -10,7 +10,7 @@ use Rattle.list_terms.specs.Lines.{cut_lines, lines_of}
 use Rattle.list_terms.specs.Tokens.{token_at, all_tokens}
 use Rattle.list_terms.specs.Fields.{number_up_to, channels_of, is_zero, is_whole_number, told_rate, field, optional_time, end_line}
 use Rattle.list_terms.specs.Forms.{mapped, reads, reads_line, value_at}
-use Rattle.list_terms.specs.EntryLines.{entry_with, remark, sequence_line, system_line}
+use Rattle.list_terms.specs.EntryLines.{entry_keyword, entry_with, remark, sequence_line, system_line}
 use Rattle.list_terms.specs.Text.{section_of, opened, before_list, outside, kept_line, in_header, in_unsupported, source_with, index_line, dropped_line, in_source_index, entry_of, entry_line, further_line, in_event_list, in_section, with_line, finished, read_from, opens, passed_before, passed_outside, passed_inside, passed, rate_of_line, rate_from, rate_of, text_value}
 
 abbrev head : List (List ℕ)
@@ -57,7 +57,7 @@ pub accepted : map refused (text_value (text_with (10 ∷ []) (list_of (source �
     ∷ [])
     ≡ None ∷ None ∷ None ∷ None ∷ []
 unfolding is_utf8 chars encode percent_decode cut_lines lines_of token_at all_tokens number_up_to channels_of is_zero
-    is_whole_number told_rate field optional_time end_line value_at reads reads_line mapped entry_with remark sequence_line
+    is_whole_number told_rate field optional_time end_line value_at reads reads_line mapped entry_keyword entry_with remark sequence_line
     system_line section_of opened before_list outside kept_line in_header in_unsupported source_with index_line
     dropped_line in_source_index entry_of entry_line further_line in_event_list in_section with_line finished read_from
     opens passed_before passed_outside passed_inside passed rate_of_line rate_from rate_of text_value
@@ -68,7 +68,7 @@ pub nearly_empty : map (λ text. refused (text_value text))
     ([] ∷ (239 ∷ 187 ∷ 191 ∷ []) ∷ codes "<ADL>\n</ADL>" ∷ codes "<ADL>\n<X>\n<X>\n" ∷ [])
     ≡ at_line 3 1 ∷ at_line 3 1 ∷ at_line 4 2 ∷ at_line 3 3 ∷ []
 unfolding is_utf8 chars encode percent_decode cut_lines lines_of token_at all_tokens number_up_to channels_of is_zero
-    is_whole_number told_rate field optional_time end_line value_at reads reads_line mapped entry_with remark sequence_line
+    is_whole_number told_rate field optional_time end_line value_at reads reads_line mapped entry_keyword entry_with remark sequence_line
     system_line section_of opened before_list outside kept_line in_header in_unsupported source_with index_line
     dropped_line in_source_index entry_of entry_line further_line in_event_list in_section with_line finished read_from
     opens passed_before passed_outside passed_inside passed rate_of_line rate_from rate_of text_value
@@ -86,7 +86,7 @@ pub entries_refused : map (λ line. answer (list_of (source ∷ []) (line ∷ []
     ≡ at_entry 1 10 1 ∷ at_entry 6 10 1 ∷ at_line 7 10 ∷ at_entry 8 10 1 ∷ at_entry 10 10 1 ∷ None ∷ at_line 16 10
     ∷ at_line 3 10 ∷ None ∷ []
 unfolding is_utf8 chars encode percent_decode cut_lines lines_of token_at all_tokens number_up_to channels_of is_zero
-    is_whole_number told_rate field optional_time end_line value_at reads reads_line mapped entry_with remark sequence_line
+    is_whole_number told_rate field optional_time end_line value_at reads reads_line mapped entry_keyword entry_with remark sequence_line
     system_line section_of opened before_list outside kept_line in_header in_unsupported source_with index_line
     dropped_line in_source_index entry_of entry_line further_line in_event_list in_section with_line finished read_from
     opens passed_before passed_outside passed_inside passed rate_of_line rate_from rate_of text_value
@@ -98,7 +98,7 @@ pub sources_refused : map (λ line. answer (list_of (line ∷ []) (entry ∷ [])
     ∷ codes "anything else" ∷ codes "" ∷ [])
     ≡ at_index 2 7 1 ∷ at_index 9 7 1 ∷ None ∷ None ∷ []
 unfolding is_utf8 chars encode percent_decode cut_lines lines_of token_at all_tokens number_up_to channels_of is_zero
-    is_whole_number told_rate field optional_time end_line value_at reads reads_line mapped entry_with remark sequence_line
+    is_whole_number told_rate field optional_time end_line value_at reads reads_line mapped entry_keyword entry_with remark sequence_line
     system_line section_of opened before_list outside kept_line in_header in_unsupported source_with index_line
     dropped_line in_source_index entry_of entry_line further_line in_event_list in_section with_line finished read_from
     opens passed_before passed_outside passed_inside passed rate_of_line rate_from rate_of text_value
@@ -114,7 +114,7 @@ pub further_lines : map (λ lines. answer (list_of (source ∷ []) (entry ∷ li
     ≡ at_entry 14 11 1 ∷ at_entry 17 12 1 ∷ None ∷ at_entry 13 11 1 ∷ None ∷ at_entry 13 11 1 ∷ None ∷ None
     ∷ at_entry 2 11 1 ∷ []
 unfolding is_utf8 chars encode percent_decode cut_lines lines_of token_at all_tokens number_up_to channels_of is_zero
-    is_whole_number told_rate field optional_time end_line value_at reads reads_line mapped entry_with remark sequence_line
+    is_whole_number told_rate field optional_time end_line value_at reads reads_line mapped entry_keyword entry_with remark sequence_line
     system_line section_of opened before_list outside kept_line in_header in_unsupported source_with index_line
     dropped_line in_source_index entry_of entry_line further_line in_event_list in_section with_line finished read_from
     opens passed_before passed_outside passed_inside passed rate_of_line rate_from rate_of text_value
@@ -133,7 +133,7 @@ pub sections_refused : map answer
     ∷ (codes "<SEQUENCE>" ∷ []) ∷ [])
     ≡ at_line 3 5 ∷ at_line 5 5 ∷ at_line 12 4 ∷ at_line 11 9 ∷ at_line 13 4 ∷ at_line 3 1 ∷ []
 unfolding is_utf8 chars encode percent_decode cut_lines lines_of token_at all_tokens number_up_to channels_of is_zero
-    is_whole_number told_rate field optional_time end_line value_at reads reads_line mapped entry_with remark sequence_line
+    is_whole_number told_rate field optional_time end_line value_at reads reads_line mapped entry_keyword entry_with remark sequence_line
     system_line section_of opened before_list outside kept_line in_header in_unsupported source_with index_line
     dropped_line in_source_index entry_of entry_line further_line in_event_list in_section with_line finished read_from
     opens passed_before passed_outside passed_inside passed rate_of_line rate_from rate_of text_value
@@ -149,7 +149,7 @@ pub noticed : notices (text_value (text_with (10 ∷ [])
     ∷ codes "<EVENT_LIST>" ∷ codes "</EVENT_LIST>" ∷ codes "</ADL>" ∷ []))))
     ≡ record { kind = 2; at = 8 } ∷ record { kind = 1; at = 10 } ∷ []
 unfolding is_utf8 chars encode percent_decode cut_lines lines_of token_at all_tokens number_up_to channels_of is_zero
-    is_whole_number told_rate field optional_time end_line value_at reads reads_line mapped entry_with remark sequence_line
+    is_whole_number told_rate field optional_time end_line value_at reads reads_line mapped entry_keyword entry_with remark sequence_line
     system_line section_of opened before_list outside kept_line in_header in_unsupported source_with index_line
     dropped_line in_source_index entry_of entry_line further_line in_event_list in_section with_line finished read_from
     opens passed_before passed_outside passed_inside passed rate_of_line rate_from rate_of text_value

@@ -21,6 +21,15 @@ pub enum TokenKind {
     Word,
 }
 
+/// What a line behind an entry's own says of it, by the keyword that it begins with.
+#[derive(Clone, Copy, Debug, PartialEq, Eq)]
+pub enum EntryKeyword {
+    Infade,
+    Outfade,
+    Rem,
+    Gain,
+}
+
 /// A section of a list whose meaning is known, or one that is passed over.
 #[derive(Clone, Copy, Debug, PartialEq, Eq)]
 pub enum Section {
