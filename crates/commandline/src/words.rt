@@ -1,6 +1,6 @@
 // What the program's words may be, as clap's command.
 ghost use Rattle.std.specs.Prelude.{◌≡◌, codes, IfOk, false};
-ghost use Rattle.clap.specs.Words.{app_of, new_app, new_rule, rule_of, shape_of, with_rule};
+ghost use Rattle.clap.specs.Words.{Shape, app_of, new_app, new_rule, rule_of, shape_of, with_rule, with_subcommand};
 ghost use Rattle.commandline.specs.CommandLine.{adlcons_app, check_shape, compare_shape, consolidate_shape, default_rule, explain_shape, flag_rule, option_rule, over_both, over_folders, over_media, place_rule, rendering_shape, show_shape, top_app, with_choice, with_range, with_times};
 ghost use Rattle.commandline.specs.Globals.{AsGlobal, HasNoGlobals};
 
@@ -12,14 +12,25 @@ use std::alloc::{AllocError, Global};
 pub fn command<'a>(alloc: Global) -> Result<Command<'a>, AllocError>
     ensures { IfOk result (λ command. app_of command ≡ adlcons_app) }
 {
-    top_command(alloc)?
-        .subcommand(check_command(alloc)?)?
-        .subcommand(consolidate_command(alloc)?)?
-        .subcommand(render_command(alloc)?)?
-        .subcommand(resume_command(alloc)?)?
-        .subcommand(compare_command(alloc)?)?
-        .subcommand(show_command(alloc)?)?
-        .subcommand(explain_command(alloc)?)
+    let program = top_command(alloc)?;
+    let program = with_command(program, check_command(alloc))?;
+    let program = with_command(program, consolidate_command(alloc))?;
+    let program = with_command(program, render_command(alloc))?;
+    let program = with_command(program, resume_command(alloc))?;
+    let program = with_command(program, compare_command(alloc))?;
+    let program = with_command(program, show_command(alloc))?;
+    with_command(program, explain_command(alloc))
+}
+
+/// The program with one command more, where there was memory for it. No word of the command holds elsewhere.
+fn with_command<'a>(
+    program: Command<'a>,
+    command: Result<Command<'a>, AllocError>,
+) -> Result<Command<'a>, AllocError>
+    ensures { (shape : Shape) → IfOk command.entry (λ added. shape_of added ≡ shape) → IfOk command.entry HasNoGlobals
+        → IfOk result (λ all. app_of all ≡ with_subcommand (app_of program.entry) shape) }
+{
+    program.subcommand(command?)
 }
 
 /// The command of this name by itself, with the program's name before its own; the program where no command has it.
