@@ -39,7 +39,7 @@ fn three_at_once(alloc: Global) -> Result<Vec<BoardEvent>, AllocError> {
 fn a_block_that_was_taken_back_is_delivered_twice(rt: HostRuntime) -> Result<(), Fail> {
     let job = Job::new(rt.alloc(), Call::Render)?;
     let mut bench = job.bench()?;
-    let progress = job.brought(&TAKEN_BACK, &mut bench)?;
+    let progress = job.progress_by(&TAKEN_BACK, &mut bench)?;
     let wanted = Progress {
         idle: 0,
         out: 0,

@@ -6,7 +6,7 @@ use std::process::Abort;
 use std::test::Fail;
 use trials_projects::media::sound;
 
-/// More than the jobs of any of these works.
+/// As many as the jobs of any of these works, or more.
 const JOBS: u32 = 3;
 
 /// What stands once three jobs are planned.
@@ -81,7 +81,7 @@ fn ends_the_same(rt: &impl Abort, job: &Job, seed: u64) -> Result<(), Fail> {
     for turn in 0..1000 {
         let events = drawn(job.alloc, &mut draws, 60, 1)?;
         let mut bench = job.bench()?;
-        let progress = job.brought(events.as_slice(), &mut bench)?;
+        let progress = job.progress_by(events.as_slice(), &mut bench)?;
         assert!(rt; progress.finished && job.is_done(&bench), "{turn}");
     }
     Ok(())
@@ -187,7 +187,7 @@ const MOVES: [Move; 6] = [
 fn events_move_jobs(rt: HostRuntime) -> Result<(), Fail> {
     let job = Job::new(rt.alloc(), Call::Render)?;
     for (events, want) in MOVES {
-        let progress = job.brought(events, &mut job.bench()?)?;
+        let progress = job.progress_by(events, &mut job.bench()?)?;
         assert_eq!(rt; progress, want);
     }
     Ok(())
@@ -199,7 +199,7 @@ fn a_long_medium_is_two_jobs(rt: HostRuntime) -> Result<(), Fail> {
     let wanted = Vec::new(rt.alloc());
     let job = Job::over(rt.alloc(), Call::Consolidate, LONG, file, 65_537, wanted)?;
     let mut bench = job.bench()?;
-    let progress = job.brought(&[], &mut bench)?;
+    let progress = job.progress_by(&[], &mut bench)?;
     assert_eq!(rt; progress, Progress { idle: 2, ..BEGUN });
     assert!(rt; bench.bytes("consolidated.adl").is_none());
     Ok(())

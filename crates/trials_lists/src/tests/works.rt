@@ -214,7 +214,6 @@ impl Call {
 pub(crate) type Files = Vec<(&'static str, Vec<u8>)>;
 
 /// A list over `A.wav`, a call that makes something of it, the files that are there before, and those that it leaves.
-#[derive(Drop)]
 pub(crate) struct Job {
     pub(crate) alloc: Global,
     call: Call,
@@ -228,6 +227,28 @@ pub(crate) struct Job {
     frames: u64,
     before: Files,
     wanted: Files,
+}
+
+// Written out, so that it is one call where a job is dropped.
+impl Drop for Job {
+    fn drop(self) {
+        let Job {
+            alloc: _,
+            call: _,
+            list,
+            is_wide: _,
+            jobs: _,
+            depth: _,
+            source,
+            frames: _,
+            before,
+            wanted,
+        } = self;
+        drop(list);
+        drop(source);
+        drop(before);
+        drop(wanted);
+    }
 }
 
 impl Job {
@@ -417,8 +438,8 @@ impl Job {
         Ok(run_schedule(self.alloc, work, events, shelf, bench))
     }
 
-    /// How far these events bring it where no call fails.
-    pub(crate) fn brought(
+    /// What stands behind these events where no call fails.
+    pub(crate) fn progress_by(
         &self,
         events: &[BoardEvent],
         bench: &mut MemoryBench,
@@ -473,9 +494,17 @@ impl Job {
         blocks.len() as u64 == self.frames.div_ceil(4_096) && blocks.iter().all(|block| *block == 1)
     }
 
-    /// Whether it left all that it has to leave: a rendering marks each of its blocks, too.
+    /// Whether it left all that it has to leave, and no other file: a rendering marks each of its blocks, too.
     pub(crate) fn is_done(&self, bench: &MemoryBench) -> bool {
-        self.is_whole(bench) && (!self.call.is_rendering() || self.is_marked(bench))
+        let are_marked = if self.call.is_rendering() {
+            self.is_marked(bench)
+        } else {
+            bench.bytes(MARKS).is_none()
+        };
+        let are_whole = |name: &&str| {
+            *name == MARKS || bench.bytes(name) == bytes_in(&self.wanted, name)
+        };
+        are_marked && OUTPUTS.iter().all(are_whole)
     }
 
     /// Whether the files are as they were before.
