@@ -14,7 +14,6 @@ use std::os::unix::fs::FileExt;
 
 /// Sources in a folder. While one is read from its front on, as for its chunks, how far is shown; until the command asks
 /// which of them were changed, after which it prints.
-#[derive(Drop)]
 pub struct ShownShelf<'a, R: Files + AllocGlobal + Clone + Drop, L: Progress>
 where
     R::File: FileExt,
@@ -26,6 +25,24 @@ where
     asked: Option<Asked>,
     /// Up to which byte it was read.
     position: u64,
+}
+
+// Written out, so that it is one call where a shelf is dropped.
+impl<R: Files + AllocGlobal + Clone + Drop, L: Progress> Drop for ShownShelf<'_, R, L>
+where
+    R::File: FileExt,
+{
+    fn drop(self) {
+        let ShownShelf {
+            shelf,
+            line: _,
+            alloc: _,
+            asked,
+            position: _,
+        } = self;
+        drop(shelf);
+        drop(asked);
+    }
 }
 
 /// A source and how many bytes it has.

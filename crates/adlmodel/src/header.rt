@@ -61,13 +61,31 @@ impl KeptLines {
 }
 
 /// The kept lines of VERSION, PROJECT, SYSTEM, SEQUENCE and TRACKLIST; `None` where the list hasn't the section.
-#[derive(Debug, Drop)]
+#[derive(Debug)]
 pub struct Header {
     pub version: Option<KeptLines>,
     pub project: Option<KeptLines>,
     pub system: Option<KeptLines>,
     pub sequence: Option<KeptLines>,
     pub track_list: Option<KeptLines>,
+}
+
+// Written out, so that it is one call where a header is dropped.
+impl Drop for Header {
+    fn drop(self) {
+        let Header {
+            version,
+            project,
+            system,
+            sequence,
+            track_list,
+        } = self;
+        drop(version);
+        drop(project);
+        drop(system);
+        drop(sequence);
+        drop(track_list);
+    }
 }
 
 impl Header {

@@ -18,7 +18,7 @@ use std::marker::Model;
 
 /// What an audio decision list spells: its header, the rate of frames and the separators of its times, its sources and
 /// events in the order of their lines, and notices of what was passed over.
-#[derive(Debug, Drop)]
+#[derive(Debug)]
 pub struct Project {
     header: Header,
     rate: Rate,
@@ -26,6 +26,24 @@ pub struct Project {
     events: Vec<Event>,
     separators: Separators,
     notices: Vec<Notice>,
+}
+
+// Written out, so that it is one call where a project is dropped.
+impl Drop for Project {
+    fn drop(self) {
+        let Project {
+            header,
+            rate: _,
+            sources,
+            events,
+            separators: _,
+            notices,
+        } = self;
+        drop(header);
+        drop(sources);
+        drop(events);
+        drop(notices);
+    }
 }
 
 impl Model for Project {

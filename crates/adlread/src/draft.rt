@@ -27,7 +27,6 @@ use sampletime::{Rate, Separators};
 use std::alloc::{AllocError, Global};
 
 /// What was read of a list so far: the stage, the name of the section that is open, and what the project has by now.
-#[derive(Drop)]
 pub struct Draft<'a> {
     stage: Stage,
     name: &'a [u8],
@@ -37,6 +36,26 @@ pub struct Draft<'a> {
     has_events: bool,
     events: EventList,
     notices: Vec<Notice>,
+}
+
+// Written out, so that it is one call where a draft is dropped.
+impl Drop for Draft<'_> {
+    fn drop(self) {
+        let Draft {
+            stage: _,
+            name: _,
+            header,
+            has_index: _,
+            index,
+            has_events: _,
+            events,
+            notices,
+        } = self;
+        drop(header);
+        drop(index);
+        drop(events);
+        drop(notices);
+    }
 }
 
 impl<'a> Draft<'a> {
@@ -437,11 +456,14 @@ impl<'a> Draft<'a> {
         ensures span { (span : Span) → IsAt span result }
     {
         let Draft {
+            stage: _,
+            name: _,
             header,
+            has_index: _,
             index,
+            has_events: _,
             events,
             notices,
-            ..
         } = self;
         let mut list = events;
         list.close()?;

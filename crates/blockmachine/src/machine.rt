@@ -33,10 +33,18 @@ use wavread::Sound;
 
 /// Room for the sums of a block, and for what is read of a file at once. A clause sees how many frames and channels it
 /// has room for.
-#[derive(Drop)]
 pub struct Machine {
     pub(crate) sums: Sums,
     pub(crate) buffer: Buffer,
+}
+
+// Written out, so that it is one call where a machine is dropped.
+impl Drop for Machine {
+    fn drop(self) {
+        let Machine { sums, buffer } = self;
+        drop(sums);
+        drop(buffer);
+    }
 }
 
 impl Model for Machine {

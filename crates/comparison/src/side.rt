@@ -29,13 +29,29 @@ const STORED_LENGTH: usize = 8 * 4096;
 
 /// The blocks of a plan over opened files, a machine that sums them, and room for the program and the sums of any. A
 /// clause sees the plan and the files, and the program and the sums that were written last.
-#[derive(Drop)]
 pub struct Side<'a> {
     plan: Plan,
     sounds: &'a [Sound],
     machine: Machine,
     program: Program,
     sums: Vec<i64>,
+}
+
+// Written out, so that it is one call where a side is dropped.
+impl Drop for Side<'_> {
+    fn drop(self) {
+        let Side {
+            plan,
+            sounds: _,
+            machine,
+            program,
+            sums,
+        } = self;
+        drop(plan);
+        drop(machine);
+        drop(program);
+        drop(sums);
+    }
 }
 
 impl<'a> Model for Side<'a> {

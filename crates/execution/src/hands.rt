@@ -10,10 +10,18 @@ use std::mem::replace;
 
 /// The workers. Worker 1 is there from the start, the others come as they are named. A clause reads what they hold by
 /// `hands_in`.
-#[derive(Drop)]
 pub struct Hands {
     pub first: Worker,
     pub others: BTreeMap<u32, Worker>,
+}
+
+// Written out, so that it is one call where it is dropped.
+impl Drop for Hands {
+    fn drop(self) {
+        let Hands { first, others } = self;
+        drop(first);
+        drop(others);
+    }
 }
 
 impl Hands {

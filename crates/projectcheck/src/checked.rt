@@ -12,11 +12,19 @@ use sound_terms::Event;
 use sourceindex::Bound;
 
 /// A project and what it is bound to, with no entry at fault.
-#[derive(Drop)]
 pub struct Checked {
     project: Project,
     bound: Bound,
     ghost accepted: { event_fault bound project.events ≡ None },
+}
+
+// Written out, so that it is one call where it is dropped.
+impl Drop for Checked {
+    fn drop(self) {
+        let Checked { project, bound } = self;
+        drop(project);
+        drop(bound);
+    }
 }
 
 impl Checked {
@@ -34,7 +42,9 @@ impl Checked {
         ensures { (facts : SoundFacts) → slice_get (sounds_of self.bound) file ≡ Some facts
             → string_bytes result ≡ facts.name }
     {
-        self.bound.into_name(file)
+        let Checked { project, bound } = self;
+        drop(project);
+        bound.into_name(file)
     }
 
     /// What it is bound to.

@@ -50,12 +50,26 @@ const MARKS_OUTPUT: u32 = 1;
 /// blocks marked, and both files are synced at the end. Another run of the same list goes on where this one stopped. It
 /// notes what is clipped of each job. It holds its marks as they are begun, so that no memory is taken once it is
 /// planned and its marks are opened.
-#[derive(Drop)]
 pub struct RenderingWork<'a> {
     rendering: Rendering<'a>,
     run: RunId,
     fresh: FreshMarks,
     clips: Vec<Clips>,
+}
+
+// Written out, so that it is one call where it is dropped.
+impl Drop for RenderingWork<'_> {
+    fn drop(self) {
+        let RenderingWork {
+            rendering,
+            run: _,
+            fresh,
+            clips,
+        } = self;
+        drop(rendering);
+        drop(fresh);
+        drop(clips);
+    }
 }
 
 impl<'a> Model for RenderingWork<'a> {

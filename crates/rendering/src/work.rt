@@ -45,13 +45,28 @@ pub struct Rendered {
 ///
 /// It holds all memory that the rendering takes: room for one block, and the list of its jobs, which are stretches of
 /// blocks. A clause sees the plan, the opened files and the stretches.
-#[derive(Drop)]
 pub struct Rendering<'a> {
     pub(crate) blocks: Blocks<'a>,
     pub(crate) rendered: Rendered,
     pub(crate) head: Vec<u8>,
     pub(crate) stretches: Vec<Stretch>,
     pub(crate) range: RunRange,
+}
+
+// Written out, so that it is one call where a rendering is dropped.
+impl Drop for Rendering<'_> {
+    fn drop(self) {
+        let Rendering {
+            blocks,
+            rendered: _,
+            head,
+            stretches,
+            range: _,
+        } = self;
+        drop(blocks);
+        drop(head);
+        drop(stretches);
+    }
 }
 
 impl<'a> Model for Rendering<'a> {

@@ -26,13 +26,26 @@ pub(crate) const BLOCK_LENGTH: u64 = 4096;
 
 /// A rendering of pieces, cut into blocks: the samples of a range, on channels from 1, at a depth. A clause sees all
 /// pieces, the range and the depth.
-#[derive(Drop)]
 pub struct Plan {
     pieces: Reached,
     pub(crate) from: SampleTime,
     pub(crate) to: SampleTime,
     pub(crate) channels: u8,
     depth: Depth,
+}
+
+// Written out, so that it is one call where a plan is dropped.
+impl Drop for Plan {
+    fn drop(self) {
+        let Plan {
+            pieces,
+            from: _,
+            to: _,
+            channels: _,
+            depth: _,
+        } = self;
+        drop(pieces);
+    }
 }
 
 impl Model for Plan {

@@ -16,9 +16,16 @@ use wavread::Sound;
 
 /// What the used indexes of a project are bound to: their files, each opened once, in the order in which the indexes
 /// name them; the base and the addressable frames of each index; and what their user should know of.
-#[derive(Drop)]
 pub struct Bound {
     binder: Binder,
+}
+
+// Written out, so that it is one call where it is dropped.
+impl Drop for Bound {
+    fn drop(self) {
+        let Bound { binder } = self;
+        drop(binder);
+    }
 }
 
 impl Model for Bound {
@@ -73,7 +80,8 @@ impl Bound {
         ensures { (facts : SoundFacts) → slice_get (sounds_of self) file ≡ Some facts
             → string_bytes result ≡ facts.name }
     {
-        self.binder.into_name(file)
+        let Bound { binder } = self;
+        binder.into_name(file)
     }
 
     /// 3 for an index that no entry names, 4 for one whose base isn't its file's, and at the first index of a file 5

@@ -11,13 +11,29 @@ use std::alloc::Global;
 use std::marker::Model;
 
 /// A board of jobs. A clause sees the jobs and the order in which they are handed out.
-#[derive(Drop)]
 pub struct Board {
     jobs: Vec<Job>,
     order: Vec<u32>,
     places: Vec<u32>,
     firsts: Firsts,
     counts: Counts,
+}
+
+// Written out, so that it is one call where a board is dropped.
+impl Drop for Board {
+    fn drop(self) {
+        let Board {
+            jobs,
+            order,
+            places,
+            firsts,
+            counts: _,
+        } = self;
+        drop(jobs);
+        drop(order);
+        drop(places);
+        drop(firsts);
+    }
 }
 
 impl Model for Board {

@@ -15,13 +15,24 @@ use std::os::unix::fs::FileExt;
 /// is followed. While a bench is at work nothing else is to write to its files. A file stays open until 28 others were
 /// used since, or a call on it failed; one that is opened again and isn't the file that it was, by device and number, is
 /// a failure.
-#[derive(Drop)]
 pub struct FolderBench<R: Files + Drop>
 where
     R::File: FileExt,
 {
     files: OpenFiles<R>,
     failures: Failures,
+}
+
+// Written out, so that it is one call where a bench is dropped.
+impl<R: Files + Drop> Drop for FolderBench<R>
+where
+    R::File: FileExt,
+{
+    fn drop(self) {
+        let FolderBench { files, failures } = self;
+        drop(files);
+        drop(failures);
+    }
 }
 
 /// A clause sees its folder, whether a file in it may be replaced, and how often it has failed.

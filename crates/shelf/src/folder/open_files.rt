@@ -52,7 +52,6 @@ struct Output {
 
 /// The files of a folder by name, of which the last used ones are open. What was written is synced before it is closed,
 /// so that no failure of a close is lost. An output that is opened again has to be the file that it was.
-#[derive(Drop)]
 pub struct OpenFiles<R: Files + Drop>
 where
     R::File: FileExt,
@@ -75,6 +74,35 @@ where
     /// The file of the last create was made.
     is_made: bool,
     ghost few_open: { handles.cap ≡ OPEN_FILES },
+}
+
+// Written out, so that it is one call where it is dropped.
+impl<R: Files + Drop> Drop for OpenFiles<R>
+where
+    R::File: FileExt,
+{
+    fn drop(self) {
+        let OpenFiles {
+            alloc: _,
+            files,
+            folder,
+            access: _,
+            handles,
+            first_states,
+            paths_below,
+            outputs,
+            open_folder,
+            has_new_names: _,
+            is_made: _,
+        } = self;
+        drop(files);
+        drop(folder);
+        drop(handles);
+        drop(first_states);
+        drop(paths_below);
+        drop(outputs);
+        drop(open_folder);
+    }
 }
 
 impl<R: Files + Drop> OpenFiles<R>

@@ -19,7 +19,6 @@ use std::os::unix::fs::FileExt;
 /// Sources in a folder. A file stays open, and is seen as it was when it was opened, until 28 others were used since or
 /// a call on it failed; nothing is to write to it. Only the names of files right inside the folder name a file, and where
 /// that is asked for (`searching`), of a file that isn't there the one of its name in the folders below.
-#[derive(Drop)]
 pub struct FolderShelf<R: Files + Drop>
 where
     R::File: FileExt,
@@ -32,6 +31,27 @@ where
     below: Option<FilesBelow>,
     /// What was found there, or found twice, by name, in the order in which it was asked for.
     found: Vec<FoundBelow>,
+}
+
+// Written out, so that it is one call where a shelf is dropped.
+impl<R: Files + Drop> Drop for FolderShelf<R>
+where
+    R::File: FileExt,
+{
+    fn drop(self) {
+        let FolderShelf {
+            files,
+            failures,
+            alloc: _,
+            searches: _,
+            below,
+            found,
+        } = self;
+        drop(files);
+        drop(failures);
+        drop(below);
+        drop(found);
+    }
 }
 
 /// A clause sees its folder, and how often it has failed.

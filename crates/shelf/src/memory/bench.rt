@@ -14,12 +14,23 @@ use std::alloc::{AllocError, Global};
 
 /// Outputs in memory, with a record of the calls that changed them, so that what a crash may leave is known, and each
 /// moment of it. A read takes no memory.
-#[derive(Drop)]
 pub struct MemoryBench {
     record: Record,
     device: Device,
     /// How many bytes the next call that fails writes.
     part: u64,
+}
+
+// Written out, so that it is one call where a bench is dropped.
+impl Drop for MemoryBench {
+    fn drop(self) {
+        let MemoryBench {
+            record,
+            device: _,
+            part: _,
+        } = self;
+        drop(record);
+    }
 }
 
 impl MemoryBench {
@@ -76,8 +87,13 @@ impl MemoryBench {
         ensures failures { IfOk result (λ bench. bench_failures bench ≡ 0) }
         ensures stretch { IfOk result (λ bench. bench_stretch bench ≡ (0, 0)) }
     {
+        let MemoryBench {
+            record,
+            device: _,
+            part: _,
+        } = self;
         Ok(MemoryBench {
-            record: self.record.after_crash(kept, fill)?,
+            record: record.after_crash(kept, fill)?,
             device: Device::new(),
             part: 0,
         })

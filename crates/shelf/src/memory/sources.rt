@@ -10,10 +10,17 @@ use devices::{Shelf, ShelfFault};
 use std::alloc::{AllocError, Global};
 
 /// Sources in memory.
-#[derive(Drop)]
 pub struct MemoryShelf {
     files: NamedFiles,
     device: Device,
+}
+
+// Written out, so that it is one call where a shelf is dropped.
+impl Drop for MemoryShelf {
+    fn drop(self) {
+        let MemoryShelf { files, device: _ } = self;
+        drop(files);
+    }
 }
 
 impl MemoryShelf {
