@@ -1,6 +1,5 @@
--- Why a command doesn't come to its stores, and what it is to come to them.
+-- What it is that a command comes to its stores, or doesn't.
 use Rattle.std.specs.Prelude.{◌≡◌, ◌≢◌, ◌⊎◌, ℕ, false, List, codes, Result, Ok, Err}
-use Rattle.work_terms.specs.Refusals.{Refusal, Where, Nowhere, File}
 use Rattle.devices.specs.declared.source.Shelf as source
 use Rattle.shelf.specs.Folder.{OutputFolder, SourceFolder, folder_named}
 use Rattle.shelf.specs.declared.Overwrite.{Overwrite}
@@ -23,30 +22,9 @@ use Rattle.console.specs.declared.lines.ListOfTwo.TheVariants.{First, Second}
 use Rattle.answers.specs.Answers.{ComparesBy, IsAnswered, IsChecked, IsComparedAs, IsReportPrinted, IsVerified, MayBeMistaken, NamesBadTime, RendersBy, ResumesBy, Tells, accepted_lines, all_of_both, asking, list_refusal_line, refusal_line, rendered_lines, resumed_lines, written_lines}
 use Rattle.answers.specs.Times.{selection_of}
 use Rattle.checkreport.specs.Reported.{PrintsUnread}
-use Rattle.adlcons.specs.declared.folders.OpenFault.{OpenFault}
-use Rattle.adlcons.specs.declared.folders.OpenFault.TheVariants as opened
-use Rattle.adlcons.specs.declared.list_file.ReadFault.{ReadFault}
-use Rattle.adlcons.specs.declared.list_file.ReadFault.TheVariants.{Unreadable, Endless, Memory}
-
-abbrev early : ℕ → Where → Refusal
-early number place = record { number = number; location = place; late = false }
-
--- the refusal of the list of this path, which isn't read
-abbrev pub refusal_of_read : ReadFault → List ℕ → Refusal
-refusal_of_read (Unreadable reason) path = early 21 (File path)
-refusal_of_read Endless path = early 21 (File path)
-refusal_of_read Memory path = early 18 Nowhere
-
--- the refusal of a command over this list that writes to this folder
-abbrev pub refusal_of_opening : OpenFault → List ℕ → List ℕ → Refusal
-refusal_of_opening (opened.List fault) list folder = refusal_of_read fault list
-refusal_of_opening (opened.Unlisted reason) list folder = early 20 (File folder)
-refusal_of_opening opened.NotEmpty list folder = early 20 (File folder)
-refusal_of_opening opened.Busy list folder = early 20 (File folder)
-refusal_of_opening opened.Media list folder = early 20 (File folder)
-refusal_of_opening opened.Shared list folder = early 20 (File folder)
-refusal_of_opening opened.Memory list folder = early 18 Nowhere
-refusal_of_opening opened.Passes list folder = early 51 Nowhere
+use Rattle.places.specs.Opening.{refusal_of_opening, refusal_of_read}
+use Rattle.places.specs.declared.fault.OpenFault.{OpenFault}
+use Rattle.places.specs.declared.list_file.ReadFault.{ReadFault}
 
 -- the command didn't come to its stores, and that is its line
 pub record IsKeptOut {O : Type 0} (out : console.Ghosts O) (list folder : List ℕ) (old new : O) (status : ℕ)

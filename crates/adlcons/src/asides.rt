@@ -1,8 +1,7 @@
 // What a command tells on standard error beside the refusal and its explanation.
-use crate::folders::unlisted_reason;
-use crate::media::{Manner, open_media};
 use answers::{Asides, FEW_FAULTS};
 use explanations::Near;
+use places::{Manner, listed, open_media, unlisted_reason};
 use shelf::FolderShelf;
 use std::alloc::Global;
 use std::fs;
@@ -121,11 +120,6 @@ where
     fn sources(&self, _: Global) -> Option<FolderShelf<R>> {
         open_media(self.rt, self.media, self.manner).ok()
     }
-}
-
-/// The folder that is listed for the media of this name.
-pub fn listed(media: &str) -> &str {
-    if media.is_empty() { "." } else { media }
 }
 
 /// Whether a name is this one, which is in NFC, but for case.

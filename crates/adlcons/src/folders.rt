@@ -15,21 +15,15 @@ ghost use Rattle.answers.specs.Answers.{RendersBy, ResumesBy, asking, rendered_l
 ghost use Rattle.list_terms.specs.Text.{rate_of};
 ghost use Rattle.answers.specs.Answers.{MayBeMistaken};
 ghost use Rattle.answers.specs.Mistaken.{AreMistaken};
-ghost use Rattle.adlcons.specs.Openings.{AnswersWriting, CantBeDone, ChecksFolder, ComparesFolders, IsKeptOut, IsOneUnread, IsReportUnread, IsUnread, ReportsFolder, VerifiesInFolders, WorksInFolders, overwrite_for, refusal_of_opening};
+ghost use Rattle.adlcons.specs.Openings.{AnswersWriting, CantBeDone, ChecksFolder, ComparesFolders, IsKeptOut, IsOneUnread, IsReportUnread, IsUnread, ReportsFolder, VerifiesInFolders, WorksInFolders, overwrite_for};
 ghost use Rattle.shelf.specs.Folder.{folder_named};
 ghost use Rattle.shelf.specs.declared.Overwrite.TheVariants as overwrite;
 
-use crate::asides::{FolderAsides, listed};
+use crate::asides::FolderAsides;
 use crate::head::{changed_position, report_change};
-use crate::list_file::{ReadFault, read_list};
 use crate::looks::{report_folder, show_folder};
-use crate::media::{Manner, open_media, report_found};
-use crate::meter::{Progress, WorkMeter};
-use crate::newer::{newer_sources, report_newer};
-use crate::output::{HeldFolder, Lock, hold_folder, require_ready_folder, require_unshared};
+use crate::meter::WorkMeter;
 use crate::room::report_room;
-use crate::session::Session;
-use crate::sources::ShownShelf;
 use crate::two_lists::compare_folders;
 use crate::verification::verify_in_folders;
 use answers::{
@@ -37,83 +31,17 @@ use answers::{
     can_be_timed, explain, explain_notice, tell_further,
 };
 use commandline::{MediaReport, Places, Request, parse};
-use console::{Console, Place, Refusal, put_refusal};
+use console::{Console, Refusal, put_refusal};
 use consolidate::{JobLength, MARKS, RENDER_REPORT, SOUND, check_project};
-use explanations::{Explanation, FoundFolder, PrintedName};
+use explanations::{Explanation, FoundFolder};
+use places::{
+    HeldFolder, Lock, Manner, OpenFault, Progress, ReadFault, Session, ShownShelf, name_inside,
+    newer_sources, open_media, read_list, ready_output, report_found, report_newer, tell_unlisted,
+    unlisted_reason,
+};
 use shelf::{FolderBench, MemoryBench, Overwrite};
-use std::alloc::AllocError;
 use std::fs::Files;
 use std::os::unix::fs::FileExt;
-use std::{fs, io};
-
-/// Why a command didn't come to its stores.
-#[derive(Clone, Copy, Debug)]
-pub enum OpenFault {
-    /// The list wasn't read.
-    List(ReadFault),
-    /// The folder of the output can't be listed, for this reason.
-    Unlisted(io::Error),
-    /// Something is in the folder of the output.
-    NotEmpty,
-    /// Another command is at work in the folder of the output.
-    Busy,
-    /// Files would be replaced in the folder of the media.
-    Media,
-    /// A file of the output that would be written to is the list or a source, or has another name.
-    Shared,
-    /// Out of memory for the stores.
-    Memory,
-    /// Out of memory for the passes.
-    Passes,
-}
-
-impl OpenFault {
-    /// The refusal of a command over this list that writes to this folder.
-    pub fn refusal<'a>(self, list: &'a str, out: &'a str) -> Refusal<'a>
-        ensures number { result.number ≡ (refusal_of_opening self list.entry.now out.entry.now).number }
-        ensures location { where_of result.location ≡ (refusal_of_opening self list.entry.now out.entry.now).location }
-    {
-        match self {
-            OpenFault::List(fault) => fault.refusal(list),
-            OpenFault::Unlisted(_)
-            | OpenFault::NotEmpty
-            | OpenFault::Busy
-            | OpenFault::Media
-            | OpenFault::Shared => Refusal::of_file(20, out),
-            OpenFault::Memory => Refusal::MEMORY,
-            OpenFault::Passes => Refusal {
-                number: 51,
-                location: Place::Nowhere,
-            },
-        }
-    }
-
-    /// What the system said of it.
-    fn reason(self) -> Option<io::Error> {
-        match self {
-            OpenFault::List(fault) => fault.reason(),
-            OpenFault::Unlisted(error) => Some(error),
-            OpenFault::NotEmpty
-            | OpenFault::Busy
-            | OpenFault::Media
-            | OpenFault::Shared
-            | OpenFault::Memory
-            | OpenFault::Passes => None,
-        }
-    }
-}
-
-impl From<ReadFault> for OpenFault {
-    fn from(fault: ReadFault) -> Self {
-        OpenFault::List(fault)
-    }
-}
-
-impl From<AllocError> for OpenFault {
-    fn from(_: AllocError) -> Self {
-        OpenFault::Memory
-    }
-}
 
 /// Answers the words over the list, the media and the output that they name, with a status. Where they ask for no
 /// command, or there is no memory to read them, no file is looked at.
@@ -274,7 +202,8 @@ pub fn keep_unread<O: Console, E: Console>(
     ensures { IsUnread O.Console list.now out.old out.new result }
 {
     let refusal = fault.refusal(list);
-    refuse_early(refusal, fault.explanation(refusal.number), out, err)
+    let explanation = Explanation::by(refusal.number, fault.reason(), None);
+    refuse_early(refusal, explanation, out, err)
 }
 
 /// Prints a refusal and what explains it, and answers the status.
@@ -596,29 +525,6 @@ fn warn_unlocked<F: Drop, E: Console>(
     held.tell_unlocked(folder, err);
 }
 
-/// Holds the folder of the output, once it is ready for a command that writes: locked, empty or one where files may be
-/// replaced, and with none of those that are written that is given too, which is printed.
-pub fn ready_output<R, E: Console>(
-    rt: &R,
-    places: Places<'_>,
-    list: &[u8],
-    overwrite: Overwrite,
-    written: &[&str],
-    err: &mut E,
-) -> Result<HeldFolder<R::File>, OpenFault>
-where
-    R: Files + AllocGlobal + Clone + Drop,
-    R::File: Lock,
-    ensures { OnOk result (err.new ≡ err.old) }
-{
-    let held = hold_folder(rt, places.out)?;
-    require_ready_folder(rt, places.out, places.media, overwrite)?;
-    if overwrite == Overwrite::Files {
-        require_unshared(rt, places, list, written, err)?;
-    }
-    Ok(held)
-}
-
 /// Tells all that is at fault in a list over the folder of its media behind its first fault, and whether it has one.
 pub fn tell_all_further<R, E: Console>(
     rt: &R,
@@ -640,54 +546,4 @@ where
         return true;
     }
     false
-}
-
-/// Why a folder of media can't be listed, if it can't. It is as an empty one then.
-pub fn unlisted_reason<R: Files + AllocGlobal + Clone + Drop>(
-    rt: &R,
-    media: &str,
-) -> Option<io::Error> {
-    match fs::read_dir(rt, listed(media)) {
-        Ok(_) => None,
-        Err(error) => Some(error),
-    }
-}
-
-/// Tells why a folder of media can't be listed, if it can't, and that an empty name is the current folder.
-pub fn tell_unlisted<E: Console>(media: &str, reason: Option<io::Error>, err: &mut E) {
-    if media.is_empty() {
-        err.print_line(
-            "the name of the folder of the media is empty: the current folder was taken",
-        );
-    }
-    if let Some(reason) = reason {
-        let folder = PrintedName(media);
-        err.print_line(format_args!("the folder {folder} can't be read: {reason}"));
-    }
-}
-
-/// The name of something in the folder of this path, where that was refused since it isn't empty; that of the marks of
-/// a rendering, if they are there.
-pub fn name_inside<R: Files + AllocGlobal + Clone + Drop>(
-    rt: &R,
-    fault: OpenFault,
-    path: &str,
-) -> Option<String> {
-    let OpenFault::NotEmpty = fault else {
-        return None;
-    };
-    if has_marks(rt, path) {
-        return String::from_str(rt.alloc(), MARKS).ok();
-    }
-    let found = fs::read_dir(rt, path).ok()?.next()?.ok()?;
-    String::from_str(rt.alloc(), found.file_name()).ok()
-}
-
-/// Whether the marks of a rendering lie in the folder of this path.
-fn has_marks<R: Files + AllocGlobal + Clone + Drop>(rt: &R, path: &str) -> bool {
-    let folder = listed(path);
-    match format!(in rt.alloc(); "{folder}/{MARKS}") {
-        Ok(marks) => fs::symlink_metadata(rt, &marks).is_ok(),
-        Err(_) => false,
-    }
 }

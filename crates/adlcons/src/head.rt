@@ -1,10 +1,10 @@
 // What surrounds the samples of a rendering that is gone on with: its head, and the byte that pads it.
-use crate::asides::listed;
 use answers::rendering_info;
 use commandline::{Chosen, Request};
 use console::Console;
 use consolidate::{MARKS, SOUND};
 use explanations::PrintedName;
+use places::listed;
 use std::alloc::Global;
 use std::fs;
 use std::fs::{File, Files, OpenFile};

@@ -7,17 +7,18 @@ ghost use Rattle.answers.specs.Times.{part_of};
 ghost use Rattle.adlcons.specs.Openings.{IsReportUnread, ReportsFolder};
 
 use crate::asides::FolderAsides;
-use crate::folders::{keep_unread, tell_all_further, tell_unlisted, unlisted_reason};
-use crate::list_file::{ReadFault, read_list};
-use crate::media::report_found;
-use crate::meter::{Progress, WorkMeter};
-use crate::session::Session;
-use crate::sources::ShownShelf;
+use crate::folders::{keep_unread, tell_all_further};
+use crate::meter::WorkMeter;
 use answers::{
     Drawing, MISTAKE, REFUSED, Terminal, answer_picture, answer_report, explained_unread,
 };
 use checkreport::{put_no_memory, put_unread};
 use console::{Console, Place};
+use explanations::Explanation;
+use places::{
+    Progress, ReadFault, Session, ShownShelf, read_list, report_found, tell_unlisted,
+    unlisted_reason,
+};
 use std::alloc::Global;
 use std::fs::Files;
 use std::os::unix::fs::FileExt;
@@ -60,7 +61,7 @@ fn report_unread<O: Console, E: Console>(
     ensures { IsReportUnread O.Console path.now out.old out.new result }
 {
     let refusal = fault.refusal(path);
-    let explanation = fault.explanation(refusal.number);
+    let explanation = Explanation::by(refusal.number, fault.reason(), None);
     err.print_line(explanation);
     let Place::File(name) = refusal.location else {
         return put_no_memory(out);

@@ -1,11 +1,9 @@
 // How many bytes an output takes, said where its disk is full.
-use crate::media::{Manner, open_media};
-use crate::meter::Progress;
-use crate::session::Session;
 use answers::{REFUSED, media_size, rendering_size};
 use commandline::{Chosen, Request};
 use console::Console;
 use opening::open_project;
+use places::{Manner, Progress, Session, open_media};
 use shelf::{FolderBench, Reasons};
 use std::alloc::Global;
 use std::fs::Files;

@@ -8,16 +8,16 @@ ghost use Rattle.commandline.specs.Request.{selected_of};
 ghost use Rattle.adlcons.specs.Openings.{ComparesFolders, IsListUnread, IsOneUnread, path_of};
 
 use crate::asides::FolderAsides;
-use crate::folders::{tell_all_further, tell_unlisted, unlisted_reason};
-use crate::list_file::{ReadFault, read_list};
-use crate::media::report_found;
-use crate::meter::{Progress, WorkMeter};
-use crate::session::Session;
-use crate::sources::ShownShelf;
+use crate::folders::tell_all_further;
+use crate::meter::WorkMeter;
 use answers::{AsidesOfTwo, BothLists, MISTAKE, REFUSED, Terminal, answer_compare};
 use commandline::{BothPlaces, Selected};
 use console::{Console, ListOfTwo, put_in_list, put_refusal};
-use explanations::NamedList;
+use explanations::{Explanation, NamedList};
+use places::{
+    Progress, ReadFault, Session, ShownShelf, read_list, report_found, tell_unlisted,
+    unlisted_reason,
+};
 use std::fs::Files;
 use std::io;
 use std::os::unix::fs::FileExt;
@@ -96,7 +96,8 @@ pub fn keep_list_unread<O: Console, E: Console>(
     put_refusal(out, refusal);
     put_in_list(out, list);
     out.end_line();
-    let (list, explanation) = (NamedList(list), fault.explanation(refusal.number));
+    let explanation = Explanation::by(refusal.number, fault.reason(), None);
+    let list = NamedList(list);
     err.print_line(format_args!("{list}: {explanation}"));
     REFUSED
 }

@@ -6,18 +6,10 @@ ghost use Rattle.console.specs.Printing.{Prints};
 ghost use Rattle.console.specs.declared.lines.ListOfTwo.TheVariants.{Second};
 ghost use Rattle.adlcons.specs.Openings.{ComparesWritten, IsKeptOut, IsListUnread, VerifiesInFolders};
 
-use crate::asides::{FolderAsides, listed};
-use crate::folders::{
-    OpenFault, keep_out, name_inside, ready_output, tell_all_further, tell_unlisted,
-    unlisted_reason,
-};
-use crate::list_file::{ReadFault, read_list};
-use crate::media::{Manner, report_found};
-use crate::meter::{Progress, WorkMeter};
-use crate::output::Lock;
+use crate::asides::FolderAsides;
+use crate::folders::{keep_out, tell_all_further};
+use crate::meter::WorkMeter;
 use crate::room::report_room;
-use crate::session::Session;
-use crate::sources::ShownShelf;
 use crate::two_lists::{OpenedList, keep_list_unread, open_list};
 use answers::{
     AsidesOfTwo, BothLists, HeldLines, REFUSED, Terminal, answer_standard, answer_verified,
@@ -26,6 +18,10 @@ use answers::{
 use commandline::{MediaReport, Places, Request};
 use console::{Console, ListOfTwo};
 use consolidate::LIST;
+use places::{
+    Lock, Manner, OpenFault, Progress, ReadFault, Session, ShownShelf, listed, name_inside,
+    read_list, ready_output, report_found, tell_unlisted, unlisted_reason,
+};
 use shelf::{FolderBench, Overwrite};
 use std::fs::Files;
 use std::os::unix::fs::FileExt;

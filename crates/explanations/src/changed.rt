@@ -1,5 +1,5 @@
 // Sources that were changed while a command read them.
-use crate::names::PrintedName;
+use findings::PrintedName;
 use std::fmt;
 use std::fmt::Display;
 

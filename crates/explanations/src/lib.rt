@@ -1,40 +1,24 @@
-//! What numbers mean, and what is told beside the lines of the output: texts of which no clause speaks.
+//! What is told beside the lines of the output: texts of which no clause speaks. What is found of a refused list and of its
+//! media is handed on from `findings`.
 #![tactic(auto)]
 
 mod changed;
 mod clipped;
-mod column;
 mod comparison_report;
 mod difference;
 mod explanation;
-mod file_kind;
-mod found_format;
-mod found_sound;
-mod hints;
-mod line_at_fault;
-mod look;
-mod meanings;
-mod names;
-mod notices;
-mod passed_over;
-mod played;
 mod remedies;
 mod saved;
-mod shown;
 
 pub use changed::ChangedSources;
 pub use clipped::{ClippedLine, Rendering};
 pub use comparison_report::ComparisonReport;
 pub use difference::{Agreement, DifferingSamples, ExactSample, NamedList, SoundingEntries};
-pub use explanation::{Explanation, FoundCause, FoundFolder, FurtherExplanation};
-pub use found_format::FoundFormat;
-pub use found_sound::FoundSound;
-pub use line_at_fault::{LineAtFault, ListLines};
-pub use look::{Look, Near};
-pub use meanings::{Explained, NoSuchNumber, meanings_of};
-pub use names::{PrintedLines, PrintedName};
-pub use notices::{ExplainedNotices, NOTICES, NoSuchNotice, NoticeMeaning, notice_meanings_of};
-pub use passed_over::{PassedLineWords, PassedLines, PassedWords};
-pub use played::{Outside, Played, PlayedFile};
+pub use explanation::{Explanation, FoundFolder};
+pub use findings::{
+    Explained, ExplainedNotices, FoundCause, FoundFormat, FoundSound, FurtherExplanation,
+    LineAtFault, ListLines, Look, NOTICES, Near, NoSuchNotice, NoSuchNumber, NoticeMeaning,
+    Outside, PassedLineWords, PassedLines, PassedWords, Played, PlayedFile, PrintedLines,
+    PrintedName, Shown, meanings_of, notice_meanings_of,
+};
 pub use saved::Saved;
-pub use shown::Shown;

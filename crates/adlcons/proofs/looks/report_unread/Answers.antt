@@ -3,9 +3,10 @@ use Rattle.work_terms.specs.Refusals.{File, Where}
 use Rattle.console.specs.declared.console.Console as console
 use Rattle.console.specs.Places.{where_of}
 use Rattle.checkreport.specs.Reported.{PrintsUnread}
-use Rattle.adlcons.specs.Openings.{IsReportUnread, refusal_of_read}
-use Rattle.adlcons.specs.declared.list_file.ReadFault.{ReadFault}
-use Rattle.adlcons.specs.declared.list_file.ReadFault.TheVariants.{Memory}
+use Rattle.adlcons.specs.Openings.{IsReportUnread}
+use Rattle.places.specs.Opening.{refusal_of_read}
+use Rattle.places.specs.declared.list_file.ReadFault.{ReadFault}
+use Rattle.places.specs.declared.list_file.ReadFault.TheVariants.{Memory}
 use Rattle.adlcons.proofs.looks.report_unread.Goals as goal
 
 -- by the number and the place that were printed

@@ -1,11 +1,10 @@
 // Reads the list that the words name.
 ghost use Rattle.std.specs.Prelude.{◌≡◌, IfSome, IfOk, vec_len};
-ghost use Rattle.adlcons.specs.Openings.{refusal_of_read};
-ghost use Rattle.adlcons.specs.Reading.{reason_of_read};
+ghost use Rattle.places.specs.Opening.{refusal_of_read};
+ghost use Rattle.places.specs.Reading.{reason_of_read};
 ghost use Rattle.console.specs.Places.{where_of};
 
 use console::Refusal;
-use explanations::Explanation;
 use std::alloc::{AllocError, Global};
 use std::fs::Files;
 use std::io::{Error, ErrorKind, Read};
@@ -58,11 +57,6 @@ impl ReadFault {
             ReadFault::Unreadable(error) => Some(error),
             ReadFault::Endless | ReadFault::Memory => None,
         }
-    }
-
-    /// What explains such a refusal of this number.
-    pub fn explanation(self, number: u8) -> Explanation<'static> {
-        Explanation::by(number, self.reason(), None)
     }
 }
 

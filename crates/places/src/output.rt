@@ -1,12 +1,13 @@
 // The folder that a command writes to, looked at before its first write.
 ghost use Rattle.std.specs.Prelude.{◌≡◌, OnOk};
 
-use crate::asides::listed;
-use crate::folders::OpenFault;
+use crate::fault::OpenFault;
+use crate::media::listed;
 use adlmodel::{Project, place_of};
 use commandline::Places;
 use console::Console;
-use explanations::PrintedName;
+use findings::PrintedName;
+use markfile::MARKS;
 use shelf::Overwrite;
 use std::alloc::AllocError;
 use std::fs::{File, Files, Metadata, TryLockError};
@@ -52,9 +53,32 @@ impl<F: Drop> HeldFolder<F> {
     }
 }
 
+/// Holds the folder of the output, once it is ready for a command that writes: locked, empty or one where files may be
+/// replaced, and with none of those that are written that is given too, which is printed.
+pub fn ready_output<R, E: Console>(
+    rt: &R,
+    places: Places<'_>,
+    list: &[u8],
+    overwrite: Overwrite,
+    written: &[&str],
+    err: &mut E,
+) -> Result<HeldFolder<R::File>, OpenFault>
+where
+    R: Files + AllocGlobal + Clone + Drop,
+    R::File: Lock,
+    ensures { OnOk result (err.new ≡ err.old) }
+{
+    let held = hold_folder(rt, places.out)?;
+    require_ready_folder(rt, places.out, places.media, overwrite)?;
+    if overwrite == Overwrite::Files {
+        require_unshared(rt, places, list, written, err)?;
+    }
+    Ok(held)
+}
+
 /// Opens the folder of this path and locks it, where the system can. It fails where another command is at work there.
 /// What is no folder isn't opened, since opening a pipe may wait for ever.
-pub fn hold_folder<R>(rt: &R, path: &str) -> Result<HeldFolder<R::File>, OpenFault>
+fn hold_folder<R>(rt: &R, path: &str) -> Result<HeldFolder<R::File>, OpenFault>
 where
     R: Files + AllocGlobal,
     R::File: Lock,
@@ -73,7 +97,7 @@ where
 
 /// Fails where no folder is named; where nothing is to be replaced in that folder and it isn't empty, or can't be
 /// listed; and where files may be replaced and it is the folder of the media, which may have a source of that name.
-pub fn require_ready_folder<R: Files + AllocGlobal + Clone + Drop>(
+fn require_ready_folder<R: Files + AllocGlobal + Clone + Drop>(
     rt: &R,
     path: &str,
     media: &str,
@@ -120,7 +144,7 @@ fn is_found_at<R: Files>(rt: &R, found: &Metadata, path: &str) -> bool {
 
 /// Fails where one of these files, which a rendering would write to or empty, is the list or a source of it too, or has
 /// more names than this one, and tells which. What isn't there, or is no plain file, is never written to.
-pub fn require_unshared<R, E: Console>(
+fn require_unshared<R, E: Console>(
     rt: &R,
     places: Places<'_>,
     list: &[u8],
@@ -188,4 +212,30 @@ fn source_at<R: Files + AllocGlobal>(
         }
     }
     Ok(None)
+}
+
+/// The name of something in the folder of this path, where that was refused since it isn't empty; that of the marks of
+/// a rendering, if they are there.
+pub fn name_inside<R: Files + AllocGlobal + Clone + Drop>(
+    rt: &R,
+    fault: OpenFault,
+    path: &str,
+) -> Option<String> {
+    let OpenFault::NotEmpty = fault else {
+        return None;
+    };
+    if has_marks(rt, path) {
+        return String::from_str(rt.alloc(), MARKS).ok();
+    }
+    let found = fs::read_dir(rt, path).ok()?.next()?.ok()?;
+    String::from_str(rt.alloc(), found.file_name()).ok()
+}
+
+/// Whether the marks of a rendering lie in the folder of this path.
+fn has_marks<R: Files + AllocGlobal + Clone + Drop>(rt: &R, path: &str) -> bool {
+    let folder = listed(path);
+    match format!(in rt.alloc(); "{folder}/{MARKS}") {
+        Ok(marks) => fs::symlink_metadata(rt, &marks).is_ok(),
+        Err(_) => false,
+    }
 }

@@ -1,10 +1,10 @@
 // Sources that were written to after the marks of a rendering that is gone on with.
-use crate::asides::listed;
+use crate::media::listed;
 use adlmodel::{Project, Source, place_of};
 use commandline::{Places, Request};
 use console::Console;
-use consolidate::MARKS;
-use explanations::PrintedName;
+use findings::PrintedName;
+use markfile::MARKS;
 use std::alloc::{AllocError, Global};
 use std::collections::BTreeSet;
 use std::fs;

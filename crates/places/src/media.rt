@@ -3,11 +3,12 @@ ghost use Rattle.std.specs.Prelude.{◌≡◌, IfOk};
 ghost use Rattle.shelf.specs.Folder.{folder_named};
 
 use console::Console;
-use explanations::PrintedName;
+use findings::PrintedName;
 use shelf::{FolderShelf, FoundBelow};
 use std::alloc::AllocError;
 use std::fs::Files;
 use std::os::unix::fs::FileExt;
+use std::{fs, io};
 
 /// How many media from folders below are reported where not all are asked for.
 const FEW: usize = 20;
@@ -79,4 +80,33 @@ fn print_found<E: Console>(found: &FoundBelow, err: &mut E) {
 /// The name at the end of a path.
 fn last_part(path: &str) -> &str {
     path.rsplit('/').next().unwrap_or(path)
+}
+
+/// Why a folder of media can't be listed, if it can't. It is as an empty one then.
+pub fn unlisted_reason<R: Files + AllocGlobal + Clone + Drop>(
+    rt: &R,
+    media: &str,
+) -> Option<io::Error> {
+    match fs::read_dir(rt, listed(media)) {
+        Ok(_) => None,
+        Err(error) => Some(error),
+    }
+}
+
+/// Tells why a folder of media can't be listed, if it can't, and that an empty name is the current folder.
+pub fn tell_unlisted<E: Console>(media: &str, reason: Option<io::Error>, err: &mut E) {
+    if media.is_empty() {
+        err.print_line(
+            "the name of the folder of the media is empty: the current folder was taken",
+        );
+    }
+    if let Some(reason) = reason {
+        let folder = PrintedName(media);
+        err.print_line(format_args!("the folder {folder} can't be read: {reason}"));
+    }
+}
+
+/// The folder that is listed for the media of this name.
+pub fn listed(media: &str) -> &str {
+    if media.is_empty() { "." } else { media }
 }

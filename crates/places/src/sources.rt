@@ -3,7 +3,7 @@ ghost use Rattle.std.specs.Prelude.{◌≡◌, false, None, IfOk, ⊤};
 ghost use Rattle.shelf.specs.Folder.{folder_named};
 
 use crate::media::open_media;
-use crate::meter::Progress;
+use crate::progress::Progress;
 use crate::session::Session;
 use devices::{Shelf, ShelfFault};
 use shelf::{FolderShelf, Reason, Reasons};

@@ -1,0 +1,138 @@
+// What the numbers 51 to 69 mean: those of the work and its outputs.
+use crate::meanings::{Meaning, Spot};
+
+/// Each of them, in order.
+pub static WORK: [Meaning; 16] = [
+    Meaning {
+        number: 51,
+        spot: Spot::Nowhere,
+        meaning: "out of memory while entries are joined",
+        cause: "there are more entries than free memory can hold",
+        remedy: "free memory, or split the list",
+        is_answered: true,
+    },
+    Meaning {
+        number: 52,
+        spot: Spot::Nowhere,
+        meaning: "a source can't be read in the search for silence, or for the report",
+        cause: "the device failed, or the file was changed meanwhile",
+        remedy: "check the file, and run again into an empty folder",
+        is_answered: true,
+    },
+    Meaning {
+        number: 53,
+        spot: Spot::Nowhere,
+        meaning: "too many media",
+        cause: "the frames to keep lie in more than 32,767 stretches",
+        remedy: "choose a larger handle, so that stretches join, or split the list",
+        is_answered: true,
+    },
+    Meaning {
+        number: 54,
+        spot: Spot::Nowhere,
+        meaning: "out of memory for the media",
+        cause: "there are more stretches than free memory can hold",
+        remedy: "free memory, or split the list",
+        is_answered: true,
+    },
+    Meaning {
+        number: 55,
+        spot: Spot::Nowhere,
+        meaning: "the new list has too many entries",
+        cause: "it would have more than 32,767",
+        remedy: "split the list",
+        is_answered: true,
+    },
+    Meaning {
+        number: 56,
+        spot: Spot::Nowhere,
+        meaning: "out of memory for the new list, or for the report",
+        cause: "it is larger than the memory that is free",
+        remedy: "free memory, or split the list",
+        is_answered: true,
+    },
+    Meaning {
+        number: 57,
+        spot: Spot::Nowhere,
+        meaning: "out of memory for a rendering or a comparison",
+        cause: "there are more entries than free memory can hold",
+        remedy: "free memory, or split the list",
+        is_answered: true,
+    },
+    Meaning {
+        number: 58,
+        spot: Spot::Nowhere,
+        meaning: "nothing lies in the range",
+        cause: "it ends where it starts or before; without --from and --to it goes from the first entry's start \
+                to the last one's end, of both lists where two are compared",
+        remedy: "name a range by --from and --to, or check the list's entries",
+        is_answered: true,
+    },
+    Meaning {
+        number: 60,
+        spot: Spot::Nowhere,
+        meaning: "out of memory for the work",
+        cause: "there are more pieces of work than free memory can hold",
+        remedy: "free memory, or split the list",
+        is_answered: true,
+    },
+    Meaning {
+        number: 61,
+        spot: Spot::Nowhere,
+        meaning: "a file would be too long",
+        cause: "its size doesn't fit 64 bits, which no list leads to",
+        remedy: "render a shorter range, or split the list",
+        is_answered: false,
+    },
+    Meaning {
+        number: 62,
+        spot: Spot::File,
+        meaning: "the output can't be written",
+        cause: "the disk is full, the device failed, you may not write there, \
+                or a file of that name already exists",
+        remedy: "make room or get permission to write there; then go on with adlcons resume where a rendering was begun, \
+                and else run again into an empty folder",
+        is_answered: true,
+    },
+    Meaning {
+        number: 63,
+        spot: Spot::Nowhere,
+        meaning: "out of memory while media are written",
+        cause: "less memory is free than when the command began",
+        remedy: "free memory, and run again into an empty folder",
+        is_answered: false,
+    },
+    Meaning {
+        number: 66,
+        spot: Spot::Job,
+        meaning: "a piece of work failed three times",
+        cause: "a device failed again and again, or the disk is full",
+        remedy: "make room or check the devices; then go on with adlcons resume where a rendering was begun, \
+                and else run again into an empty folder",
+        is_answered: true,
+    },
+    Meaning {
+        number: 67,
+        spot: Spot::Nowhere,
+        meaning: "the output belongs to another rendering",
+        cause: "its marks are of another list, range, number of channels or depth; which of them differs can't be told",
+        remedy: "give adlcons resume the list and the words of that rendering, or render into an empty folder",
+        is_answered: true,
+    },
+    Meaning {
+        number: 68,
+        spot: Spot::Nowhere,
+        meaning: "the marks of the output are damaged",
+        cause: "render.marks or render.wav was changed or is of another length",
+        remedy: "render into an empty folder",
+        is_answered: true,
+    },
+    Meaning {
+        number: 69,
+        spot: Spot::Nowhere,
+        meaning: "out of memory for the marks",
+        cause: "there are more blocks than free memory can hold",
+        remedy: "free memory, and resume again",
+        is_answered: true,
+    },
+];
