@@ -19,24 +19,21 @@ ghost use Rattle.adlcons.specs.Openings.{AnswersWriting, CantBeDone, ChecksFolde
 ghost use Rattle.shelf.specs.Folder.{folder_named};
 ghost use Rattle.shelf.specs.declared.Overwrite.TheVariants as overwrite;
 
-use crate::asides::FolderAsides;
-use crate::head::{changed_position, report_change};
 use crate::looks::{report_folder, show_folder};
-use crate::meter::WorkMeter;
-use crate::room::report_room;
 use crate::two_lists::compare_folders;
 use crate::verification::verify_in_folders;
 use answers::{
     Command, Drawing, MISTAKE, REFUSED, Terminal, answer_error, answer_request, answer_standard,
-    can_be_timed, explain, explain_notice, tell_further,
+    can_be_timed, explain, explain_notice,
 };
 use commandline::{MediaReport, Places, Request, parse};
 use console::{Console, Refusal, put_refusal};
-use consolidate::{JobLength, MARKS, RENDER_REPORT, SOUND, check_project};
+use consolidate::{JobLength, MARKS, RENDER_REPORT, SOUND};
 use explanations::{Explanation, FoundFolder};
 use places::{
-    HeldFolder, Lock, Manner, OpenFault, Progress, ReadFault, Session, ShownShelf, name_inside,
-    newer_sources, open_media, read_list, ready_output, report_found, report_newer, tell_unlisted,
+    FolderAsides, HeldFolder, Lock, Manner, OpenFault, Progress, ReadFault, Session, ShownShelf,
+    WorkMeter, changed_position, name_inside, newer_sources, read_list, ready_output,
+    report_change, report_found, report_full_disk, report_newer, tell_all_further, tell_unlisted,
     unlisted_reason,
 };
 use shelf::{FolderBench, MemoryBench, Overwrite};
@@ -477,7 +474,7 @@ where
     if status == REFUSED && manner.tells_all {
         tell_all_further(rt, list, places.media, manner, err);
     }
-    report_room(session, request, list, status, bench, err);
+    report_full_disk(session, request, list, status == REFUSED, bench, err);
     if let (0, Some(position)) = (status, changed) {
         report_change(places.out, position, err);
     }
@@ -523,27 +520,4 @@ fn warn_unlocked<F: Drop, E: Console>(
         return;
     }
     held.tell_unlocked(folder, err);
-}
-
-/// Tells all that is at fault in a list over the folder of its media behind its first fault, and whether it has one.
-pub fn tell_all_further<R, E: Console>(
-    rt: &R,
-    list: &[u8],
-    media: &str,
-    manner: Manner,
-    err: &mut E,
-) -> bool
-where
-    R: Files + Input + AllocGlobal + Clone + Drop,
-    R::File: FileExt,
-{
-    let Ok(mut shelf) = open_media(rt, media, manner) else {
-        return false;
-    };
-    if let Err(fault) = check_project(rt.alloc(), list, &mut shelf) {
-        let asides = FolderAsides::new(rt, media, manner);
-        tell_further(rt.alloc(), list, &mut shelf, &fault, &asides, err);
-        return true;
-    }
-    false
 }

@@ -6,18 +6,15 @@ ghost use Rattle.answers.specs.Answers.{NamesBadTime};
 ghost use Rattle.answers.specs.Times.{part_of};
 ghost use Rattle.adlcons.specs.Openings.{IsReportUnread, ReportsFolder};
 
-use crate::asides::FolderAsides;
-use crate::folders::{keep_unread, tell_all_further};
-use crate::meter::WorkMeter;
-use answers::{
-    Drawing, MISTAKE, REFUSED, Terminal, answer_picture, answer_report, explained_unread,
-};
+use crate::folders::keep_unread;
+use answers::{Drawing, MISTAKE, REFUSED, Terminal, answer_picture, answer_report};
+use asides::explained_unread;
 use checkreport::{put_no_memory, put_unread};
 use console::{Console, Place};
 use explanations::Explanation;
 use places::{
-    Progress, ReadFault, Session, ShownShelf, read_list, report_found, tell_unlisted,
-    unlisted_reason,
+    FolderAsides, Progress, ReadFault, Session, ShownShelf, WorkMeter, read_list, report_found,
+    tell_all_further, tell_unlisted, unlisted_reason,
 };
 use std::alloc::Global;
 use std::fs::Files;
@@ -68,7 +65,8 @@ fn report_unread<O: Console, E: Console>(
     };
     match String::from_str(alloc, name) {
         Ok(path) => {
-            let explained = explained_unread(alloc, explanation);
+            let (cause, meaning) = (explanation.cause(), explanation.meaning());
+            let explained = explained_unread(alloc, cause, meaning, explanation.remedy());
             put_unread(refusal.number, path, explained, out)
         }
         Err(_) => put_no_memory(out),

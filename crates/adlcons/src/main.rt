@@ -2,20 +2,16 @@
 //! renders a stored example over memory and prints what came of it.
 #![tactic(auto)]
 
-mod asides;
 mod example;
 mod folders;
-mod head;
 mod looks;
-mod meter;
-mod room;
 mod stored;
 mod two_lists;
 mod verification;
 
 use anyhow::Result;
 use console::Printer;
-use explanations::Shown;
+use findings::Shown;
 use folders::answer_words;
 use places::ProgressLine;
 use std::env::FillError;

@@ -7,19 +7,16 @@ ghost use Rattle.shelf.specs.Folder.{folder_named};
 ghost use Rattle.commandline.specs.Request.{selected_of};
 ghost use Rattle.adlcons.specs.Openings.{ComparesFolders, IsListUnread, IsOneUnread, path_of};
 
-use crate::asides::FolderAsides;
-use crate::folders::tell_all_further;
-use crate::meter::WorkMeter;
 use answers::{AsidesOfTwo, BothLists, MISTAKE, REFUSED, Terminal, answer_compare};
 use commandline::{BothPlaces, Selected};
 use console::{Console, ListOfTwo, put_in_list, put_refusal};
-use explanations::{Explanation, NamedList};
+use explanations::Explanation;
 use places::{
-    Progress, ReadFault, Session, ShownShelf, read_list, report_found, tell_unlisted,
-    unlisted_reason,
+    FolderAsides, OpenedList, Progress, ReadFault, Session, ShownShelf, WorkMeter, open_list,
+    report_found, tell_all_further, tell_unlisted,
 };
+use remarks::NamedList;
 use std::fs::Files;
-use std::io;
 use std::os::unix::fs::FileExt;
 
 /// Why a comparison didn't come to the sources of one of two lists.
@@ -27,18 +24,6 @@ use std::os::unix::fs::FileExt;
 struct Unread {
     list: ListOfTwo,
     fault: ReadFault,
-}
-
-/// A list as it was read, over the folder of its media.
-#[derive(Drop)]
-pub struct OpenedList<'a, R: Files + AllocGlobal + Clone + Drop, L: Progress>
-where
-    R::File: FileExt,
-{
-    pub text: Vec<u8>,
-    pub shelf: ShownShelf<'a, R, L>,
-    /// Why the folder can't be listed, if it can't.
-    pub unlisted: Option<io::Error>,
 }
 
 /// Compares these lists over these folders at what the words choose, and answers the status. What kept it from a list is
@@ -218,27 +203,6 @@ where
         Ok(opened) => Ok(opened),
         Err(fault) => Err(Unread { list, fault }),
     }
-}
-
-/// Opens a list over this folder.
-pub fn open_list<'a, R, L: Progress>(
-    session: &Session<'a, R, L>,
-    path: &str,
-    media: &str,
-) -> Result<OpenedList<'a, R, L>, ReadFault>
-where
-    R: Files + Input + AllocGlobal + Clone + Drop,
-    R::File: FileExt,
-    ensures { IfOk result (λ opened. opened.shelf.folder ≡ folder_named media.now) }
-{
-    let text = read_list(session.rt, path)?;
-    let shelf = ShownShelf::open(session, media)?;
-    let unlisted = unlisted_reason(session.rt, media);
-    Ok(OpenedList {
-        text,
-        shelf,
-        unlisted,
-    })
 }
 
 /// Prints the further faults of the first list that has one.

@@ -6,11 +6,8 @@ ghost use Rattle.console.specs.Printing.{Prints};
 ghost use Rattle.console.specs.declared.lines.ListOfTwo.TheVariants.{Second};
 ghost use Rattle.adlcons.specs.Openings.{ComparesWritten, IsKeptOut, IsListUnread, VerifiesInFolders};
 
-use crate::asides::FolderAsides;
-use crate::folders::{keep_out, tell_all_further};
-use crate::meter::WorkMeter;
-use crate::room::report_room;
-use crate::two_lists::{OpenedList, keep_list_unread, open_list};
+use crate::folders::keep_out;
+use crate::two_lists::keep_list_unread;
 use answers::{
     AsidesOfTwo, BothLists, HeldLines, REFUSED, Terminal, answer_standard, answer_verified,
     put_lines,
@@ -19,19 +16,13 @@ use commandline::{MediaReport, Places, Request};
 use console::{Console, ListOfTwo};
 use consolidate::LIST;
 use places::{
-    Lock, Manner, OpenFault, Progress, ReadFault, Session, ShownShelf, listed, name_inside,
-    read_list, ready_output, report_found, tell_unlisted, unlisted_reason,
+    FolderAsides, Lock, OpenFault, OpenedList, PLAIN, Progress, Session, ShownShelf, WorkMeter,
+    name_inside, open_inside, read_list, ready_output, report_found, report_full_disk,
+    tell_all_further, tell_unlisted, unlisted_reason,
 };
 use shelf::{FolderBench, Overwrite};
 use std::fs::Files;
 use std::os::unix::fs::FileExt;
-
-/// Of the written project the first fault is reported, and no file of it is looked for in folders below.
-const PLAIN: Manner = Manner {
-    tells_all: false,
-    searches: false,
-    verifies: false,
-};
 
 /// A consolidation that is asked for between these places, over this list.
 #[derive(Clone, Copy)]
@@ -184,7 +175,7 @@ where
         lines: held,
     };
     let status = put_answer(session, consolidated, shelf, out, err);
-    report_room(session, request, list, answer, bench, err);
+    report_full_disk(session, request, list, answer == REFUSED, bench, err);
     report_found(shelf.sources(), manner, err);
     tell_unlisted(places.media, unlisted, err);
     Ok(status)
@@ -220,7 +211,7 @@ where
         put_lines(consolidated.lines, out);
         return REFUSED;
     }
-    match open_written(session, places.out) {
+    match open_inside(session, places.out, LIST) {
         Ok(written) => put_verified(session, consolidated, shelf, written, out, err),
         Err(fault) => keep_list_unread(ListOfTwo::Second, fault, LIST, out, err),
     }
@@ -272,24 +263,4 @@ where
         &mut written_shelf,
         &mut terminal,
     )
-}
-
-/// The list that was written into this folder, over the files of the folder.
-fn open_written<'a, R, L: Progress>(
-    session: &Session<'a, R, L>,
-    folder: &str,
-) -> Result<OpenedList<'a, R, L>, ReadFault>
-where
-    R: Files + Input + AllocGlobal + Clone + Drop,
-    R::File: FileExt,
-    ensures { IfOk result (λ opened. opened.shelf.folder ≡ folder_named folder.now) }
-{
-    let parent = listed(folder);
-    let plain = Session {
-        rt: session.rt,
-        manner: PLAIN,
-        line: session.line,
-    };
-    let path = format!(in plain.rt.alloc(); "{parent}/{LIST}")?;
-    open_list(&plain, &path, folder)
 }

@@ -4,12 +4,9 @@ ghost use Rattle.checkreport.specs.Reported.{IsReported};
 ghost use Rattle.answers.specs.Answers.{IsReportPrinted};
 ghost use Rattle.answers.specs.Terminals.{GivesBack};
 
-use crate::asides::Asides;
-use crate::explainer::Explainer;
-use crate::meter::Meter;
 use crate::refusal::tell_explanation;
-use crate::report::tell_changed;
 use crate::terminal::Terminal;
+use asides::{Asides, Explainer, Meter, tell_changed};
 use checkreport::{put_accepted, put_refused};
 use console::Console;
 use consolidate::Fault;

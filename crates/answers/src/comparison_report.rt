@@ -2,15 +2,14 @@
 ghost use Rattle.comparison.specs.Range.{HasChannels};
 ghost use Rattle.answers.specs.Terminals.{GivesBack};
 
-use crate::asides::{Asides, AsidesOfTwo};
 use crate::counts::{count_from, counts_of};
 use crate::difference::{BothLists, events_of, first_in};
-use crate::meter::Meter;
 use crate::terminal::Terminal;
 use adlread::read;
+use asides::{Asides, AsidesOfTwo, Meter};
 use console::Console;
 use consolidate::{Compared, Comparison, Selection};
-use explanations::ComparisonReport;
+use remarks::ComparisonReport;
 use std::alloc::Global;
 
 /// Prints what a comparison found as a line of JSON, by the form of `docs/REPORT.md`. Where the lists differ they are
@@ -27,14 +26,7 @@ pub fn put_comparison_report<O: Console, E, M: Meter, A: Asides, B: Asides>(
     ensures { GivesBack terminal.old terminal.new }
 {
     let Comparison::Differs { at, .. } = compared.comparison else {
-        terminal.out.print_line(ComparisonReport {
-            compared,
-            events: &[],
-            other_events: &[],
-            from: None,
-            counts: &[],
-            is_part: false,
-        });
+        terminal.out.print_line(report_of(compared));
         return;
     };
     let counted = count_from(
@@ -53,11 +45,27 @@ pub fn put_comparison_report<O: Console, E, M: Meter, A: Asides, B: Asides>(
         None => false,
     };
     terminal.out.print_line(ComparisonReport {
-        compared,
         events,
         other_events,
         from: selection.from.or(first_in(events, other_events)),
         counts: counts_of(&counted),
         is_part,
+        ..report_of(compared)
     });
+}
+
+/// What a comparison found, without what is found of a difference.
+fn report_of(compared: &Compared) -> ComparisonReport<'_> {
+    ComparisonReport {
+        comparison: compared.comparison,
+        rate: compared.rate,
+        separators: compared.separators,
+        first_notices: compared.first_notices.as_slice(),
+        second_notices: compared.second_notices.as_slice(),
+        events: &[],
+        other_events: &[],
+        from: None,
+        counts: &[],
+        is_part: false,
+    }
 }

@@ -2,16 +2,15 @@
 ghost use Rattle.comparison.specs.Range.{HasChannels};
 ghost use Rattle.answers.specs.Terminals.{KeepsOutput};
 
-use crate::asides::{Asides, AsidesOfTwo};
 use crate::difference::BothLists;
-use crate::meter::Meter;
 use crate::terminal::Terminal;
 use adlmodel::Project;
+use asides::{Asides, AsidesOfTwo, Meter};
 use comparison::{DifferingCounts, differing_in};
 use console::Console;
 use consolidate::Selection;
-use explanations::DifferingSamples;
 use opening::open_project;
+use remarks::DifferingSamples;
 use sampletime::SampleTime;
 use shelf::Shelf;
 use std::alloc::Global;

@@ -3,7 +3,7 @@ use adlmodel::Project;
 use adlread::read;
 use console::{Console, ListOfTwo};
 use consolidate::{Compared, Comparison, Selection};
-use explanations::{Agreement, ExactSample, NamedList, SoundingEntries};
+use remarks::{Agreement, ExactSample, NamedList, SoundingEntries};
 use sampletime::SampleTime;
 use sound_terms::Event;
 use std::alloc::Global;

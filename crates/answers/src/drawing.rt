@@ -8,27 +8,21 @@ ghost use Rattle.answers.specs.Answers.{NamesBadTime};
 ghost use Rattle.answers.specs.Terminals.{GivesBack};
 ghost use Rattle.answers.specs.Times.{bad_time_line, part_of};
 
-use crate::asides::Asides;
 use crate::chosen::part_of;
-use crate::meter::Meter;
 use crate::refusal::refuse_on;
-use crate::report::tell_changed;
 use crate::requests::refuse_time;
-use crate::room::{report_room, room_of};
 use crate::terminal::Terminal;
-use adlmodel::{Project, place_of};
-use adlread::{rate_of, read};
+use adlread::rate_of;
+use asides::{Asides, Meter, report_room, room_of, tell_changed};
 use commandline::Drawn;
 use console::Console;
 use consolidate::Fault;
 use explanations::Explanation;
-use opening::{further_faults, open_project};
-use picture::{Part, Picture};
+use opening::open_project;
+use picture::{Part, Picture, draw_refused};
 use projectcheck::Checked;
 use shelf::{Reasons, Shelf};
-use sourceindex::bind;
-use std::alloc::{AllocError, Global};
-use std::collections::BTreeMap;
+use std::alloc::Global;
 
 /// A picture that is asked for: of the list of this path, with handles of so many frames, and what of it is drawn.
 #[derive(Clone, Copy)]
@@ -138,88 +132,6 @@ fn refuse_drawing<S: Reasons, O: Console, E: Console, M: Meter, A: Asides>(
         terminal.err,
     );
     1
-}
-
-/// Draws this part of a list that is refused by this fault: its entries where its files can be bound, and else its files.
-/// Nothing is drawn of one whose text is at fault, or of which nothing lies in the part.
-fn draw_refused<S: Shelf, O: Console>(
-    alloc: Global,
-    name: &str,
-    list: &[u8],
-    part: Part,
-    fault: &opening::Fault,
-    shelf: &mut S,
-    out: &mut O,
-) {
-    let Ok(project) = read(alloc, list) else {
-        return;
-    };
-    if part.is_empty(project.events()) {
-        return;
-    }
-    match fault {
-        opening::Fault::List(_) => {}
-        opening::Fault::Entry(_) => {
-            if let Ok(bound) = bind(alloc, &project, shelf) {
-                out.print(Picture::of_bad_entries(&project, &bound, name).of_part(part));
-            }
-        }
-        opening::Fault::SameName { .. } | opening::Fault::Media { .. } => {
-            if let Ok(bad_files) = bad_files_of(alloc, list, &project, fault, shelf) {
-                out.print(Picture::of_bad_files(&project, &bad_files, name).of_part(part));
-            }
-        }
-    }
-}
-
-/// The indexes of a project whose files are at fault, each with the number of its refusal.
-fn bad_files_of<S: Shelf>(
-    alloc: Global,
-    list: &[u8],
-    project: &Project,
-    first: &opening::Fault,
-    shelf: &mut S,
-) -> Result<BTreeMap<u32, u8>, AllocError> {
-    let mut names = BTreeMap::new(alloc);
-    let mut bad_files = BTreeMap::new(alloc);
-    add_fault(alloc, first, &mut names, &mut bad_files)?;
-    if let Ok(further) = further_faults(alloc, list, shelf, first, usize::MAX) {
-        for fault in &further.faults {
-            add_fault(alloc, fault, &mut names, &mut bad_files)?;
-        }
-    }
-    for source in project.sources().as_slice() {
-        let Ok(Some(location)) = place_of(alloc, source.url()) else {
-            continue;
-        };
-        if let Some(number) = names.get(location.name()) {
-            bad_files.insert(source.number(), *number)?;
-        }
-    }
-    Ok(bad_files)
-}
-
-/// Adds the index of a fault, and the name of its file where it has one.
-fn add_fault(
-    alloc: Global,
-    fault: &opening::Fault,
-    names: &mut BTreeMap<String, u8>,
-    bad_files: &mut BTreeMap<u32, u8>,
-) -> Result<(), AllocError> {
-    let number = fault.number();
-    match fault {
-        opening::Fault::Media { index, name, .. } => {
-            bad_files.insert(*index, number)?;
-            if let Some(name) = name {
-                names.insert(String::from_str(alloc, name.as_str())?, number)?;
-            }
-        }
-        opening::Fault::SameName { index } => {
-            bad_files.insert(*index, number)?;
-        }
-        opening::Fault::List(_) | opening::Fault::Entry(_) => {}
-    }
-    Ok(())
 }
 
 /// The name at the end of a path.

@@ -1,9 +1,8 @@
 // The line of a refusal by a fault.
 ghost use Rattle.std.specs.Prelude.{◌≡◌};
 ghost use Rattle.work_terms.specs.Refusals.{File};
-ghost use Rattle.adlread.specs.Fault as text;
-ghost use Rattle.sourceindex.specs.Fault.{file_at};
 ghost use Rattle.opening.specs.Faults as project;
+ghost use Rattle.opening.specs.Further.{WasRead};
 ghost use Rattle.consolidate.specs.CompareFault as comparing;
 ghost use Rattle.consolidate.specs.Fault.{name_of_output, place_of_marks, refusal_of};
 ghost use Rattle.console.specs.Lines.{refusal_text};
@@ -12,19 +11,16 @@ ghost use Rattle.console.specs.Printing.{Prints};
 ghost use Rattle.answers.specs.Answers.{refusal_line};
 ghost use Rattle.answers.specs.Terminals.{GivesBack};
 
-use crate::asides::Asides;
-use crate::meter::Meter;
-use crate::second_look::SecondLook;
 use crate::terminal::Terminal;
-use adlread::AdlFault;
+use asides::{Asides, Meter, look_at, project_place, tell_further};
 use console::{Console, Place, Refusal, put_refusal};
 use consolidate::{
     Fault, LIST, ListFault, MARKS, MarkFault, MarkedFile, OutputFile, RENDER_REPORT, REPORT, SOUND,
     SUMS,
 };
-use explanations::{Explanation, Look};
-use list_terms::Location;
-use shelf::Reasons;
+use explanations::Explanation;
+use findings::Look;
+use shelf::{Reasons, Shelf};
 use std::alloc::Global;
 
 /// Prints the line of a refusal of this list on standard output and its explanation on standard error, with what a
@@ -81,7 +77,7 @@ pub fn tell_explanation<E: Console, A: Asides>(
     asides: &A,
     err: &mut E,
 ) {
-    let look = look_at(alloc, list, fault, asides);
+    let look = look_at_fault(alloc, list, fault, asides);
     err.print_line(explanation.with_look(&look));
 }
 
@@ -95,9 +91,9 @@ pub fn given_up_at<S: Reasons>(alloc: Global, fault: &Fault, store: &S) -> Optio
 }
 
 /// What a second look at the media finds about a fault of a command over this list.
-fn look_at<A: Asides>(alloc: Global, list: &[u8], fault: &Fault, asides: &A) -> Look {
+fn look_at_fault<A: Asides>(alloc: Global, list: &[u8], fault: &Fault, asides: &A) -> Look {
     match fault {
-        Fault::Project(fault) => look_at_project(alloc, list, fault, asides),
+        Fault::Project(fault) => look_at(alloc, list, fault, asides),
         _ => Look::nothing(),
     }
 }
@@ -105,19 +101,26 @@ fn look_at<A: Asides>(alloc: Global, list: &[u8], fault: &Fault, asides: &A) -> 
 /// What it finds about a fault of one of two lists.
 pub fn look_at_list<A: Asides>(alloc: Global, list: &[u8], fault: &ListFault, asides: &A) -> Look {
     match fault {
-        ListFault::Project(fault) => look_at_project(alloc, list, fault, asides),
+        ListFault::Project(fault) => look_at(alloc, list, fault, asides),
         _ => Look::nothing(),
     }
 }
 
-/// What it finds about a fault of the list, of a file that it names, or of an entry.
-fn look_at_project<A: Asides>(
+/// Prints the further faults of a list that is refused by this first one, where that is one of the list, of a file that it
+/// names or of an entry.
+pub fn tell_others<S: Shelf, E: Console, A: Asides>(
     alloc: Global,
     list: &[u8],
-    fault: &opening::Fault,
+    shelf: &mut S,
+    first: &Fault,
     asides: &A,
-) -> Look {
-    SecondLook::new(asides.sources(alloc)).at(alloc, list, fault, asides)
+    err: &mut E,
+)
+    ensures { WasRead S.Shelf shelf.old shelf.new }
+{
+    if let Fault::Project(first) = first {
+        tell_further(alloc, list, shelf, first, asides, err);
+    }
 }
 
 /// Prints the refusal of one of two lists, without its line's end.
@@ -200,44 +203,5 @@ fn marks_place(fault: MarkFault) -> Place<'static>
             file: MarkedFile::Marks,
         } => Place::File(MARKS),
         MarkFault::OtherRun | MarkFault::BadMarks | MarkFault::Memory => Place::Nowhere,
-    }
-}
-
-/// The place of a fault of the list, of a file that it names, or of an entry.
-pub fn project_place(fault: &opening::Fault) -> Place<'_>
-    ensures { where_of result ≡ (project.refusal_of fault.now).location }
-{
-    match fault {
-        opening::Fault::List(fault) => text_place(fault),
-        opening::Fault::SameName { index } => Place::Index(*index),
-        opening::Fault::Media { index, name, .. } => file_place(*index, name),
-        opening::Fault::Entry(fault) => Place::Entry(fault.entry),
-    }
-}
-
-/// An index, and the name of its file, where there was memory for it.
-fn file_place(index: u32, name: &Option<String>) -> Place<'_>
-    ensures { where_of result ≡ file_at index name.now }
-{
-    match name {
-        Some(name) => {
-            let name = name.as_str();
-            Place::IndexFile { index, name }
-        }
-        None => Place::Index(index),
-    }
-}
-
-/// The place of a fault of the text.
-fn text_place(fault: &AdlFault) -> Place<'static>
-    ensures { where_of result ≡ (text.refusal fault.now).location }
-{
-    match fault {
-        AdlFault::Text { location, .. } => match *location {
-            Location::Line { line } => Place::Line(line),
-            Location::Entry { line, entry } => Place::LineEntry { line, entry },
-            Location::Index { line, index } => Place::LineIndex { line, index },
-        },
-        AdlFault::Memory => Place::Nowhere,
     }
 }

@@ -23,17 +23,14 @@ ghost use Rattle.answers.specs.Mistaken.{no_memory_line};
 ghost use Rattle.checkreport.specs.Reported.{IsReported};
 ghost use Rattle.answers.specs.Times.{bad_time_line, part_of, values_of};
 
-use crate::also::tell_further;
-use crate::asides::Asides;
 use crate::check_report::answer_report;
 use crate::chosen::{BadTime, options_of, tell_bad_time};
 use crate::drawing::{Drawing, answer_picture};
-use crate::meter::Meter;
-use crate::refusal::{given_up_at, refuse};
-use crate::report::{tell_changed, tell_clipping, tell_done, tell_meanings};
-use crate::room::{DEFAULT_HANDLE, report_room, room_of};
+use crate::refusal::{given_up_at, refuse, tell_others};
+use crate::report::{tell_clipping, tell_done};
 use crate::terminal::Terminal;
 use adlread::rate_of;
+use asides::{Asides, DEFAULT_HANDLE, Meter, report_room, room_of, tell_changed, tell_meanings};
 use clap::Error;
 use clap::error::ErrorKind;
 use commandline::{MediaReport, Request, VERSION};
@@ -44,8 +41,10 @@ use consolidate::{
     render_reported, render_watched, resume_reported, resume_watched,
 };
 use devices::Watch;
-use explanations::{Explanation, PrintedLines, Rendering, Saved, meanings_of, notice_meanings_of};
+use explanations::{Explanation, Saved};
+use findings::{PrintedLines, meanings_of, notice_meanings_of};
 use passes::Pass;
+use remarks::Rendering;
 use shelf::{Bench, Reasons, Shelf};
 use std::alloc::Global;
 
@@ -242,7 +241,7 @@ fn answer_check<S: Shelf + Reasons, O: Console, E: Console, M: Meter, A: Asides>
             let explanation = Explanation::of(&fault, list, shelf.reason(), None);
             refuse(alloc, list, &fault, explanation, terminal);
             let asides = &terminal.asides;
-            tell_further(alloc, list, shelf, &fault, asides, terminal.err);
+            tell_others(alloc, list, shelf, &fault, asides, terminal.err);
             REFUSED
         }
     }

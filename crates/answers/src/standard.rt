@@ -13,10 +13,9 @@ ghost use Rattle.answers.specs.Answers.{IsAnswered, MayBeMistaken, RendersBy, Re
 ghost use Rattle.answers.specs.Terminals.{GivesBack};
 ghost use Rattle.answers.specs.Times.{bad_time_line, values_of};
 
-use crate::asides::Asides;
-use crate::meter::Meter;
 use crate::requests::{Command, answer_request};
 use crate::terminal::Terminal;
+use asides::{Asides, Meter};
 use commandline::Request;
 use console::Console;
 use consolidate::JobLength;

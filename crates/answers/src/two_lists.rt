@@ -12,24 +12,23 @@ ghost use Rattle.answers.specs.Terminals.{GivesBack, KeepsOutput};
 ghost use Rattle.consolidate.specs.CompareFault as comparing;
 ghost use Rattle.answers.specs.Times.{bad_time_line, selection_of};
 
-use crate::asides::{Asides, AsidesOfTwo};
 use crate::chosen::selection_of;
 use crate::comparison_report::put_comparison_report;
 use crate::counts::report_counts;
 use crate::difference::{BothLists, ListText, report_difference};
-use crate::meter::Meter;
 use crate::refusal::{look_at_list, put_list_fault};
-use crate::report::{tell_changed, tell_meanings_of_two};
 use crate::requests::{DONE, REFUSED, refuse_time};
 use crate::terminal::Terminal;
 use adlread::rate_of;
+use asides::{Asides, AsidesOfTwo, Meter, tell_changed, tell_meanings_of_two};
 use commandline::Selected;
 use console::{
     Console, Counts, ListOfTwo, Place, Refusal, put_counts, put_difference, put_in_list,
     put_notices_of_list, put_refusal,
 };
 use consolidate::{CompareFault, Compared, Comparison, ListFault, Selection, compare};
-use explanations::{Explanation, NamedList};
+use explanations::Explanation;
+use remarks::NamedList;
 use sampletime::{Rate, Separators, text_of};
 use shelf::{Reason, Reasons, Shelf};
 use std::alloc::Global;

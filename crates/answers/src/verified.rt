@@ -5,13 +5,11 @@ ghost use Rattle.answers.specs.Answers.{IsVerified, all_of_both, verdict_lines};
 ghost use Rattle.answers.specs.Terminals.{GivesBack, KeepsOutput};
 ghost use Rattle.console.specs.Printing.{Prints};
 
-use crate::asides::{Asides, AsidesOfTwo};
 use crate::difference::BothLists;
-use crate::meter::Meter;
-use crate::report::tell_changed;
 use crate::requests::DONE;
 use crate::terminal::Terminal;
 use crate::two_lists::{put_comparison, refuse_two, report_compared, status_of};
+use asides::{Asides, AsidesOfTwo, Meter, tell_changed};
 use console::Console;
 use consolidate::{CompareFault, Compared, Comparison, Selection, compare};
 use shelf::{Reasons, Shelf};

@@ -11,9 +11,9 @@ ghost use Rattle.list_terms.specs.Text.{rate_of as rate_at};
 ghost use Rattle.answers.specs.Answers.{IsAnswered, IsChecked, IsReportPrinted, MayBeMistaken, RendersBy, ResumesBy, accepted_lines, asking, rendered_lines, resumed_lines, written_lines};
 ghost use Rattle.answers.specs.Mistaken.{AreMistaken};
 
-use crate::asides::NoAsides;
 use crate::requests::{Command, answer_error, answer_request, refuse_two_lists};
 use crate::terminal::Terminal;
+use asides::NoAsides;
 use commandline::parse;
 use console::Console;
 use consolidate::JobLength;

@@ -1,8 +1,8 @@
 // What is told of a refusal beside its line: what its number means there, what was found, and what to do.
-use crate::remedies::{SystemWord, remedy_by};
 use consolidate::{Fault, ListFault, MARKS, MarkFault, OutputFile};
 use findings::{
-    LineAtFault, ListLines, Look, Meaning, PrintedName, Spot, meaning_at, project_spot,
+    LineAtFault, ListLines, Look, Meaning, PrintedName, Spot, SystemWord, meaning_at, project_spot,
+    remedy_by,
 };
 use shelf::Reason;
 use std::fmt;

@@ -1,4 +1,5 @@
-//! What numbers mean, and what is found of a list that is refused and of its media: texts of which no clause speaks.
+//! What numbers mean, what to do about them, and what is found of a list that is refused and of its media: texts of which no
+//! clause speaks.
 #![tactic(auto)]
 
 mod column;
@@ -14,6 +15,7 @@ mod names;
 mod notices;
 mod passed_over;
 mod played;
+mod remedies;
 mod shown;
 
 pub use found_format::FoundFormat;
@@ -26,4 +28,5 @@ pub use names::{PrintedLines, PrintedName};
 pub use notices::{ExplainedNotices, NOTICES, NoSuchNotice, NoticeMeaning, notice_meanings_of};
 pub use passed_over::{PassedLineWords, PassedLines, PassedWords};
 pub use played::{Outside, Played, PlayedFile};
+pub use remedies::{SystemWord, remedy_by};
 pub use shown::Shown;

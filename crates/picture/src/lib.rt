@@ -1,4 +1,5 @@
-//! A picture of a project: its entries in a lane for each channel, and below them what of each file is played and kept.
+//! A picture of a project: its entries in a lane for each channel, and below them what of each file is played and kept; and
+//! of what can be drawn of a list that is refused.
 #![tactic(auto)]
 
 mod escaped;
@@ -6,6 +7,7 @@ mod hatch;
 mod legend;
 mod part;
 mod picture;
+mod refused;
 mod ruler;
 mod scale;
 mod shown;
@@ -14,3 +16,4 @@ mod timeline;
 
 pub use part::Part;
 pub use picture::Picture;
+pub use refused::draw_refused;

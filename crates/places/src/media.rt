@@ -22,6 +22,13 @@ pub struct Manner {
     pub verifies: bool,
 }
 
+/// Where the first fault of a project is reported, and no file of it is looked for in folders below.
+pub const PLAIN: Manner = Manner {
+    tells_all: false,
+    searches: false,
+    verifies: false,
+};
+
 /// The sources of this folder.
 pub fn open_media<R>(rt: &R, media: &str, manner: Manner) -> Result<FolderShelf<R>, AllocError>
 where

@@ -1,11 +1,11 @@
 // What a report says of each fault beside its number and its place, and of the list.
-use crate::asides::Asides;
+use crate::beside::Asides;
 use crate::room::{DEFAULT_HANDLE, room_of};
 use crate::second_look::SecondLook;
 use checkreport::{Explains, Member, PassedLine, Room, Value};
-use explanations::{
-    Explanation, FoundFormat, FurtherExplanation, LineAtFault, ListLines, Look, Outside,
-    PassedLines, PlayedFile, Shown,
+use findings::{
+    FoundFormat, FurtherExplanation, LineAtFault, ListLines, Look, Outside, PassedLines,
+    PlayedFile, Shown,
 };
 use opening::Fault;
 use projectcheck::Checked;
@@ -112,21 +112,26 @@ fn explained(
 }
 
 /// What explains that a list isn't read, in the same order.
-pub fn explained_unread(alloc: Global, explanation: Explanation<'_>) -> Option<Vec<Member>> {
+pub fn explained_unread(
+    alloc: Global,
+    cause: &str,
+    meaning: Option<&str>,
+    remedy: Option<&str>,
+) -> Option<Vec<Member>> {
     let members = vec![in alloc;
         count("after", None),
         count("before", None),
         count("bits", None),
-        text(alloc, "cause", Some(explanation.cause())),
+        text(alloc, "cause", Some(cause)),
         count("channels", None),
         count("column", None),
         count("file", None),
         count("frames", None),
         count("index", None),
-        text(alloc, "meaning", explanation.meaning()),
+        text(alloc, "meaning", meaning),
         count("near", None),
         count("rate", None),
-        text(alloc, "remedy", explanation.remedy()),
+        text(alloc, "remedy", remedy),
         count("tag", None),
         count("text", None),
         count("word", None),

@@ -1,8 +1,8 @@
 // What a comparison found, as JSON.
 use crate::difference::{SoundingEntries, fmt_time};
-use consolidate::{Compared, Comparison};
+use comparison::Comparison;
 use list_terms::Notice;
-use sampletime::SampleTime;
+use sampletime::{Rate, SampleTime, Separators};
 use sound_terms::Event;
 use std::fmt;
 
@@ -10,7 +10,12 @@ use std::fmt;
 /// `docs/REPORT.md`.
 #[derive(Clone, Copy)]
 pub struct ComparisonReport<'a> {
-    pub compared: &'a Compared,
+    pub comparison: Comparison,
+    /// The rate of frames and the separators of the first list's times.
+    pub rate: Rate,
+    pub separators: Separators,
+    pub first_notices: &'a [Notice],
+    pub second_notices: &'a [Notice],
     /// The entries of the first list.
     pub events: &'a [Event],
     /// The entries of the second list.
@@ -25,7 +30,7 @@ pub struct ComparisonReport<'a> {
 
 impl fmt::Display for ComparisonReport<'_> {
     fn fmt<W: fmt::Write>(&self, f: &mut fmt::Formatter<W>) -> fmt::Result {
-        match self.compared.comparison {
+        match self.comparison {
             Comparison::Same { frames, channels } => self.fmt_same(frames, channels, f),
             Comparison::Differs {
                 at,
@@ -35,19 +40,14 @@ impl fmt::Display for ComparisonReport<'_> {
             } => {
                 self.fmt_first(at, channel, f)?;
                 self.fmt_differing(f)?;
-                let notices = self.compared.first_notices.as_slice();
-                f.write_str(",\"first\":{")?;
-                fmt_side(&sounding(self.events, at, channel), notices, first, f)?;
+                f.write_str(",\"first\":")?;
+                let entries = sounding(self.events, at, channel);
+                fmt_side(&entries, self.first_notices, first, f)?;
                 f.write_str(",\"form\":6,\"same\":false,\"same_before\":")?;
                 self.fmt_same_before(at, f)?;
-                let notices = self.compared.second_notices.as_slice();
-                f.write_str(",\"second\":{")?;
-                fmt_side(
-                    &sounding(self.other_events, at, channel),
-                    notices,
-                    second,
-                    f,
-                )?;
+                f.write_str(",\"second\":")?;
+                let entries = sounding(self.other_events, at, channel);
+                fmt_side(&entries, self.second_notices, second, f)?;
                 f.write_str("}")
             }
         }
@@ -62,14 +62,13 @@ impl ComparisonReport<'_> {
         channels: u8,
         f: &mut fmt::Formatter<W>,
     ) -> fmt::Result {
-        f.write_str("{\"channels\":")?;
-        write!(f, "{channels}")?;
-        f.write_str(",\"first\":{")?;
-        fmt_notices(self.compared.first_notices.as_slice(), f)?;
-        f.write_str("},\"form\":6,\"frames\":")?;
-        write!(f, "{frames}")?;
-        f.write_str(",\"same\":true,\"second\":{")?;
-        fmt_notices(self.compared.second_notices.as_slice(), f)?;
+        write!(f, "{{\"channels\":{channels},\"first\":{{")?;
+        fmt_notices(self.first_notices, f)?;
+        write!(
+            f,
+            "}},\"form\":6,\"frames\":{frames},\"same\":true,\"second\":{{"
+        )?;
+        fmt_notices(self.second_notices, f)?;
         f.write_str("}}")
     }
 
@@ -81,12 +80,11 @@ impl ComparisonReport<'_> {
         f: &mut fmt::Formatter<W>,
     ) -> fmt::Result {
         let samples = at.get();
-        f.write_str("{\"difference\":{\"at\":")?;
-        write!(f, "{samples}")?;
-        f.write_str(",\"channel\":")?;
-        write!(f, "{channel}")?;
-        f.write_str(",\"time\":\"")?;
-        fmt_time(at, self.compared.rate, self.compared.separators, f)?;
+        write!(
+            f,
+            "{{\"difference\":{{\"at\":{samples},\"channel\":{channel},\"time\":\""
+        )?;
+        fmt_time(at, self.rate, self.separators, f)?;
         f.write_str("\"},\"differing\":")
     }
 
@@ -97,8 +95,8 @@ impl ComparisonReport<'_> {
         }
         f.write_str("{\"samples\":[")?;
         fmt_counts(self.counts, f)?;
-        f.write_str("],\"complete\":")?;
-        f.write_str(if self.is_part { "false}" } else { "true}" })
+        let is_whole = !self.is_part;
+        write!(f, "],\"complete\":{is_whole}}}")
     }
 
     /// Writes how many samples are the same before this time.
@@ -136,15 +134,14 @@ fn sounding(events: &[Event], at: SampleTime, channel: u8) -> SoundingEntries<'_
     }
 }
 
-/// Writes the entries of a list that sound where both differ first, its notices and its sum there, to the end of the
-/// object.
+/// Writes the object of a list: its entries that sound where both differ first, its notices, and its sum there.
 fn fmt_side<W: fmt::Write>(
     entries: &SoundingEntries<'_>,
     notices: &[Notice],
     sum: i64,
     f: &mut fmt::Formatter<W>,
 ) -> fmt::Result {
-    f.write_str("\"entries\":[")?;
+    f.write_str("{\"entries\":[")?;
     let mut comma = "";
     for event in entries.events {
         if entries.has(event) {
@@ -155,21 +152,18 @@ fn fmt_side<W: fmt::Write>(
     }
     f.write_str("],")?;
     fmt_notices(notices, f)?;
-    f.write_str(",\"sum\":")?;
-    write!(f, "{sum}")?;
-    f.write_str("}")
+    write!(f, ",\"sum\":{sum}}}")
 }
 
 /// Writes the member of notices.
 fn fmt_notices<W: fmt::Write>(notices: &[Notice], f: &mut fmt::Formatter<W>) -> fmt::Result {
     f.write_str("\"notices\":[")?;
-    let mut brace = "{";
+    let mut comma = "";
     for notice in notices {
         let Notice { kind, at } = *notice;
         let of = if kind <= 2 { "line" } else { "index" };
-        write!(f, "{brace}\"{of}\":{at},\"notice\":{kind}")?;
-        f.write_str("}")?;
-        brace = ",{";
+        write!(f, "{comma}{{\"{of}\":{at},\"notice\":{kind}}}")?;
+        comma = ",";
     }
     f.write_str("]")
 }

@@ -1,8 +1,8 @@
 // A second look at the media of a list that is refused, for what its faults are in their own terms.
-use crate::asides::Asides;
+use crate::beside::Asides;
 use adlmodel::Project;
 use adlread::read;
-use explanations::{FoundSound, Look, Near, Played};
+use findings::{FoundSound, Look, Near, Played};
 use opening::Fault;
 use projectcheck::EventFault;
 use shelf::Shelf;
@@ -37,6 +37,11 @@ impl BoundList {
             .find(|event| event.number == fault.entry)?;
         Some(Played::of(alloc, &self.bound, event, fault.fault))
     }
+}
+
+/// What a second look at the media finds about a fault of this list.
+pub fn look_at<A: Asides>(alloc: Global, list: &[u8], fault: &Fault, asides: &A) -> Look {
+    SecondLook::new(asides.sources(alloc)).at(alloc, list, fault, asides)
 }
 
 /// The sources of a refused list, looked at once more. Their failures are passed over, and so is want of memory: nothing

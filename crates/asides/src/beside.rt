@@ -1,5 +1,5 @@
 // What a command tells on standard error beside the refusal and its explanation.
-use explanations::Near;
+use findings::Near;
 use shelf::{MemoryShelf, Shelf};
 use std::alloc::Global;
 

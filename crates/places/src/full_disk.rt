@@ -1,9 +1,11 @@
 // How many bytes an output takes, said where its disk is full.
-use answers::{REFUSED, media_size, rendering_size};
+use crate::media::{Manner, open_media};
+use crate::progress::Progress;
+use crate::session::Session;
+use asides::{media_size, rendering_size};
 use commandline::{Chosen, Request};
 use console::Console;
 use opening::open_project;
-use places::{Manner, Progress, Session, open_media};
 use shelf::{FolderBench, Reasons};
 use std::alloc::Global;
 use std::fs::Files;
@@ -11,19 +13,19 @@ use std::io::ErrorKind;
 use std::os::unix::fs::FileExt;
 
 /// Reports how many bytes the output of this request takes, where it was refused since its disk is full.
-pub fn report_room<R, E: Console, L: Progress>(
+pub fn report_full_disk<R, E: Console, L: Progress>(
     session: &Session<'_, R, L>,
     request: Request<'_>,
     list: &[u8],
-    status: u8,
+    is_refused: bool,
     bench: &FolderBench<R>,
     err: &mut E,
 )
 where
-    R: Files + Input + AllocGlobal + Clone + Drop,
+    R: Files + AllocGlobal + Clone + Drop,
     R::File: FileExt,
 {
-    if status != REFUSED || !is_full(bench) {
+    if !is_refused || !is_full(bench) {
         return;
     }
     match request {
@@ -67,7 +69,7 @@ fn size_of_rendering(alloc: Global, list: &[u8], chosen: Chosen<'_>) -> Option<u
 /// How many bytes the media of a list with this handle take at most.
 fn size_of_media<R>(rt: &R, media: &str, list: &[u8], manner: Manner, handle: u64) -> Option<u64>
 where
-    R: Files + Input + AllocGlobal + Clone + Drop,
+    R: Files + AllocGlobal + Clone + Drop,
     R::File: FileExt,
 {
     let mut shelf = open_media(rt, media, manner).ok()?;

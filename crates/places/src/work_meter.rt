@@ -1,8 +1,8 @@
 // How far a command's work has come.
-use answers::Meter;
+use crate::progress::Progress;
+use asides::Meter;
 use commandline::Request;
 use devices::Watch;
-use places::Progress;
 
 /// What stands behind the frames of a rendering: it is still there to be read once Ctrl-C has stopped the program, which
 /// no program of the kit can catch.

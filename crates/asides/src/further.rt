@@ -1,15 +1,14 @@
 // What else is told of a list that is refused: its further faults, each in a line.
 ghost use Rattle.opening.specs.Further.{WasRead};
 
-use crate::asides::Asides;
-use crate::refusal::project_place;
+use crate::beside::Asides;
+use crate::place::project_place;
 use crate::second_look::SecondLook;
 use adlread::{AdlFault, Faults};
 use console::{Console, put_place};
-use consolidate::Fault;
 use devices::Shelf;
-use explanations::{FurtherExplanation, ListLines, Look};
-use opening::further_faults;
+use findings::{FurtherExplanation, ListLines, Look};
+use opening::{Fault, further_faults};
 use std::alloc::Global;
 
 /// Prints the further faults of a list that is refused by this first one, as many at most as `asides` says, and how
@@ -24,11 +23,8 @@ pub fn tell_further<S: Shelf, E: Console, A: Asides>(
 )
     ensures { WasRead S.Shelf shelf.old shelf.new }
 {
-    let Fault::Project(first) = first else {
-        return;
-    };
     let most = asides.most();
-    if let opening::Fault::List(first) = first {
+    if let Fault::List(first) = first {
         tell_further_lines(alloc, list, *first, most, err);
         return;
     }
@@ -45,7 +41,7 @@ pub fn tell_further<S: Shelf, E: Console, A: Asides>(
 fn tell_each<E: Console, A: Asides>(
     alloc: Global,
     list: &[u8],
-    faults: &[opening::Fault],
+    faults: &[Fault],
     asides: &A,
     err: &mut E,
 ) {
@@ -74,7 +70,7 @@ fn tell_further_lines<E: Console>(
         let Some(fault) = faults.next_fault(alloc) else {
             return;
         };
-        tell_also(&opening::Fault::List(fault), &mut lines, &look, err);
+        tell_also(&Fault::List(fault), &mut lines, &look, err);
     }
     if faults.next_fault(alloc).is_some() {
         err.print_line("and more");
@@ -82,12 +78,7 @@ fn tell_further_lines<E: Console>(
 }
 
 /// Prints a further fault: its number, its place, what the number means there, and what is found about it.
-fn tell_also<E: Console>(
-    fault: &opening::Fault,
-    lines: &mut ListLines<'_>,
-    look: &Look,
-    err: &mut E,
-) {
+fn tell_also<E: Console>(fault: &Fault, lines: &mut ListLines<'_>, look: &Look, err: &mut E) {
     let number = fault.number();
     err.print(format_args!("also {number:02}"));
     put_place(err, project_place(fault));

@@ -1,10 +1,10 @@
 // What surrounds the samples of a rendering that is gone on with: its head, and the byte that pads it.
-use answers::rendering_info;
+use crate::media::listed;
+use asides::rendering_info;
 use commandline::{Chosen, Request};
 use console::Console;
-use consolidate::{MARKS, SOUND};
-use explanations::PrintedName;
-use places::listed;
+use findings::PrintedName;
+use markfile::{MARKS, SOUND};
 use std::alloc::Global;
 use std::fs;
 use std::fs::{File, Files, OpenFile};

@@ -1,7 +1,9 @@
-// What a command tells on standard error beside the refusal and its explanation.
-use answers::{Asides, FEW_FAULTS};
-use explanations::Near;
-use places::{Manner, listed, open_media, unlisted_reason};
+// What is told beside a refusal of a list over the folder of its media.
+use crate::media::{Manner, listed, open_media, unlisted_reason};
+use asides::{Asides, FEW_FAULTS, tell_further};
+use console::Console;
+use findings::Near;
+use opening::open_project;
 use shelf::FolderShelf;
 use std::alloc::Global;
 use std::fs;
@@ -128,4 +130,27 @@ fn is_similar(alloc: Global, name: &str, wanted: &str) -> bool {
         Ok(form) => form.as_bytes().eq_ignore_ascii_case(wanted.as_bytes()),
         Err(_) => false,
     }
+}
+
+/// Tells all that is at fault in a list over the folder of its media behind its first fault, and whether it has one.
+pub fn tell_all_further<R, E: Console>(
+    rt: &R,
+    list: &[u8],
+    media: &str,
+    manner: Manner,
+    err: &mut E,
+) -> bool
+where
+    R: Files + AllocGlobal + Clone + Drop,
+    R::File: FileExt,
+{
+    let Ok(mut shelf) = open_media(rt, media, manner) else {
+        return false;
+    };
+    if let Err(fault) = open_project(rt.alloc(), list, &mut shelf) {
+        let asides = FolderAsides::new(rt, media, manner);
+        tell_further(rt.alloc(), list, &mut shelf, &fault, &asides, err);
+        return true;
+    }
+    false
 }

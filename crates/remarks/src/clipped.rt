@@ -1,5 +1,5 @@
 // What of a rendering was clipped, in a line.
-use consolidate::Clipping;
+use clipping::Clips;
 use sampletime::{Rate, SampleTime, Separators, text_of};
 use std::fmt;
 use std::fmt::Display;
@@ -15,7 +15,12 @@ pub enum Rendering {
 /// lies above full scale. Nothing where none was clipped.
 #[derive(Clone, Copy)]
 pub struct ClippedLine {
-    pub clipping: Clipping,
+    /// The tally of its exact sums, of which the first stands at the first frame on channel 1, then that on channel 2, and so
+    /// on.
+    pub clips: Clips,
+    /// The time of that frame.
+    pub start: SampleTime,
+    pub channels: u8,
     pub rendering: Rendering,
     pub rate: Rate,
 }
@@ -28,19 +33,19 @@ fn time_text(time: SampleTime, rate: Rate) -> [u8; 16] {
 impl ClippedLine {
     /// The time of the frame that has this sample, counted from 0 channel by channel.
     fn time_of(&self, sample: u64) -> SampleTime {
-        let frame = sample / u64::from(self.clipping.channels.max(1));
-        let time = self.clipping.start.get().saturating_add(frame);
+        let frame = sample / u64::from(self.channels.max(1));
+        let time = self.start.get().saturating_add(frame);
         SampleTime::new(time).unwrap_or(SampleTime::ZERO)
     }
 
     /// Its channel, counted from 1.
     fn channel_of(&self, sample: u64) -> u64 {
-        sample % u64::from(self.clipping.channels.max(1)) + 1
+        sample % u64::from(self.channels.max(1)) + 1
     }
 
     /// The channels on which one was clipped: one by one, with commas between them and `and` before the last.
     fn fmt_channels<W: fmt::Write>(&self, f: &mut fmt::Formatter<W>) -> fmt::Result {
-        let all = self.clipping.clips.channels;
+        let all = self.clips.channels;
         let mut left = all.count_ones();
         f.write_str(if left == 1 { "channel" } else { "channels" })?;
         let mut before = " ";
@@ -57,7 +62,7 @@ impl ClippedLine {
 
 impl fmt::Display for ClippedLine {
     fn fmt<W: fmt::Write>(&self, f: &mut fmt::Formatter<W>) -> fmt::Result {
-        let clips = self.clipping.clips;
+        let clips = self.clips;
         let Some(first) = clips.first else {
             return Ok(());
         };
