@@ -1,4 +1,4 @@
-"""In which order tests/prove proves the libraries, what it hands on and what it leaves, with a stand-in for rt."""
+"""What tests/prove has rt prove, what it takes from there and what it leaves, with a stand-in for rt."""
 
 import os
 import shutil
@@ -15,28 +15,27 @@ run = case.run
 TOP = Path(__file__).resolve().parent.parent
 TIMEOUT = 60
 CRATES = {
-    "word": "", "text": "word thiserror", "sound": "word", "list": "text sound", "adlcons": "list clap", "trials": "list",
+    "word": "", "text": "word thiserror", "list": "text", "adlcons": "list clap", "other": "word", "trials": "list",
 }
-# Notes when it begins and ends, builds the library of its folder, and fails where it lacks one that it uses.
+PROGRAM = "crates/adlcons/out/adlcons"
+# Notes its words and the files that it finds, and builds the program, unless it fails or stays.
 RT = """#!/bin/sh
-name=$(basename "$PWD")
-echo "begins $name $*" >> "$NOTES"
-for used in $(sed -n "s/^$name://p" ../../crates.txt); do
-    if [ -d "../$used" ] && [ ! -f "../$used/out/rlib/stamp" ]; then echo "no $used" >&2; exit 1; fi
-done
-if [ "$name" = "$FAILS" ]; then echo "$name has a hole"; exit 1; fi
-if [ "$name" = "$STAYS" ]; then sleep 30 & wait; fi
-mkdir -p out/rlib && echo "$name" > out/rlib/stamp
-echo "ends $name" >> "$NOTES"
+echo "$*" > "$NOTES/words"
+find . -type f | sort > "$NOTES/files"
+cp crates.txt "$NOTES"
+if [ -n "$FAILS" ]; then echo "rt: text NOT PROVED"; exit 1; fi
+if [ -n "$STAYS" ]; then touch "$NOTES/stays"; sleep 30 & wait; fi
+mkdir -p crates/adlcons/out && echo built > crates/adlcons/out/adlcons
 """
 
 
 def begun(scene: Scene, **settings: str) -> subprocess.Popen:
-    """tests/prove at work over a small tree."""
-    tree, programs = scene.folder / "tree", scene.folder / "programs"
+    """tests/prove at work over a small tree, in which something was built before."""
+    tree, programs, notes = (scene.folder / name for name in ("tree", "programs", "notes"))
     for name in CRATES:
-        (tree / "crates" / name / "src").mkdir(parents=True)
-        (tree / "crates" / name / "src" / "lib.rt").write_text(name)
+        for file in ("src/lib.rt", "must-fail/wrong.edit", "out/rlib/stamp"):
+            (tree / "crates" / name / file).parent.mkdir(parents=True)
+            (tree / "crates" / name / file).write_text(name)
     (tree / "crates.txt").write_text("# The crates.\n" + "".join(f"{name}: {uses}\n" for name, uses in CRATES.items()))
     (tree / "HANDLES").write_text("Handles allowed: none.\n")
     (tree / "tests").mkdir()
@@ -44,64 +43,57 @@ def begun(scene: Scene, **settings: str) -> subprocess.Popen:
     programs.mkdir()
     (programs / "rt").write_text(RT)
     (programs / "rt").chmod(0o755)
+    notes.mkdir()
+    (scene.folder / "temporary").mkdir()
     environment = {
-        **os.environ, "PATH": f"{programs}:{os.environ['PATH']}", "NOTES": str(scene.folder / "notes"), "FAILS": "",
-        "STAYS": "", **settings}
+        **os.environ, "PATH": f"{programs}:{os.environ['PATH']}", "NOTES": str(notes), "FAILS": "", "STAYS": "",
+        "TMPDIR": str(scene.folder / "temporary"), **settings}
     return subprocess.Popen(
         [tree / "tests" / "prove"], env=environment, stdin=subprocess.DEVNULL, stdout=subprocess.PIPE,
         stderr=subprocess.STDOUT)
 
 
-def notes(scene: Scene) -> list:
-    return [line.split()[:2] for line in (scene.folder / "notes").read_text().splitlines()]
+def nothing_left(scene: Scene) -> None:
+    same("what is left", list((scene.folder / "temporary").iterdir()), [])
 
 
-def built(scene: Scene) -> list:
-    """The libraries that the tree has."""
-    return sorted(stamp.read_text().strip() for stamp in (scene.folder / "tree").glob("crates/*/out/rlib/stamp"))
-
-
-def no_copies(scene: Scene) -> None:
-    same("the copies that are left", (scene.folder / "tree/crates/adlcons/out/copies").exists(), False)
-
-
-@case("each library behind those that it uses")
-def in_order(scene: Scene) -> None:
-    """Each library of the program once, behind those that it uses, and nothing of the program or of its trials."""
+@case("the program and what it stands on")
+def of_the_program(scene: Scene) -> None:
+    """rt ci gets the program and the crates below it, without wrong bodies and what was built, and the tree the program."""
     work = begun(scene)
     told, _ = work.communicate(timeout=TIMEOUT)
-    same("the status", (work.returncode, told.count(b": proved\n")), (0, 4))
-    noted = notes(scene)
-    same("what is begun", sorted(name for verb, name in noted if verb == "begins"), ["list", "sound", "text", "word"])
-    for name, used in (("text", "word"), ("sound", "word"), ("list", "text"), ("list", "sound")):
-        same(f"{name} behind {used}", noted.index(["begins", name]) > noted.index(["ends", used]), True)
-    same("the tree's libraries", built(scene), ["list", "sound", "text", "word"])
-    no_copies(scene)
+    same("the status", (work.returncode, told), (0, b"crates: 4\n"))
+    notes = scene.folder / "notes"
+    same("the words", (notes / "words").read_text(), "ci\n")
+    needed = ["adlcons", "list", "text", "word"]
+    same("the crates", sorted((notes / "crates.txt").read_text().splitlines()), [f"{name}: {CRATES[name]}" for name in needed])
+    files = [f"./crates/{name}/src/lib.rt" for name in needed]
+    same("the files", (notes / "files").read_text().split(), ["./HANDLES", "./crates.txt", *files])
+    same("the program", (scene.folder / "tree" / PROGRAM).read_text(), "built\n")
+    nothing_left(scene)
 
 
-@case("one that isn't proved")
+@case("what isn't proved")
 def failing(scene: Scene) -> None:
-    """It is told with what rt said, nothing above it is begun, and what was proved stays."""
-    work = begun(scene, FAILS="text")
+    """What rt said is told, and the tree gets no program."""
+    work = begun(scene, FAILS="1")
     told, _ = work.communicate(timeout=TIMEOUT)
-    same("the status", work.returncode, 1)
-    same("what is told", b"text: isn't proved\ntext has a hole\n" in told, True)
-    same("above it", ["begins", "list"] in notes(scene), False)
-    same("below it", "word" in built(scene), True)
-    no_copies(scene)
+    same("the status", (work.returncode, told), (1, b"crates: 4\nrt: text NOT PROVED\n"))
+    same("a program", (scene.folder / "tree" / PROGRAM).exists(), False)
+    nothing_left(scene)
 
 
 @case("stopped")
 def stopped(scene: Scene) -> None:
-    """A stop, as Ctrl-C and sh try beside it give it, ends what is at work, leaves no copies and keeps what was proved."""
-    work = begun(scene, STAYS="text")
+    """A stop, as Ctrl-C and sh try beside it give it, ends rt and leaves no copy."""
+    work = begun(scene, STAYS="1")
     end = time.monotonic() + TIMEOUT
-    while not (scene.folder / "notes").exists() or ["begins", "text"] not in notes(scene):
-        same("it comes to the library that stays", time.monotonic() < end, True)
+    while not (scene.folder / "notes/stays").exists():
+        same("rt is begun", time.monotonic() < end, True)
         time.sleep(0.05)
     work.send_signal(signal.SIGINT)
     work.send_signal(signal.SIGTERM)
-    work.communicate(timeout=TIMEOUT)
+    work.wait(timeout=TIMEOUT)
     same("the status", work.returncode, 1)
-    same("below it", "word" in built(scene), True)
-    no_copies(scene)
+    same("a program", (scene.folder / "tree" / PROGRAM).exists(), False)
+    nothing_left(scene)
