@@ -26,7 +26,7 @@ echo "$KIT/START-HERE.md"
 RATTLE = """#!/bin/sh
 echo "$*" >> "$NOTES/$3"
 for word; do
-    case $word in *=*/stated/*.rlib) [ -f "${word#*=}" ] || { echo "no ${word%%=*}"; exit 1; } ;; esac
+    case $word in *=*/out/rlib/*.rlib) [ -f "${word#*=}" ] || { echo "no ${word%%=*}"; exit 1; } ;; esac
 done
 if [ "$3" = "$FAILS" ]; then echo "it isn't so"; exit 1; fi
 if [ "$3" = "$STAYS" ]; then sleep 30 & echo $! > "$NOTES/stays"; wait; fi
@@ -110,7 +110,7 @@ def of_the_program(scene: Scene) -> None:
     same("the crates", proved(scene), NEEDED)
     same("the program", (scene.folder / "tree" / PROGRAM).read_text(), "made of adlcons\n")
     words = (scene.folder / "notes/text").read_text().split()
-    stated = scene.folder / "tree/crates/word/out/stated"
+    stated = scene.folder / "tree/crates/word/out/rlib"
     for pair in (("--extern", f"word={stated}/word.rlib"), ("--extern", f"thiserror={scene.folder}/kit/rlibs/thiserror.rlib"),
                  ("-L", f"dependency={stated}"), ("--crate-name", "text")):
         same("a word", pair in zip(words, words[1:]), True)
