@@ -34,7 +34,7 @@ echo "made of $3" > "$word"
 echo "logic=proved functions=1${LEAVES_OUT}sum=0 native=nat,char,string logic-built=trusted libraries-built=trusted statements=trusted"
 """
 LINK = """#!/bin/sh
-cp crates/adlcons/out/adlcons.o crates/adlcons/out/adlcons
+cp crates/adlcons/out/rlib/adlcons.o crates/adlcons/out/adlcons
 """
 
 
@@ -122,7 +122,9 @@ def kept(scene: Scene) -> None:
     """It isn't proved again; what has changed is, with all that stands on it."""
     make_tree(scene)
     ended(scene)
+    put(scene.folder / "tree" / f"{PROGRAM}.o", "of rt run")
     same("nothing again", (ended(scene)[1], proved(scene)), (0, []))
+    same("the program", (scene.folder / "tree" / PROGRAM).read_text(), "made of adlcons\n")
     put(scene.folder / "tree/crates/text/src/lib.rt", "another")
     told, status = ended(scene)
     same("behind a change", (proved(scene), status), (["adlcons", "list", "text"], 0))
