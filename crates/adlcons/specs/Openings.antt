@@ -12,15 +12,16 @@ use Rattle.list_terms.specs.Text.{rate_of}
 use Rattle.devices.specs.declared.bench.Bench as output
 use Rattle.sound_terms.specs.Passes.{standard_groups}
 use Rattle.consolidate.specs.Commands.{IsConsolidation}
-use Rattle.consolidate.specs.Comparing.{IsComparing}
+use Rattle.comparing.specs.Comparing.{IsComparing}
 use Rattle.consolidate.specs.Fault.{refusal_of}
 use Rattle.consolidate.specs.declared.Fault.{Fault}
 use Rattle.consolidate.specs.declared.Written.{Written}
 use Rattle.console.specs.declared.console.Console as console
 use Rattle.console.specs.declared.lines.ListOfTwo.{ListOfTwo}
 use Rattle.console.specs.declared.lines.ListOfTwo.TheVariants.{First, Second}
-use Rattle.answers.specs.Answers.{ComparesBy, IsAnswered, IsChecked, IsComparedAs, IsReportPrinted, IsVerified, MayBeMistaken, NamesBadTime, RendersBy, ResumesBy, Tells, accepted_lines, all_of_both, asking, list_refusal_line, refusal_line, rendered_lines, resumed_lines, written_lines}
-use Rattle.answers.specs.Times.{selection_of}
+use Rattle.verdicts.specs.Verdicts.{ComparesBy, IsComparedAs, IsVerified, NamesBadTime, Tells, all_of_both, list_refusal_line}
+use Rattle.answers.specs.Answers.{IsAnswered, IsChecked, IsReportPrinted, MayBeMistaken, RendersBy, ResumesBy, accepted_lines, asking, refusal_line, rendered_lines, resumed_lines, written_lines}
+use Rattle.verdicts.specs.Times.{selection_of}
 use Rattle.checkreport.specs.Reported.{PrintsUnread}
 use Rattle.places.specs.Opening.{refusal_of_opening, refusal_of_read}
 use Rattle.places.specs.declared.fault.OpenFault.{OpenFault}

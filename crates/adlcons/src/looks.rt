@@ -2,7 +2,7 @@
 ghost use Rattle.std.specs.Prelude.{◌≡◌, ◌≤◌, ◌⊎◌, ℕ, List, IfOk, OnErr};
 ghost use Rattle.commandline.specs.Request.{drawn_of};
 ghost use Rattle.list_terms.specs.Text.{rate_of};
-ghost use Rattle.answers.specs.Answers.{NamesBadTime};
+ghost use Rattle.verdicts.specs.Verdicts.{NamesBadTime};
 ghost use Rattle.answers.specs.Times.{part_of};
 ghost use Rattle.adlcons.specs.Openings.{IsReportUnread, ReportsFolder};
 

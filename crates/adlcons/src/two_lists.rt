@@ -1,8 +1,8 @@
 // A comparison of two lists, each over the folder of its media.
 ghost use Rattle.std.specs.Prelude.{◌≡◌, ◌≢◌, ◌≤◌, ◌⊎◌, ℕ, List, IfOk, OnErr};
 ghost use Rattle.list_terms.specs.Text.{rate_of};
-ghost use Rattle.answers.specs.Answers.{NamesBadTime};
-ghost use Rattle.answers.specs.Times.{selection_of};
+ghost use Rattle.verdicts.specs.Verdicts.{NamesBadTime};
+ghost use Rattle.verdicts.specs.Times.{selection_of};
 ghost use Rattle.shelf.specs.Folder.{folder_named};
 ghost use Rattle.commandline.specs.Request.{selected_of};
 ghost use Rattle.adlcons.specs.Openings.{ComparesFolders, IsListUnread, IsOneUnread, path_of};

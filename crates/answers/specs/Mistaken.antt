@@ -3,7 +3,7 @@ use Rattle.std.specs.Prelude.{◌≡◌, ◌⊎◌, ℕ, false, List, [], ◌∷
 use Rattle.clap.specs.Walk.{Text}
 use Rattle.commandline.specs.CommandLine.{Asked, asks_for_help_alone, request_of}
 use Rattle.console.specs.declared.console.Console as console
-use Rattle.answers.specs.Answers.{Tells}
+use Rattle.verdicts.specs.Verdicts.{Tells}
 
 -- the line that stands where no memory was left to read the words
 abbrev pub no_memory_line : List ℕ

@@ -5,7 +5,7 @@ use Rattle.clap.specs.declared.error.ErrorKind.{ErrorKind}
 use Rattle.clap.specs.declared.error.ErrorKind.TheVariants.{OutOfMemory}
 use Rattle.commandline.specs.CommandLine.{Asked, asks_for_help_alone, is_shown, request_of}
 use Rattle.console.specs.declared.console.Console as console
-use Rattle.answers.specs.Answers.{Tells}
+use Rattle.verdicts.specs.Verdicts.{Tells}
 use Rattle.answers.specs.Mistaken.{AreMistaken, no_memory_line}
 
 -- of words that ask for nothing

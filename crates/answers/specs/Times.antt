@@ -1,16 +1,10 @@
--- What the options of a rendering, of a comparison or of a picture say, their times at the rate of frames of the list.
-use Rattle.std.specs.Prelude.{ℕ, ◌∷◌, [], ◌++◌, List, Option, None, Some, Result, Ok, Err, option_map, codes}
-use Rattle.sampletime.specs.TimeCode.{samples_of}
+-- What the options of a rendering or of a picture say, their times at the rate of frames of the list.
+use Rattle.std.specs.Prelude.{ℕ, None, Some, Result, Ok, Err, codes}
 use Rattle.list_terms.specs.Accepted.{OptionValues}
 use Rattle.clap.specs.Walk.{Text}
-use Rattle.comparison.specs.declared.range.Selection.{Selection}
 use Rattle.picture.specs.declared.part.Part.{Part}
-use Rattle.commandline.specs.CommandLine.{Chosen, Drawn, Selected}
-
--- the time that an option's text spells, at so many frames a second
-abbrev pub time_in : ℕ → Option Text → Option (Option ℕ)
-time_in rate None = Some None
-time_in rate (Some text) = option_map (λ time. Some time.0) (samples_of rate text)
+use Rattle.commandline.specs.CommandLine.{Chosen, Drawn}
+use Rattle.verdicts.specs.Times.{time_in}
 
 -- what the options of a rendering say, or the name of the one whose time can't be read; `--from` is looked at first
 abbrev pub values_of : ℕ → Chosen → Result OptionValues Text
@@ -19,16 +13,6 @@ values_of rate chosen = elim (time_in rate chosen.from) [
   | Some from ↦ elim (time_in rate chosen.to) [
     | None ↦ Err (codes "--to")
     | Some to ↦ Ok (record { from = from; to = to; channels = chosen.channels; depth = chosen.depth })
-  ]
-]
-
--- of a comparison likewise
-abbrev pub selection_of : ℕ → Selected → Result Selection Text
-selection_of rate selected = elim (time_in rate selected.from) [
-  | None ↦ Err (codes "--from")
-  | Some from ↦ elim (time_in rate selected.to) [
-    | None ↦ Err (codes "--to")
-    | Some to ↦ Ok (record { from = from; to = to; channels = selected.channels })
   ]
 ]
 
@@ -41,7 +25,3 @@ part_of rate drawn = elim (time_in rate drawn.from) [
     | Some to ↦ Ok (record { from = from; to = to })
   ]
 ]
-
--- the line that names an option whose time can't be read
-abbrev pub bad_time_line : Text → List ℕ
-bad_time_line option = codes "bad time: " ++ (option ++ 10 ∷ [])

@@ -2,15 +2,14 @@
 ghost use Rattle.std.specs.Prelude.{◌≤◌, IsTrue};
 ghost use Rattle.checkreport.specs.Reported.{IsReported};
 ghost use Rattle.answers.specs.Answers.{IsReportPrinted};
-ghost use Rattle.answers.specs.Terminals.{GivesBack};
+ghost use Rattle.asides.specs.Terminals.{GivesBack};
 
+use crate::explained::explanation_of;
 use crate::refusal::tell_explanation;
-use crate::terminal::Terminal;
-use asides::{Asides, Explainer, Meter, tell_changed};
+use asides::{Asides, Explainer, Meter, Terminal, tell_changed};
 use checkreport::{put_accepted, put_refused};
 use console::Console;
 use consolidate::Fault;
-use explanations::Explanation;
 use opening::open_project;
 use shelf::{Reason, Reasons, Shelf};
 use std::alloc::Global;
@@ -59,6 +58,6 @@ fn explain_refused<E: Console, A: Asides>(
     err: &mut E,
 ) {
     let fault = Fault::Project(fault);
-    let explanation = Explanation::of(&fault, list, reason, None);
+    let explanation = explanation_of(&fault, list, reason, None);
     tell_explanation(alloc, list, &fault, explanation, asides, err);
 }

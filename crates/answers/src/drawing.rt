@@ -4,25 +4,25 @@ ghost use Rattle.clap.specs.Walk.{Text};
 ghost use Rattle.commandline.specs.Request.{drawn_of};
 ghost use Rattle.console.specs.Printing.{Prints};
 ghost use Rattle.list_terms.specs.Text.{rate_of as rate_at};
-ghost use Rattle.answers.specs.Answers.{NamesBadTime};
-ghost use Rattle.answers.specs.Terminals.{GivesBack};
-ghost use Rattle.answers.specs.Times.{bad_time_line, part_of};
+ghost use Rattle.verdicts.specs.Verdicts.{NamesBadTime};
+ghost use Rattle.asides.specs.Terminals.{GivesBack};
+ghost use Rattle.verdicts.specs.Times.{bad_time_line};
+ghost use Rattle.answers.specs.Times.{part_of};
 
 use crate::chosen::part_of;
+use crate::explained::explanation_of;
 use crate::refusal::refuse_on;
-use crate::requests::refuse_time;
-use crate::terminal::Terminal;
 use adlread::rate_of;
-use asides::{Asides, Meter, report_room, room_of, tell_changed};
+use asides::{Asides, Meter, Terminal, report_room, room_of, tell_changed};
 use commandline::Drawn;
 use console::Console;
 use consolidate::Fault;
-use explanations::Explanation;
 use opening::open_project;
 use picture::{Part, Picture, draw_refused};
 use projectcheck::Checked;
 use shelf::{Reasons, Shelf};
 use std::alloc::Global;
+use verdicts::refuse_time;
 
 /// A picture that is asked for: of the list of this path, with handles of so many frames, and what of it is drawn.
 #[derive(Clone, Copy)]
@@ -122,7 +122,7 @@ fn refuse_drawing<S: Reasons, O: Console, E: Console, M: Meter, A: Asides>(
     ensures consoles { GivesBack terminal.old terminal.new }
     ensures statuses { result ≡ 1 }
 {
-    let explanation = Explanation::of(fault, list, shelf.reason(), None);
+    let explanation = explanation_of(fault, list, shelf.reason(), None);
     refuse_on(
         alloc,
         list,

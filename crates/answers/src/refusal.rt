@@ -3,20 +3,17 @@ ghost use Rattle.std.specs.Prelude.{◌≡◌};
 ghost use Rattle.work_terms.specs.Refusals.{File};
 ghost use Rattle.opening.specs.Faults as project;
 ghost use Rattle.opening.specs.Further.{WasRead};
-ghost use Rattle.consolidate.specs.CompareFault as comparing;
 ghost use Rattle.consolidate.specs.Fault.{name_of_output, place_of_marks, refusal_of};
 ghost use Rattle.console.specs.Lines.{refusal_text};
 ghost use Rattle.console.specs.Places.{where_of};
 ghost use Rattle.console.specs.Printing.{Prints};
 ghost use Rattle.answers.specs.Answers.{refusal_line};
-ghost use Rattle.answers.specs.Terminals.{GivesBack};
+ghost use Rattle.asides.specs.Terminals.{GivesBack};
 
-use crate::terminal::Terminal;
-use asides::{Asides, Meter, look_at, project_place, tell_further};
+use asides::{Asides, Meter, Terminal, look_at, project_place, tell_further};
 use console::{Console, Place, Refusal, put_refusal};
 use consolidate::{
-    Fault, LIST, ListFault, MARKS, MarkFault, MarkedFile, OutputFile, RENDER_REPORT, REPORT, SOUND,
-    SUMS,
+    Fault, LIST, MARKS, MarkFault, MarkedFile, OutputFile, RENDER_REPORT, REPORT, SOUND, SUMS,
 };
 use explanations::Explanation;
 use findings::Look;
@@ -98,14 +95,6 @@ fn look_at_fault<A: Asides>(alloc: Global, list: &[u8], fault: &Fault, asides: &
     }
 }
 
-/// What it finds about a fault of one of two lists.
-pub fn look_at_list<A: Asides>(alloc: Global, list: &[u8], fault: &ListFault, asides: &A) -> Look {
-    match fault {
-        ListFault::Project(fault) => look_at(alloc, list, fault, asides),
-        _ => Look::nothing(),
-    }
-}
-
 /// Prints the further faults of a list that is refused by this first one, where that is one of the list, of a file that it
 /// names or of an entry.
 pub fn tell_others<S: Shelf, E: Console, A: Asides>(
@@ -120,27 +109,6 @@ pub fn tell_others<S: Shelf, E: Console, A: Asides>(
 {
     if let Fault::Project(first) = first {
         tell_further(alloc, list, shelf, first, asides, err);
-    }
-}
-
-/// Prints the refusal of one of two lists, without its line's end.
-pub fn put_list_fault<C: Console>(fault: &ListFault, console: &mut C)
-    ensures { Prints C.contents C.failures console.old console.new
-        (refusal_text (comparing.refusal_of fault.now).number (comparing.refusal_of fault.now).location) }
-{
-    let number = fault.number();
-    let location = list_place(fault);
-    put_refusal(console, Refusal { number, location });
-}
-
-/// The place of a fault of one of two lists.
-fn list_place(fault: &ListFault) -> Place<'_>
-    ensures { where_of result ≡ (comparing.refusal_of fault.now).location }
-{
-    match fault {
-        ListFault::Project(fault) => project_place(fault),
-        ListFault::Intervals | ListFault::Memory => Place::Nowhere,
-        ListFault::Source { name } => Place::File(name.as_str()),
     }
 }
 

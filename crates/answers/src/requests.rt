@@ -17,20 +17,24 @@ ghost use Rattle.console.specs.Printing.{Prints};
 ghost use Rattle.list_terms.specs.Steps.{ok_map};
 ghost use Rattle.list_terms.specs.Text.{rate_of as rate_at};
 ghost use Rattle.answers.specs.Answers.{IsAnswered, IsChecked, IsReportPrinted, MayBeMistaken, RendersAs, RendersBy, ResumesAs, ResumesBy, accepted_lines, asking, rendered_lines, resumed_lines, written_lines};
-ghost use Rattle.answers.specs.Terminals.{GivesBack};
-ghost use Rattle.answers.specs.BadTime.{name_of};
+ghost use Rattle.asides.specs.Terminals.{GivesBack};
+ghost use Rattle.verdicts.specs.BadTime.{name_of};
 ghost use Rattle.answers.specs.Mistaken.{no_memory_line};
 ghost use Rattle.checkreport.specs.Reported.{IsReported};
-ghost use Rattle.answers.specs.Times.{bad_time_line, part_of, values_of};
+ghost use Rattle.verdicts.specs.Times.{bad_time_line};
+ghost use Rattle.answers.specs.Times.{part_of, values_of};
 
 use crate::check_report::answer_report;
-use crate::chosen::{BadTime, options_of, tell_bad_time};
+use crate::chosen::options_of;
 use crate::drawing::{Drawing, answer_picture};
+use crate::explained::explanation_of;
 use crate::refusal::{given_up_at, refuse, tell_others};
 use crate::report::{tell_clipping, tell_done};
-use crate::terminal::Terminal;
+use crate::saved::Saved;
 use adlread::rate_of;
-use asides::{Asides, DEFAULT_HANDLE, Meter, report_room, room_of, tell_changed, tell_meanings};
+use asides::{
+    Asides, DEFAULT_HANDLE, Meter, Terminal, report_room, room_of, tell_changed, tell_meanings,
+};
 use clap::Error;
 use clap::error::ErrorKind;
 use commandline::{MediaReport, Request, VERSION};
@@ -41,21 +45,12 @@ use consolidate::{
     render_reported, render_watched, resume_reported, resume_watched,
 };
 use devices::Watch;
-use explanations::{Explanation, Saved};
 use findings::{PrintedLines, meanings_of, notice_meanings_of};
 use passes::Pass;
 use remarks::Rendering;
 use shelf::{Bench, Reasons, Shelf};
 use std::alloc::Global;
-
-/// The status of a command that is done, or of a text that was asked for.
-pub const DONE: u8 = 0;
-
-/// The status of a command that is refused.
-pub const REFUSED: u8 = 1;
-
-/// The status of a request that asks for nothing.
-pub const MISTAKE: u8 = 2;
+use verdicts::{DONE, MISTAKE, REFUSED, refuse_time};
 
 /// A request, and how it is carried out: a rendering in jobs of this length, and a consolidation by these passes over
 /// the pieces of the entries.
@@ -238,7 +233,7 @@ fn answer_check<S: Shelf + Reasons, O: Console, E: Console, M: Meter, A: Asides>
             DONE
         }
         Err(fault) => {
-            let explanation = Explanation::of(&fault, list, shelf.reason(), None);
+            let explanation = explanation_of(&fault, list, shelf.reason(), None);
             refuse(alloc, list, &fault, explanation, terminal);
             let asides = &terminal.asides;
             tell_others(alloc, list, shelf, &fault, asides, terminal.err);
@@ -364,7 +359,7 @@ fn answer_render<
         }
         Err(fault) => {
             let failed = given_up_at(alloc, &fault, shelf);
-            let explanation = Explanation::of(&fault, list, shelf.reason(), bench.reason());
+            let explanation = explanation_of(&fault, list, shelf.reason(), bench.reason());
             let explanation = explanation.of_rendering().with_file(failed.as_deref());
             refuse(alloc, list, &fault, explanation, terminal);
             REFUSED
@@ -415,7 +410,7 @@ fn answer_resume<
         }
         Err(fault) => {
             let failed = given_up_at(alloc, &fault, shelf);
-            let explanation = Explanation::of(&fault, list, shelf.reason(), bench.reason());
+            let explanation = explanation_of(&fault, list, shelf.reason(), bench.reason());
             let explanation = explanation.of_rendering().with_file(failed.as_deref());
             refuse(alloc, list, &fault, explanation, terminal);
             REFUSED
@@ -495,7 +490,7 @@ fn answer_consolidate<
         }
         Err(fault) => {
             let failed = given_up_at(alloc, &fault, shelf).or(given_up_at(alloc, &fault, bench));
-            let explanation = Explanation::of(&fault, list, shelf.reason(), bench.reason());
+            let explanation = explanation_of(&fault, list, shelf.reason(), bench.reason());
             let explanation = explanation.with_file(failed.as_deref());
             refuse(alloc, list, &fault, explanation, terminal);
             REFUSED
@@ -508,15 +503,6 @@ pub fn refuse_two_lists<E: Console>(err: &mut E) -> u8
     ensures { result ≡ 2 }
 {
     err.print_line("two lists are compared, each over its sources");
-    MISTAKE
-}
-
-/// Prints which option's time can't be read, and answers the status.
-pub fn refuse_time<E: Console>(bad: BadTime, err: &mut E) -> u8
-    ensures status { result ≡ 2 }
-    ensures printed { Prints E.contents E.failures err.old err.new (bad_time_line (name_of bad)) }
-{
-    tell_bad_time(bad, err);
     MISTAKE
 }
 

@@ -10,12 +10,12 @@ ghost use Rattle.console.specs.Printing.{Prints};
 ghost use Rattle.list_terms.specs.Text.{rate_of as rate_at};
 ghost use Rattle.rendering.specs.declared.job_length.JobLength.TheVariants.{Longer};
 ghost use Rattle.answers.specs.Answers.{IsAnswered, MayBeMistaken, RendersBy, ResumesBy, asking, rendered_lines, resumed_lines, written_lines};
-ghost use Rattle.answers.specs.Terminals.{GivesBack};
-ghost use Rattle.answers.specs.Times.{bad_time_line, values_of};
+ghost use Rattle.asides.specs.Terminals.{GivesBack};
+ghost use Rattle.verdicts.specs.Times.{bad_time_line};
+ghost use Rattle.answers.specs.Times.{values_of};
 
 use crate::requests::{Command, answer_request};
-use crate::terminal::Terminal;
-use asides::{Asides, Meter};
+use asides::{Asides, Meter, Terminal};
 use commandline::Request;
 use console::Console;
 use consolidate::JobLength;

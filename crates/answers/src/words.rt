@@ -12,8 +12,7 @@ ghost use Rattle.answers.specs.Answers.{IsAnswered, IsChecked, IsReportPrinted, 
 ghost use Rattle.answers.specs.Mistaken.{AreMistaken};
 
 use crate::requests::{Command, answer_error, answer_request, refuse_two_lists};
-use crate::terminal::Terminal;
-use asides::NoAsides;
+use asides::{NoAsides, Terminal};
 use commandline::parse;
 use console::Console;
 use consolidate::JobLength;

@@ -12,6 +12,7 @@ mod place;
 mod reach;
 mod room;
 mod second_look;
+mod terminal;
 mod told;
 
 pub use beside::{Asides, AsidesOfTwo, FEW_FAULTS, NoAsides};
@@ -22,4 +23,5 @@ pub use meter::Meter;
 pub use place::project_place;
 pub use room::{DEFAULT_HANDLE, media_size, rendering_info, rendering_size, report_room, room_of};
 pub use second_look::look_at;
+pub use terminal::Terminal;
 pub use told::{tell_changed, tell_meanings, tell_meanings_of_two};

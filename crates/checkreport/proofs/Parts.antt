@@ -15,7 +15,7 @@ use Rattle.opening.specs.declared.fault.Fault.{Fault}
 use Rattle.console.specs.Lines.{counted}
 use Rattle.checkreport.specs.Explained.{members_of, value_data}
 use Rattle.checkreport.specs.Parts.{after_commas, beside_text, fault_text, index_text, listed, member_text, notice_text, passed_text, refused_end, refused_front, room_text}
-use Rattle.provenance.specs.Report.{count, form, notice_data}
+use Rattle.report_terms.specs.Report.{count, form, notice_data}
 use Rattle.checkreport.specs.Report.{Beside, ExplainedFault, accepted_of, count_in, explained_fault, fault_of, faults_of, index_data, index_of_file, is_of_index, kind_at, kinds_of, passed_data, refused_data, refused_of, room_data, text_in}
 use Rattle.checkreport.specs.declared.explained.Member.{Member}
 use Rattle.checkreport.specs.declared.explained.PassedLine.{PassedLine}

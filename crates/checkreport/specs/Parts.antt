@@ -10,7 +10,7 @@ use Rattle.list_terms.specs.declared.Notice.{Notice}
 use Rattle.console.specs.Lines.{counted}
 use Rattle.json.specs.Print.{quoted}
 use Rattle.checkreport.specs.Explained.{explained_data, value_data}
-use Rattle.provenance.specs.Report.{form, notice_data}
+use Rattle.report_terms.specs.Report.{form, notice_data}
 use Rattle.checkreport.specs.Report.{Beside, ExplainedFault, explained_fault, fault_of, index_data, passed_data, room_data, text_in}
 use Rattle.checkreport.specs.declared.explained.Member.{Member}
 use Rattle.checkreport.specs.declared.explained.PassedLine.{PassedLine}

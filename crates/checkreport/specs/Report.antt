@@ -14,7 +14,7 @@ use Rattle.work_terms.specs.Refusals as refused
 use Rattle.work_terms.specs.Refusals.{Refusal, Where}
 use Rattle.opening.specs.Faults.{refusal_of}
 use Rattle.opening.specs.declared.fault.Fault.{Fault}
-use Rattle.provenance.specs.Report.{count, form, notice_data}
+use Rattle.report_terms.specs.Report.{count, form, notice_data}
 use Rattle.checkreport.specs.declared.explained.PassedLine.{PassedLine}
 use Rattle.checkreport.specs.declared.explained.Room.{Room}
 

@@ -5,7 +5,7 @@ ghost use Rattle.serde_json.specs.Written as written;
 ghost use Rattle.serde_json.specs.Written.{compact_text, items_text};
 ghost use Rattle.console.specs.Printing.{Prints};
 ghost use Rattle.checkreport.specs.Report as spec;
-ghost use Rattle.provenance.specs.Report.{notice_data};
+ghost use Rattle.report_terms.specs.Report.{notice_data};
 ghost use Rattle.checkreport.specs.Report.{Beside, accepted_data, index_of_file};
 ghost use Rattle.checkreport.specs.Parts.{after_commas, beside_text, index_text, listed, notice_text};
 

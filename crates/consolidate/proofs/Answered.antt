@@ -5,6 +5,8 @@ use Rattle.std.proofs.lemmas.Bool.Decides.{nat_tests}
 use Rattle.std.specs.Prelude.{⊤}
 use Rattle.std.specs.List.{range_with_len}
 use Rattle.std.proofs.lemmas.List.{length-replicate}
+use Rattle.facts.specs.Results.{one_value}
+use Rattle.devices.specs.ReadLaws.{read_as}
 use Rattle.work_terms.specs.Disk.{Files, LeavesOnly, IsDurable}
 use Rattle.work_terms.specs.Refusals.{ComesInTurn, IsDue, Refusal, is_excused, turn_of}
 use Rattle.list_terms.specs.Project.{ListProject}
@@ -61,11 +63,12 @@ use Rattle.consolidation.specs.Work.{SoundsTheSame}
 use Rattle.consolidation.specs.declared.fault.ConsolidationFault.{ConsolidationFault}
 use Rattle.consolidation.specs.declared.fault.ConsolidationFault.TheVariants as plan_fault
 use Rattle.consolidation.specs.declared.written.Written.{Written}
+use Rattle.opening.specs.Commands.{all_notices}
 use Rattle.consolidate.specs.Own.{IsOfMarks, IsOfProject, IsOfMedia, IsFirst}
 use Rattle.consolidate.specs.declared.fault.Fault.{Fault}
 use Rattle.consolidate.specs.declared.fault.Fault.TheVariants as fault
 use Rattle.consolidate.specs.Approaches.{due_by, found_by, is_again, AreRounds, IfAgain, IsFinishedBy, IsOwnOf, SaysBy, StartsBy, are_events, events_by, handing_of}
-use Rattle.consolidate.specs.Commands.{range_refusal, render_refusal, OpensList, RefusesByWork, all_notices, IsOutput, KeepsStores, HoldsOfSource, IsSource}
+use Rattle.consolidate.specs.Commands.{range_refusal, render_refusal, OpensList, RefusesByWork, IsOutput, KeepsStores, HoldsOfSource, IsSource}
 use Rattle.consolidate.specs.Fault.{refusal_of, refusal_of_marks, NamesOpened}
 use Rattle.consolidate.specs.Marks.{fault_in, marks_refusal, HoldsMarked, IsLeftByRendering, IsLeftOf, list_marking}
 use Rattle.consolidate.specs.declared.request.Approach.{Approach}
@@ -85,8 +88,8 @@ use Rattle.consolidate.specs.declared.request.HandingOut.{HandingOut}
 use Rattle.consolidate.specs.declared.request.HandingOut.TheVariants.{Events, Rounds}
 use Rattle.consolidate.specs.declared.request.RenderRequest.{RenderRequest}
 use Rattle.consolidate.specs.declared.fault.OutputFile.TheVariants as file
-use Rattle.consolidate.proofs.RenderWorks.{none_due, one_accepted, again_as, for_each, left_by, none_left, same_spelt, starts_as}
-use Rattle.consolidate.proofs.Stores.{IsOpened, LeavesNow, idle, opened_before, stopped_early, weaker, IsEnd, by_names, ended_by, not_begun, outcome_as, read_as, went_on}
+use Rattle.consolidate.proofs.RenderWorks.{none_due, one_accepted, again_as, for_each, left_by, none_left, starts_as}
+use Rattle.consolidate.proofs.Stores.{IsOpened, LeavesNow, idle, opened_before, stopped_early, weaker, IsEnd, by_names, ended_by, not_begun, outcome_as, went_on}
 
 -- of marks that are there it may be any
 pub of_marks : (of : MarkFault) → IsOfMarks true of
@@ -337,7 +340,7 @@ module _ {S B : Type 0} (shelf : source.Ghosts S) (bench : output.Ghosts B) (lis
           notices = noted;
         };
         durable = λ right done. did.durable right (finishes done);
-        all_marked = λ honest right b done p is. rw (← same_spelt spelt is)
+        all_marked = λ honest right b done p is. rw (← one_value spelt is)
             (did.marked (on honest) right (begins honest b) (finishes done));
         any_moment = moments did;
         left = left_now did;

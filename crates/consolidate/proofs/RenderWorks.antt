@@ -81,10 +81,6 @@ pub none_left : (m : Marking) (outcomes : Files → Type 0)
     → ((c : Files) → outcomes c → is_started (c m.marks) ≡ false) → IsLeftByRun m outcomes
 none_left m outcomes none c d at other started = absurd (true≢false (sym started ∙ none c at))
 
--- a text is read as one project
-pub same_spelt : {p q : ListProject} {read : Result ListProject Refusal} → read ≡ Ok p → read ≡ Ok q → p ≡ q
-same_spelt one other = let both = sym one ∙ other in cc
-
 -- a plan of what is asked for
 pub marked_in : (listed : Listed) {marked : MarkedWork} → IsPlannedAs listed marked.work
     → marked.run ≡ run_of listed.request.list.now marked.work.planned.range → IsMarkedIn listed marked

@@ -4,6 +4,7 @@ use Rattle.std.specs.Prelude.{⊤}
 use Rattle.devices.specs.declared.source.Shelf as source
 use Rattle.devices.specs.declared.bench.Bench as output
 use Rattle.devices.specs.Views.{OutputView, Reads, SourceView, Writes, output_view, source_view}
+use Rattle.devices.specs.ReadLaws.{read_as}
 use Rattle.devices.specs.ViewLaws.{writes_then}
 use Rattle.work_terms.specs.Disk.{Files, HasCause, HasRead, IsUntouched, LeavesOnly, Rises}
 use Rattle.markfile.specs.Fault.{ReadsMarks, name_of, number_of}
@@ -91,36 +92,6 @@ module _ {D : Type 0} {stored : D → Files} {honest : D → Bool} {failures : D
       cause = record { later = omega arith; left = λ quiet. refl; rose = λ device. absurd (none device) };
       keeps = λ n was. was;
       failed_there = λ device. absurd (none device);
-    }
-
-    -- a reading behind one that didn't fail
-    pub read_behind : {old mid new : D} {quiet device failed : Type 0}
-        → HasRead stored honest failures failed_at old mid ⊤ ⊥ ⊤
-        → HasRead stored honest failures failed_at mid new quiet device failed
-        → HasRead stored honest failures failed_at old new quiet device failed
-    read_behind opened read = record {
-      same = read.same ∙ opened.same;
-      honest_same = read.honest_same ∙ opened.honest_same;
-      cause = rw (opened.cause.left tt) at read.cause;
-      keeps = λ n was. read.keeps n (opened.keeps n was);
-      failed_there = read.failed_there;
-    }
-
-    -- a reading, by another fault that stands for its own
-    pub read_as : {old new : D} {quiet device failed quiet_so device_so failed_so : Type 0} → (quiet_so → quiet)
-        → (device_so → device) → (failed → failed_so)
-        → HasRead stored honest failures failed_at old new quiet device failed
-        → HasRead stored honest failures failed_at old new quiet_so device_so failed_so
-    read_as quiets devices fails read = record {
-      same = read.same;
-      honest_same = read.honest_same;
-      cause = record {
-        later = read.cause.later;
-        left = λ quiet. read.cause.left (quiets quiet);
-        rose = λ device. read.cause.rose (devices device);
-      };
-      keeps = read.keeps;
-      failed_there = fails read.failed_there;
     }
 
 -- a failure of the device is counted

@@ -19,6 +19,7 @@ use Rattle.list_terms.specs.Text.{text_value}
 use Rattle.adlread.specs.Spells.{Spells}
 use Rattle.passes.specs.Left.{Leaving}
 use Rattle.opening.specs.Commands as opening
+use Rattle.opening.specs.Commands.{all_notices}
 use Rattle.opening.specs.Faults as opening_faults
 use Rattle.opening.specs.declared.accepted_list.Accepted.{Accepted}
 use Rattle.opening.specs.declared.accepted_list.Opened.{Opened}
@@ -72,10 +73,6 @@ IsOutput fault = (refusal_of fault).number ≡ 62
 -- this holds of the name of the output whose device failed
 abbrev pub HoldsOfOutput : Fault → (List ℕ → Type 0) → Type 0
 HoldsOfOutput fault P = opening.HoldsOfFile P (refusal_of fault).location
-
--- the notices of a list, and then those of its files
-abbrev pub all_notices : ListProject → Binding → List Notice
-all_notices project binding = project.notices ++ binding.notices
 
 -- What opening a list answers: the project that its text spells, which is accepted over the files, and all its notices;
 -- or the first fault, which comes before anything is written. The sources are only read.

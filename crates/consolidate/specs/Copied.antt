@@ -14,8 +14,9 @@ use Rattle.passes.specs.Left.{Leaving}
 use Rattle.provenance.specs.Asked.{AskedReport}
 use Rattle.consolidation.specs.Consolidated.{AreDurable, IsConsolidated, IsElsewhere, IsWorkOf, Work, work_fault}
 use Rattle.consolidation.specs.Work.{SoundsTheSame}
+use Rattle.opening.specs.Commands.{all_notices}
 use Rattle.consolidate.specs.Approaches.{AreRounds, IsFinishedBy, SaysBy, are_events, events_by}
-use Rattle.consolidate.specs.Commands.{IsMediaAnswer, KeepsStores, all_notices}
+use Rattle.consolidate.specs.Commands.{IsMediaAnswer, KeepsStores}
 use Rattle.consolidate.specs.Fault.{refusal_of}
 use Rattle.consolidate.specs.MediaOutcome.{ConsolidatesMedia}
 use Rattle.consolidate.specs.Outcomes.{AnswersAs, HasBegun, IsAllDone, read_view}

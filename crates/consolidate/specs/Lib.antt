@@ -2,8 +2,6 @@ pub mod Approaches
 pub mod Asked
 pub mod Clipping
 pub mod Commands
-pub mod CompareFault
-pub mod Comparing
 pub mod Copied
 pub mod Fault
 pub mod Listed

@@ -3,8 +3,6 @@
 
 mod check_call;
 mod choice;
-mod compare_call;
-mod compare_fault;
 mod consolidate_call;
 mod copy_call;
 mod fault;
@@ -27,8 +25,7 @@ pub use choice::{
     Clipping, ConsolidateChoice, Keeping, RenderChoice, RenderReport, ReportedChoice,
 };
 pub use clipping::Clips;
-pub use compare_call::{Compared, compare};
-pub use compare_fault::{CompareFault, ListFault};
+pub use comparing::{CompareFault, Compared, ListFault, compare};
 pub use comparison::{Comparison, Selection};
 pub use consolidate_call::{Written, consolidate, consolidate_watched};
 pub use consolidation::{LIST, REPORT, SUMS, Sizes};

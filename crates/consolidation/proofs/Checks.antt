@@ -12,9 +12,9 @@ use Rattle.list_terms.specs.Project.{ListProject}
 use Rattle.list_terms.specs.Renewed.{consolidated_project, media_name, numbered}
 use Rattle.list_terms.specs.WrittenText.{text_of_project}
 use Rattle.provenance.specs.Asked.{AskedReport}
-use Rattle.provenance.specs.Media.{medium_by, medium_bytes}
+use Rattle.digests.specs.Media.{medium_by, medium_bytes}
 use Rattle.provenance.specs.Report.{Told}
-use Rattle.provenance.specs.Sums.{medium_line}
+use Rattle.digests.specs.Sums.{medium_line}
 use Rattle.provenance.specs.declared.report.Report.{Report}
 use Rattle.consolidation.specs.Reported.{ChecksFiles, HasReport, HoldsReport, IsReportThere, checked_line, told_of}
 

@@ -13,7 +13,7 @@ use Rattle.list_terms.specs.WrittenText.{text_of_project}
 use Rattle.mediacopy.specs.Pieces.{content}
 use Rattle.provenance.specs.Asked.{AskedReport}
 use Rattle.provenance.specs.Report.{IsReportOf, Told, report_json, report_sums}
-use Rattle.provenance.specs.Sums.{sum_line}
+use Rattle.digests.specs.Sums.{sum_line}
 use Rattle.provenance.specs.declared.report.Report.{Report}
 
 -- what a report is made of, by the groups and the runs of a consolidation

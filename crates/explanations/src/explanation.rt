@@ -1,9 +1,10 @@
 // What is told of a refusal beside its line: what its number means there, what was found, and what to do.
-use consolidate::{Fault, ListFault, MARKS, MarkFault, OutputFile};
+use comparing::ListFault;
 use findings::{
     LineAtFault, ListLines, Look, Meaning, PrintedName, Spot, SystemWord, meaning_at, project_spot,
     remedy_by,
 };
+use markfile::MARKS;
 use shelf::Reason;
 use std::fmt;
 use std::fmt::Display;
@@ -51,31 +52,43 @@ impl FoundFolder {
     }
 }
 
-/// What lies unfinished in the output: a file, a rendering with its marks, the report of one that is finished, or all of
-/// it.
+/// What lies unfinished in the output: the file of this name, the medium of this number, a rendering with its marks, the
+/// report of one that is finished, or all of it.
 #[derive(Clone, Copy)]
-enum Unfinished {
-    File(OutputFile),
+pub enum Unfinished {
+    File(&'static str),
+    Medium(u32),
     Rendering,
     Report,
     Whole,
 }
 
+/// A fault of a command, as it is explained: its number and what it names, the line of the list and the file at fault, what
+/// the system said of the source or the output that failed, and what is left unfinished.
+#[derive(Clone, Copy)]
+pub struct FoundFault<'a> {
+    pub number: u8,
+    pub spot: Spot,
+    pub line: Option<LineAtFault<'a>>,
+    pub file: Option<&'a str>,
+    pub reason: Option<Error>,
+    pub unfinished: Option<Unfinished>,
+}
+
 /// What a refusal of a list by a fault means: its number, what it names, and what was found.
 impl<'a> Explanation<'a> {
-    /// The explanation of a fault of a command: what was found in the list, and what the system said of the source or
-    /// the output that failed.
-    pub fn of(
-        fault: &'a Fault,
-        list: &'a [u8],
-        source: Option<Reason>,
-        output: Option<Reason>,
-    ) -> Explanation<'a> {
+    /// The explanation of a fault of a command.
+    pub fn of(found: FoundFault<'a>) -> Explanation<'a> {
         Explanation {
-            number: fault.number(),
-            spot: spot_of(fault),
+            number: found.number,
+            spot: found.spot,
             is_rendering: false,
-            findings: Findings::of(fault, list, source, output),
+            findings: Findings {
+                line: found.line,
+                file: found.file,
+                unfinished: found.unfinished,
+                ..Findings::by(found.reason, None)
+            },
         }
     }
 
@@ -183,16 +196,6 @@ impl<'a> Explanation<'a> {
     }
 }
 
-/// What a fault names.
-fn spot_of(fault: &Fault) -> Spot {
-    match fault {
-        Fault::Project(fault) => project_spot(fault),
-        Fault::Output(_) | Fault::Marks(MarkFault::Device { .. }) => Spot::File,
-        Fault::GivenUp { .. } => Spot::Job,
-        _ => Spot::Nowhere,
-    }
-}
-
 /// What a fault of one of two lists names.
 fn list_spot(fault: &ListFault) -> Spot {
     match fault {
@@ -216,27 +219,6 @@ impl<'a> Findings<'a> {
         }
     }
 
-    /// What is found of a fault: in the list, and in what the system said of the source or the output that failed.
-    fn of(
-        fault: &'a Fault,
-        list: &'a [u8],
-        source: Option<Reason>,
-        output: Option<Reason>,
-    ) -> Findings<'a> {
-        Findings {
-            line: line_at_fault(fault, list),
-            file: match fault {
-                Fault::Silence { name } => Some(name.as_str()),
-                _ => None,
-            },
-            inside: None,
-            folder: None,
-            look: None,
-            reason: reason_of(fault, source, output).map(|reason| reason.error),
-            unfinished: unfinished_after(fault, output),
-        }
-    }
-
     /// What is found of a fault of one of two lists.
     fn of_list(fault: &'a ListFault, list: &'a [u8], source: Option<Reason>) -> Findings<'a> {
         let line = match fault {
@@ -257,53 +239,6 @@ fn reason_of_list(fault: &ListFault, source: Option<Reason>) -> Option<Reason> {
         ListFault::Project(opening::Fault::Media { .. }) | ListFault::Source { .. } => source,
         ListFault::Project(_) | ListFault::Intervals | ListFault::Memory => None,
     }
-}
-
-/// What the system said of the source or the output at which a call failed.
-fn reason_of(fault: &Fault, source: Option<Reason>, output: Option<Reason>) -> Option<Reason> {
-    match fault {
-        Fault::Project(opening::Fault::Media { .. }) | Fault::Silence { .. } => source,
-        Fault::GivenUp { .. } => source.or(output),
-        Fault::Output(_) | Fault::Marks(_) => output,
-        _ => None,
-    }
-}
-
-/// The line at which the fault stands.
-fn line_at_fault<'a>(fault: &Fault, list: &'a [u8]) -> Option<LineAtFault<'a>> {
-    match fault {
-        Fault::Project(fault) => ListLines::new(list).at(fault),
-        _ => None,
-    }
-}
-
-/// What the fault leaves unfinished. An output that wasn't made, or is gone, isn't there.
-fn unfinished_after(fault: &Fault, output: Option<Reason>) -> Option<Unfinished> {
-    match fault {
-        Fault::GivenUp { .. }
-        | Fault::BlockMemory
-        | Fault::WorkerMemory
-        | Fault::Marks(MarkFault::Device { .. }) => Some(Unfinished::Whole),
-        Fault::Output(file) => unfinished_at(*file, output),
-        _ => None,
-    }
-}
-
-/// What is unfinished where the device failed at this file. Marks are made behind their rendering.
-fn unfinished_at(file: OutputFile, output: Option<Reason>) -> Option<Unfinished> {
-    let is_there = output.is_none_or(is_left);
-    match file {
-        OutputFile::RenderReport => Some(Unfinished::Report),
-        OutputFile::Marks if is_there => Some(Unfinished::Rendering),
-        OutputFile::Marks => Some(Unfinished::File(OutputFile::Rendering)),
-        _ if is_there => Some(Unfinished::File(file)),
-        _ => None,
-    }
-}
-
-/// Whether an output is there after it failed for this reason.
-fn is_left(reason: Reason) -> bool {
-    reason.has_file && reason.error.kind() != ErrorKind::NotFound
 }
 
 /// The explanation of a refusal with this number, which names this, in one line.
@@ -383,7 +318,10 @@ impl fmt::Display for Findings<'_> {
             write!(f, "; {near}")?;
         }
         match self.unfinished {
-            Some(Unfinished::File(file)) => write!(f, "; unfinished in the output: {file}"),
+            Some(Unfinished::File(name)) => write!(f, "; unfinished in the output: {name}"),
+            Some(Unfinished::Medium(number)) => {
+                write!(f, "; unfinished in the output: M{number:05}.wav")
+            }
             Some(Unfinished::Rendering) => {
                 f.write_str("; unfinished in the output: render.wav and render.marks")
             }

@@ -4,5 +4,6 @@ pub mod Filling
 pub mod Lists
 pub mod Parts
 pub mod Prefixes
+pub mod Results
 pub mod Stretches
 pub mod Tests

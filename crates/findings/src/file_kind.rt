@@ -1,5 +1,5 @@
 // What a file that is no WAVE file is, by its first bytes.
-use shelf::Shelf;
+use devices::Shelf;
 use std::fmt;
 use std::fmt::Display;
 

@@ -1,6 +1,6 @@
 // The format of a sound file that isn't read, as its chunk `fmt ` has it (RIFF WAVE).
+use devices::Shelf;
 use riff::walk;
-use shelf::Shelf;
 use std::fmt;
 use std::fmt::Display;
 

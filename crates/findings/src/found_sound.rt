@@ -1,8 +1,8 @@
 // What was found of a sound file that isn't read.
 use crate::file_kind::FileHead;
 use crate::found_format::FoundFormat;
+use devices::Shelf;
 use riff::MediaFault;
-use shelf::Shelf;
 use std::fmt;
 use std::fmt::Display;
 

@@ -4,6 +4,7 @@ use Rattle.devices.specs.declared.source.Shelf as source
 use Rattle.devices.specs.Frame.{OnlyReads}
 use Rattle.work_terms.specs.Disk.{Files}
 use Rattle.work_terms.specs.Refusals.{IsDue, Refusal, Where, IndexFile, File}
+use Rattle.list_terms.specs.declared.Notice.{Notice}
 use Rattle.list_terms.specs.Project.{ListProject}
 use Rattle.list_terms.specs.Binding.{Binding}
 use Rattle.list_terms.specs.Heard.{IsAccepted}
@@ -31,13 +32,16 @@ RefusesBadText text result =
     (refusal : Refusal) → text_value text ≡ Err refusal
     → IfErr result (λ fault. IsDue (refusal_of fault) (Some refusal)) × (IsOk result → ⊥)
 
--- what is told of an accepted list: its notices and then those of its files, and how many entries and bound indexes it
--- has
+-- the notices of a list, and then those of its files
+abbrev pub all_notices : ListProject → Binding → List Notice
+all_notices project binding = project.notices ++ binding.notices
+
+-- what is told of an accepted list: all its notices, and how many entries and bound indexes it has
 pub record Reports (text : List ℕ) (files : Files) (told : declared.Accepted) : Type 0 where
   pub project : ListProject
   pub binding : Binding
   pub spelled : Spells text project
   pub accepted : IsAccepted text files project binding
-  pub notices : told.notices.items ≡ project.notices ++ binding.notices
+  pub notices : told.notices.items ≡ all_notices project binding
   pub entries : told.entries ≡ length project.events
   pub indexes : told.indexes ≡ length binding.indexes

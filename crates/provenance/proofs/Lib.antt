@@ -1,5 +1,1 @@
-mod Grouping
-mod InTurn
 mod NoFloats
-mod OnLines
-mod WholeSources

@@ -11,9 +11,10 @@ use Rattle.sound_terms.specs.Sounds.{SoundFacts}
 use Rattle.list_terms.specs.Heard.{sounds_of}
 use Rattle.list_terms.specs.Project.{Source}
 use Rattle.list_terms.specs.declared.Notice.{Notice}
-use Rattle.provenance.specs.declared.medium.Medium.{Medium}
-use Rattle.provenance.specs.Groups.{Shown, grouped_in}
-use Rattle.provenance.specs.Report.{Told, count, entry_data, given_of, group_data, groups_told, home_source, known_digest, medium_told, news_of, notice_data, origin_data, text_data, told, told_data}
+use Rattle.digests.specs.declared.medium.Medium.{Medium}
+use Rattle.lineage.specs.Groups.{Shown, grouped_in}
+use Rattle.report_terms.specs.Report.{count, notice_data}
+use Rattle.provenance.specs.Report.{Told, entry_data, given_of, group_data, groups_told, home_source, known_digest, medium_told, news_of, origin_data, text_data, told, told_data}
 
 items_without : {X : Type 0} (f : X → Data) → ((x : X) → has_float (f x) ≡ false) → (xs : List X)
     → items_have_float (items_of (map f xs)) ≡ false

@@ -1,8 +1,8 @@
 -- The report of a consolidation, as a value of JSON (RFC 8259).
-use Rattle.std.specs.Prelude.{◌≡◌, ℕ, ◌+◌, nat_le, List, [], ◌∷◌, ◌++◌, map, Option, option_and_then, option_map, slice_get, unwrap_or, if◌then◌else◌, codes}
+use Rattle.std.specs.Prelude.{◌≡◌, ℕ, ◌+◌, List, [], ◌∷◌, ◌++◌, map, Option, option_and_then, option_map, slice_get, unwrap_or, if◌then◌else◌, codes}
 use Rattle.std.specs.Str.{is_utf8}
 use Rattle.hex.specs.Hex.{encode_lower}
-use Rattle.serde_json.specs.Data.{Data, null, number, unsigned, string, array, object, member, no_members}
+use Rattle.serde_json.specs.Data.{Data, null, string, array, object, member, no_members}
 use Rattle.serde_json.specs.View.{items_of}
 use Rattle.serde_json.specs.Written.{compact_text}
 use Rattle.sha2.specs.Sha256.{sha256}
@@ -18,28 +18,18 @@ use Rattle.work_terms.specs.Disk.{Files}
 use Rattle.list_terms.specs.Binding.{Binding}
 use Rattle.list_terms.specs.Heard.{sounds_of}
 use Rattle.list_terms.specs.Project.{ListProject, Source}
-use Rattle.list_terms.specs.declared.Notice.{Notice}
 use Rattle.list_terms.specs.Renewed.{media_name}
 use Rattle.mediaset.specs.Runs.{HomedRuns}
-use Rattle.provenance.specs.declared.shared.GroupedEntry.{GroupedEntry}
-use Rattle.provenance.specs.declared.played.Played.{Played}
+use Rattle.lineage.specs.declared.shared.GroupedEntry.{GroupedEntry}
+use Rattle.lineage.specs.declared.played.Played.{Played}
 use Rattle.provenance.specs.declared.report.Report.{Report}
-use Rattle.provenance.specs.declared.medium.Medium.{Medium}
+use Rattle.digests.specs.declared.medium.Medium.{Medium}
+use Rattle.report_terms.specs.Report.{count, form, notice_data}
 use Rattle.provenance.specs.Asked.{AskedReport}
-use Rattle.provenance.specs.Media.{media_of}
-use Rattle.provenance.specs.Groups.{Shown, grouped_in, groups_of}
-use Rattle.provenance.specs.Played.{given_entries, new_entries}
-use Rattle.provenance.specs.Sums.{sums_of}
-
-abbrev pub count : ℕ → Data
-count n = number (unsigned n)
-
--- a notice, which is of a line or of an index
-abbrev pub notice_data : Notice → Data
-notice_data notice =
-    if nat_le notice.kind 2
-    then object (member (codes "line") (count notice.at) (member (codes "notice") (count notice.kind) no_members))
-    else object (member (codes "index") (count notice.at) (member (codes "notice") (count notice.kind) no_members))
+use Rattle.digests.specs.Media.{media_of}
+use Rattle.lineage.specs.Groups.{Shown, grouped_in, groups_of}
+use Rattle.lineage.specs.Played.{given_entries, new_entries}
+use Rattle.digests.specs.Sums.{sums_of}
 
 -- bytes as they stand where they are text (UTF-8); JSON has no others
 abbrev pub text_data : List ℕ → Data
@@ -101,10 +91,6 @@ group_data group =
 abbrev pub entry_data : GroupedEntry → Data
 entry_data entry =
     object (member (codes "entry") (count entry.number) (member (codes "group") (count entry.group) no_members))
-
--- the version of the form of reports
-abbrev pub form : ℕ
-form = 6
 
 -- a consolidation with this handle by the program that asks for the report, with these digests in hexadecimal digits
 abbrev pub consolidation_data : (handle : ℕ) (program version given new : List ℕ)

@@ -1,10 +1,11 @@
 // What is told of groups and of entries.
 ghost use Rattle.std.specs.Prelude.{◌≡◌, IfOk, map};
 ghost use Rattle.serde_json.specs.View.{view};
-ghost use Rattle.provenance.specs.Groups.{seen};
-ghost use Rattle.provenance.specs.Report.{count, entry_data, group_data};
+ghost use Rattle.lineage.specs.Groups.{seen};
+ghost use Rattle.report_terms.specs.Report.{count};
+ghost use Rattle.provenance.specs.Report.{entry_data, group_data};
 
-use crate::shared::{Group, GroupedEntry};
+use lineage::{Group, GroupedEntry};
 use serde_json::{Value, json, push};
 use std::alloc::{AllocError, Global};
 

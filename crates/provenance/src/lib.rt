@@ -3,22 +3,12 @@
 #![tactic(auto)]
 
 mod asked;
-mod digests;
 mod entries;
-mod fault;
-mod kept;
-mod lines;
 mod media;
-mod medium;
 mod notices;
-mod played;
 mod report;
-mod shared;
-mod sums;
-mod wholes;
 
 pub use asked::ReportOn;
-pub use fault::ReportFault;
-pub use medium::Medium;
-pub use played::Played;
+pub use digests::{Medium, ReportFault};
+pub use lineage::Played;
 pub use report::{Report, report_of};

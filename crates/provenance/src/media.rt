@@ -2,7 +2,7 @@
 ghost use Rattle.std.specs.Prelude.{◌≡◌, IfOk, map, option_copied};
 ghost use Rattle.std.specs.List.{All};
 ghost use Rattle.serde_json.specs.View.{view};
-ghost use Rattle.provenance.specs.Media.{IsTellable};
+ghost use Rattle.digests.specs.Media.{IsTellable};
 ghost use Rattle.provenance.specs.Report as spec;
 ghost use Rattle.provenance.specs.Report.{known_digest, medium_data, medium_told, origin_data, text_data};
 

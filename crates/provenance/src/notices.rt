@@ -1,7 +1,7 @@
 // What is reported of notices.
 ghost use Rattle.std.specs.Prelude.{◌≡◌, ◌++◌, IfOk, OnOk, map};
 ghost use Rattle.serde_json.specs.View.{view};
-ghost use Rattle.provenance.specs.Report.{notice_data};
+ghost use Rattle.report_terms.specs.Report.{notice_data};
 
 use list_terms::Notice;
 use serde_json::{Value, json, push};

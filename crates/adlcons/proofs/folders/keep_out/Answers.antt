@@ -1,5 +1,5 @@
 use Rattle.std.proofs.Common.{ℕ, List, subst}
-use Rattle.answers.specs.Answers.{Tells}
+use Rattle.verdicts.specs.Verdicts.{Tells}
 use Rattle.places.specs.Opening.{refusal_of_opening}
 use Rattle.adlcons.proofs.Refused.{same_line}
 use Rattle.adlcons.proofs.folders.keep_out.Goals as goal

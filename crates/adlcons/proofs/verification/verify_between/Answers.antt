@@ -11,7 +11,8 @@ use Rattle.console.specs.declared.console.Console as console
 use Rattle.console.specs.declared.lines.ListOfTwo.TheVariants.{Second}
 use Rattle.consolidate.specs.declared.Fault.{Fault}
 use Rattle.consolidate.specs.declared.Written.{Written}
-use Rattle.answers.specs.Answers.{IsAnswered, Tells, asking, lines_of, status_of, written_lines}
+use Rattle.verdicts.specs.Verdicts.{Tells}
+use Rattle.answers.specs.Answers.{IsAnswered, asking, lines_of, status_of, written_lines}
 use Rattle.adlcons.specs.Openings.{AnswersVerified, ComparesWritten, IsListUnread, VerifiesInFolders}
 use Rattle.adlcons.proofs.verification.verify_between.Goals as goal
 

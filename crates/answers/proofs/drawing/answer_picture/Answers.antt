@@ -1,6 +1,6 @@
 use Rattle.std.proofs.Common.{◌∙◌, ℕ, ap, sym}
 use Rattle.commandline.specs.Request.{drawn_of}
-use Rattle.answers.specs.BadTime.{name_of}
+use Rattle.verdicts.specs.BadTime.{name_of}
 use Rattle.answers.specs.Times.{part_of}
 use Rattle.answers.proofs.drawing.answer_picture.Goals as goal
 

@@ -1,7 +1,7 @@
 use Rattle.std.proofs.Common.{false, map, rules}
 use Rattle.serde_json.specs.View.{items_of}
 use Rattle.serde_json.specs.Written.{items_text}
-use Rattle.provenance.specs.Report.{notice_data}
+use Rattle.report_terms.specs.Report.{notice_data}
 use Rattle.checkreport.proofs.Arrays.{none_printed, some_printed}
 use Rattle.checkreport.proofs.Parts.{notices_text}
 use Rattle.checkreport.proofs.accepted.put_notices_of_files.Goals as goal

@@ -1,6 +1,6 @@
 use Rattle.std.proofs.Common.{◌++◌, length, map, subst}
 use Rattle.list_terms.specs.Heard.{sounds_of}
-use Rattle.provenance.specs.Report.{notice_data}
+use Rattle.report_terms.specs.Report.{notice_data}
 use Rattle.checkreport.specs.Report.{index_data}
 use Rattle.console.specs.Printing.{Prints}
 use Rattle.console.specs.PrintingLaws.{prints_more}

@@ -1,4 +1,5 @@
 use Rattle.std.proofs.lemmas.Result.{err_from_is_err_and}
+use Rattle.facts.specs.Results.{one_value}
 use Rattle.rendering.specs.Clipping.{marked_in}
 use Rattle.rendering.specs.Marked.{run_of}
 use Rattle.consolidate.specs.Approaches.{found_by}
@@ -6,7 +7,7 @@ use Rattle.consolidate.specs.Listed.{listed_of}
 use Rattle.consolidate.specs.MadeSound.{values_for}
 use Rattle.consolidate.specs.Marks.{list_marking}
 use Rattle.consolidate.proofs.Answered.{answered, clips_list, failed, keeps_list, not_opened}
-use Rattle.consolidate.proofs.RenderWorks.{if_again, left_holds, same_spelt}
+use Rattle.consolidate.proofs.RenderWorks.{if_again, left_holds}
 use Rattle.consolidate.proofs.Stores.{idle}
 use Rattle.consolidate.proofs.made.make_list.Goals as goal
 
@@ -55,8 +56,8 @@ returns g c =
       answer = answered g.S.Shelf g.B.Bench listed _ _ _ _ _ opened.accepted opened.spelt opened.only_reads _
           opened.spelled opened.notices told;
       report = record { project = checked.project; spelled = opened.spelled; range = told.report };
-      frames = λ p is. rw (← same_spelt opened.spelt is) told.report.frames;
-      marked = λ right p is. rw (← same_spelt opened.spelt is) (told.marked right);
+      frames = λ p is. rw (← one_value opened.spelt is) told.report.frames;
+      marked = λ right p is. rw (← one_value opened.spelt is) (told.marked right);
       clips = λ rounds honest right. clips_list g.S.Shelf g.B.Bench listed c.args.shelf.now _ c.make_listed.new.shelf
           c.args.bench.now c.make_listed.new.bench opened.accepted opened.spelt opened.only_reads
           (λ range. marked_in (found_by c.args.request.now.approach (run_of c.args.request.now.list.now range)

@@ -1,6 +1,6 @@
 use Rattle.std.proofs.Common.{◌≡◌, map, take}
 use Rattle.serde_json.specs.View.{view}
-use Rattle.provenance.specs.Groups.{seen}
+use Rattle.lineage.specs.Groups.{seen}
 use Rattle.provenance.specs.Report.{group_data}
 use Rattle.provenance.proofs.entries.group_values.Given as goal
 

@@ -1,6 +1,6 @@
 use Rattle.std.proofs.Common.{◌≡◌, map, take}
 use Rattle.serde_json.specs.View.{view}
-use Rattle.provenance.specs.Report.{count}
+use Rattle.report_terms.specs.Report.{count}
 use Rattle.provenance.proofs.entries.number_values.Given as goal
 
 -- those so far

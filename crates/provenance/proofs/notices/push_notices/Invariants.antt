@@ -1,6 +1,6 @@
 use Rattle.std.proofs.Common.{◌≡◌, ◌++◌, map, take}
 use Rattle.serde_json.specs.View.{view}
-use Rattle.provenance.specs.Report.{notice_data}
+use Rattle.report_terms.specs.Report.{notice_data}
 use Rattle.provenance.proofs.notices.push_notices.Given as goal
 
 -- those so far

@@ -2,10 +2,11 @@ use Rattle.std.proofs.Common.{◌≡◌, ◌∙◌, ◌++◌, ◌∷◌, [], ℕ
 use Rattle.serde_json.specs.Data.{Data}
 use Rattle.serde_json.specs.View.{view}
 use Rattle.list_terms.specs.Heard.{sounds_of}
-use Rattle.provenance.specs.declared.shared.Group.{Group}
+use Rattle.lineage.specs.declared.shared.Group.{Group}
 use Rattle.provenance.specs.Asked.{asked_of}
-use Rattle.provenance.specs.Groups.{IsGrouped, grouped_in, seen}
-use Rattle.provenance.specs.Report.{Told, entry_data, given_of, group_data, groups_told, medium_told, news_of, notice_data, report_data, told_data}
+use Rattle.lineage.specs.Groups.{IsGrouped, grouped_in, seen}
+use Rattle.report_terms.specs.Report.{notice_data}
+use Rattle.provenance.specs.Report.{Told, entry_data, given_of, group_data, groups_told, medium_told, news_of, report_data, told_data}
 use Rattle.provenance.proofs.NoFloats.{text_of_report}
 use Rattle.provenance.proofs.report.json_text.Goals as goal
 

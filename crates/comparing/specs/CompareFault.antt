@@ -1,0 +1,100 @@
+-- The number and the place of each fault of comparing two lists, and which list it is of.
+use Rattle.std.specs.Prelude.{◌≡◌, ℕ, ⊤, false, IsSome, List, Some, slice_get, string_bytes}
+use Rattle.sound_terms.specs.Sounds.{SoundFacts}
+use Rattle.work_terms.specs.Disk.{Files}
+use Rattle.work_terms.specs.Refusals.{Refusal, Where, Nowhere, File}
+use Rattle.opening.specs.Commands as opening
+use Rattle.opening.specs.Faults as opening_faults
+use Rattle.opening.specs.Own as opening_own
+use Rattle.opening.specs.Own.{IsOfOpening}
+use Rattle.comparison.specs.declared.fault.SideFault.{SideFault}
+use Rattle.comparison.specs.declared.fault.SideFault.TheVariants as side
+use Rattle.comparison.specs.declared.fault.CompareFault as of_sums
+use Rattle.comparison.specs.declared.fault.CompareFault.TheVariants as sums
+use Rattle.comparing.specs.declared.compare_fault.ListFault.{ListFault}
+use Rattle.comparing.specs.declared.compare_fault.ListFault.TheVariants.{Project, Intervals, Memory, Source}
+use Rattle.comparing.specs.declared.compare_fault.CompareFault.{CompareFault}
+use Rattle.comparing.specs.declared.compare_fault.CompareFault.TheVariants.{EmptyRange, First, Second}
+
+abbrev early : ℕ → Where → Refusal
+early number place = record { number = number; location = place; late = false }
+
+abbrev pub refusal_of : ListFault → Refusal
+refusal_of (Project fault) = opening_faults.refusal_of fault
+refusal_of Intervals = early 47 Nowhere
+refusal_of Memory = early 57 Nowhere
+refusal_of (Source name) = early 22 (File (string_bytes name))
+
+-- 22: the device of a source failed
+abbrev pub IsDevice : ListFault → Type 0
+IsDevice fault = (refusal_of fault).number ≡ 22
+
+-- this holds of the name of the source whose device failed
+abbrev pub HoldsOfDevice : ListFault → (List ℕ → Type 0) → Type 0
+HoldsOfDevice fault P = opening.HoldsOfFile P (refusal_of fault).location
+
+-- a fault of the sums of a list, which comes when both lists are open
+abbrev pub IsOfSums : ListFault → Type 0
+IsOfSums (Project fault) = ⊥
+IsOfSums Intervals = ⊤
+IsOfSums Memory = ⊤
+IsOfSums (Source name) = ⊤
+
+-- a fault of the list of this text, of its files or of its entries, or one of its sums
+abbrev pub IsOwn : List ℕ → ListFault → Type 0
+IsOwn text (Project fault) = IsOfOpening text fault
+IsOwn text fault = ⊤
+
+-- no index before the one whose file is named is at fault
+abbrev pub IsFirst : List ℕ → Files → ListFault → Type 0
+IsFirst text files (Project fault) = opening_own.IsFirst text files fault
+IsFirst text files fault = ⊤
+
+-- a fault of the first list of which this holds
+abbrev pub OfFirst : (ListFault → Type 0) → CompareFault → Type 0
+OfFirst P (First fault) = P fault
+OfFirst P (Second fault) = ⊥
+OfFirst P EmptyRange = ⊥
+
+-- of the second one
+abbrev pub OfSecond : (ListFault → Type 0) → CompareFault → Type 0
+OfSecond P (First fault) = ⊥
+OfSecond P (Second fault) = P fault
+OfSecond P EmptyRange = ⊥
+
+-- this holds of a fault of the first list, and anything of every other
+abbrev pub ForFirst : (ListFault → Type 0) → CompareFault → Type 0
+ForFirst P (First fault) = P fault
+ForFirst P (Second fault) = ⊤
+ForFirst P EmptyRange = ⊤
+
+-- of the second one
+abbrev pub ForSecond : (ListFault → Type 0) → CompareFault → Type 0
+ForSecond P (First fault) = ⊤
+ForSecond P (Second fault) = P fault
+ForSecond P EmptyRange = ⊤
+
+-- a file that a fault of sums names is one of those opened
+abbrev pub IsOpened : List SoundFacts → SideFault → Type 0
+IsOpened sounds side.Intervals = ⊤
+IsOpened sounds side.Memory = ⊤
+IsOpened sounds (side.Source file) = IsSome (slice_get sounds file)
+
+-- the fault of a list that a fault of its sums is reported as: a file by its name
+abbrev pub IsReportedAs : List SoundFacts → SideFault → ListFault → Type 0
+IsReportedAs sounds side.Intervals reported = reported ≡ Intervals
+IsReportedAs sounds side.Memory reported = reported ≡ Memory
+IsReportedAs sounds (side.Source file) (Source name) =
+    (facts : SoundFacts) → slice_get sounds file ≡ Some facts → string_bytes name ≡ facts.name
+IsReportedAs sounds (side.Source file) _ = ⊥
+
+abbrev pub IsOpenedOfTwo : (sounds others : List SoundFacts) → of_sums.CompareFault → Type 0
+IsOpenedOfTwo sounds others sums.EmptyRange = ⊤
+IsOpenedOfTwo sounds others (sums.First fault) = IsOpened sounds fault
+IsOpenedOfTwo sounds others (sums.Second fault) = IsOpened others fault
+
+abbrev pub IsReportedOfTwo : (sounds others : List SoundFacts) → of_sums.CompareFault → CompareFault → Type 0
+IsReportedOfTwo sounds others sums.EmptyRange reported = reported ≡ EmptyRange
+IsReportedOfTwo sounds others (sums.First fault) (First reported) = IsReportedAs sounds fault reported
+IsReportedOfTwo sounds others (sums.Second fault) (Second reported) = IsReportedAs others fault reported
+IsReportedOfTwo sounds others _ _ = ⊥

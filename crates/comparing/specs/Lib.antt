@@ -1,0 +1,2 @@
+pub mod CompareFault
+pub mod Comparing

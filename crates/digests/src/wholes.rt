@@ -1,0 +1,112 @@
+// Hashes whole sources.
+ghost use Rattle.std.specs.Prelude.{◌≡◌, ◌+◌, ◌≤◌, ℕ, IfOk, IsTrue, List, OnOk, Some, length, option_copied, take, ⊤};
+ghost use Rattle.sha2.specs.Hashers.{Holds256};
+ghost use Rattle.sha2.specs.Sha256.{sha256};
+ghost use Rattle.sound_terms.specs.Media.{IsRunOf};
+ghost use Rattle.mediacopy.specs.Pieces.{content};
+ghost use Rattle.devices.specs.Frame.{OnlyReads};
+ghost use Rattle.digests.specs.declared.medium.Medium as medium;
+ghost use Rattle.digests.specs.Fault.{FailsAt, IsDevice};
+ghost use Rattle.digests.specs.Media as spec;
+ghost use Rattle.digests.specs.Media.{HasSource};
+
+use crate::digests::ROOM;
+use crate::{Medium, ReportFault};
+use devices::{DeviceFault, Shelf, ShelfFault};
+use sha2::{Digest, Sha256};
+use sound_terms::Run;
+use wavread::Sound;
+
+/// How many bytes the file of this name has. One that is gone is read, which its shelf counts as a failure; where that
+/// can be read after all, it is taken as longer than any file, so that a later read of it fails.
+fn length_of<S: Shelf>(shelf: &mut S, name: &str) -> Result<u64, DeviceFault>
+    ensures length { IsTrue (S.honest shelf.old)
+        → IfOk result (λ n. length (content (S.stored shelf.old) name.now) ≡ n) }
+    ensures only_reads { OnlyReads S.Shelf shelf.old shelf.new result (λ _. ⊤) (λ _ failed. failed name.now) }
+{
+    match shelf.length(name) {
+        Ok(length) => Ok(length),
+        Err(ShelfFault::Device) => Err(DeviceFault),
+        Err(ShelfFault::NotFound) => match shelf.read_at(name, 0, &mut [0]) {
+            Ok(()) => Ok(u64::MAX),
+            Err(_) => Err(DeviceFault),
+        },
+    }
+}
+
+/// Hashes so many bytes of the file of this name, from `at` on, after those before them, through `room`.
+fn hash_bytes<S: Shelf>(
+    shelf: &mut S,
+    name: &str,
+    at: u64,
+    count: usize,
+    room: &mut [u8; ROOM],
+    hasher: &mut Sha256,
+) -> Result<(), DeviceFault>
+    requires { count ≤ 66226 }
+    ensures hashed { let bytes = content (S.stored shelf.old) name.now in IsTrue (S.honest shelf.old)
+        → Holds256 hasher.old (take at bytes) → OnOk result (Holds256 hasher.new (take (at + count) bytes)) }
+    ensures only_reads { OnlyReads S.Shelf shelf.old shelf.new result (λ _. ⊤) (λ _ failed. failed name.now) }
+{
+    let bytes = &mut room[..count];
+    match shelf.read_at(name, at, bytes) {
+        Ok(()) => {
+            hasher.update(&*bytes);
+            Ok(())
+        }
+        Err(_) => Err(DeviceFault),
+    }
+}
+
+/// The SHA-256 of the whole file of this name, read through `room`.
+fn file_digest<S: Shelf>(
+    shelf: &mut S,
+    name: &str,
+    room: &mut [u8; ROOM],
+) -> Result<[u8; 32], DeviceFault>
+    ensures digest { IsTrue (S.honest shelf.old)
+        → IfOk result (λ digest. digest ≡ sha256 (content (S.stored shelf.old) name.now)) }
+    ensures only_reads { OnlyReads S.Shelf shelf.old shelf.new result (λ _. ⊤) (λ _ failed. failed name.now) }
+{
+    let end = length_of(shelf, name)?;
+    let mut hasher = Sha256::new();
+    let mut done = 0;
+    while done < end {
+        let count = (ROOM as u64).min(end - done);
+        hash_bytes(shelf, name, done, count as usize, room, &mut hasher)?;
+        done += count;
+    }
+    Ok(hasher.finalize())
+}
+
+/// The digest of the whole source of a run, where digests are asked for: that of the medium before it, where it is of the
+/// same file.
+pub fn source_digest<S: Shelf>(
+    shelf: &mut S,
+    sounds: &[Sound],
+    run: &Run,
+    before: Option<&Medium>,
+    digests: bool,
+    room: &mut [u8; ROOM],
+) -> Result<Option<[u8; 32]>, ReportFault>
+    requires { IsRunOf sounds.now run.now }
+    ensures digest { IsTrue (S.honest shelf.old)
+        → ((m : medium.Medium) → option_copied before.entry ≡ Some m
+        → HasSource digests (S.stored shelf.old) sounds.now m)
+        → IfOk result (λ digest. digest ≡ spec.source_digest digests (S.stored shelf.old) sounds.now run.now) }
+    ensures only_reads { OnlyReads S.Shelf shelf.old shelf.new result IsDevice (FailsAt sounds.now) }
+{
+    if !digests {
+        return Ok(None);
+    }
+    if let Some(medium) = before {
+        if medium.run.file == run.file {
+            return Ok(medium.source);
+        }
+    }
+    let sound = &sounds[run.file as usize];
+    match file_digest(shelf, sound.name(), room) {
+        Ok(digest) => Ok(Some(digest)),
+        Err(_) => Err(ReportFault::Device { file: run.file }),
+    }
+}

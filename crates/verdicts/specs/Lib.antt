@@ -1,0 +1,3 @@
+pub mod BadTime
+pub mod Times
+pub mod Verdicts
