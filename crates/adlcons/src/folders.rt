@@ -458,16 +458,7 @@ where
     } = work;
     let (rt, manner) = (session.rt, session.manner);
     let unlisted = unlisted_reason(rt, places.media);
-    let mut terminal = Terminal {
-        out,
-        err,
-        meter: WorkMeter::of_request(session.line, request),
-        asides: FolderAsides::new(rt, places.media, manner),
-    };
-    let answered = answer_standard(rt.alloc(), request, list, shelf, bench, &mut terminal);
-    let Ok(status) = answered else {
-        return Err(OpenFault::Passes);
-    };
+    let status = answer_between(session, work, shelf, bench, out, err)?;
     if status == MISTAKE {
         return Ok(status);
     }
@@ -483,6 +474,51 @@ where
     }
     report_found(shelf.sources(), manner, err);
     tell_unlisted(places.media, unlisted, err);
+    Ok(status)
+}
+
+/// Answers it between these folders.
+fn answer_between<R, O: Console, E: Console, L: Progress>(
+    session: &Session<'_, R, L>,
+    work: Work<'_>,
+    shelf: &mut ShownShelf<'_, R, L>,
+    bench: &mut FolderBench<R>,
+    out: &mut O,
+    err: &mut E,
+) -> Result<u8, OpenFault>
+where
+    R: Files + Input + AllocGlobal + Clone + Drop,
+    R::File: FileExt,
+    requires media { shelf.old.folder ≡ folder_named work.places.media.now }
+    requires output { bench.old.folder ≡ folder_named work.places.out.now }
+    requires careful { bench.old.overwrite ≡ overwrite_for (asked_of work.request) }
+    ensures works { IfOk result (λ status. AnswersWriting ⟦<ShownShelf<'static, R, L> as devices::Shelf>⟧
+        ⟦<FolderBench<R> as devices::Bench>⟧ O.Console (asked_of work.entry.request) work.entry.places.media.now work.entry.places.out.now
+        out.old out.new status) }
+    ensures statuses { IfOk result (λ status. status ≤ 2) }
+    ensures mistake { IfOk result (λ status. status ≡ 2
+        → MayBeMistaken E.Console err.old err.new (rate_of work.entry.list.now) (asked_of work.entry.request)) }
+    ensures two { IfOk result (λ status. status ≡ 2 → out.new ≡ out.old) }
+    ensures nothing { OnErr result (out.new ≡ out.old) }
+{
+    let rt = session.rt;
+    let mut terminal = Terminal {
+        out,
+        err,
+        meter: WorkMeter::of_request(session.line, work.request),
+        asides: FolderAsides::new(rt, work.places.media, session.manner),
+    };
+    let answered = answer_standard(
+        rt.alloc(),
+        work.request,
+        work.list,
+        shelf,
+        bench,
+        &mut terminal,
+    );
+    let Ok(status) = answered else {
+        return Err(OpenFault::Passes);
+    };
     Ok(status)
 }
 

@@ -12,7 +12,7 @@ ghost use Rattle.rendering.specs.Rendering as rendering;
 ghost use Rattle.commandline.specs.declared.choice.MediaReport as choice;
 ghost use Rattle.commandline.specs.CommandLine as asked;
 ghost use Rattle.commandline.specs.CommandLine.{is_shown};
-ghost use Rattle.commandline.specs.Request.{asked_of};
+ghost use Rattle.commandline.specs.Request.{asked_of, chosen_of};
 ghost use Rattle.console.specs.Printing.{Prints};
 ghost use Rattle.list_terms.specs.Steps.{ok_map};
 ghost use Rattle.list_terms.specs.Text.{rate_of as rate_at};
@@ -22,6 +22,7 @@ ghost use Rattle.verdicts.specs.BadTime.{name_of};
 ghost use Rattle.answers.specs.Mistaken.{no_memory_line};
 ghost use Rattle.checkreport.specs.Reported.{IsReported};
 ghost use Rattle.verdicts.specs.Times.{bad_time_line};
+ghost use Rattle.verdicts.specs.Verdicts.{NamesBadTime};
 ghost use Rattle.answers.specs.Times.{part_of, values_of};
 
 use crate::check_report::answer_report;
@@ -37,7 +38,7 @@ use asides::{
 };
 use clap::Error;
 use clap::error::ErrorKind;
-use commandline::{MediaReport, Request, VERSION};
+use commandline::{Chosen, MediaReport, Request, VERSION};
 use console::{Console, Counts};
 use consolidate::{
     AcceptedList, ConsolidateChoice, Fault, JobLength, Keeping, RenderChoice, RenderReport,
@@ -66,7 +67,6 @@ pub struct Command<'a> {
 /// explained on standard error too, in a line of its own; behind that of a check stand the list's further faults. What
 /// numbers mean is printed on standard output, with 0, or with 2 where nothing has the number. A comparison is a
 /// mistake here (2): it is of two lists, and `answer_compare` answers it.
-#[tactic(auto, using(crate::proofs::Rates::answered_by, crate::proofs::Rates::resumed_by))]
 pub fn answer_request<
     S: Shelf + Reasons,
     B: Bench + Reasons,
@@ -156,26 +156,12 @@ pub fn answer_request<
     match request {
         Request::Check(_, _) => answer_check(alloc, list, shelf, terminal),
         Request::Report(_, _) => answer_report(alloc, list, shelf, terminal),
-        Request::Render(_, chosen) => match options_of(chosen, rate_of(list)) {
-            Ok(options) => {
-                let wanted = WantedSound {
-                    choice: RenderChoice { options, jobs },
-                    is_reported: chosen.report,
-                };
-                answer_render(alloc, list, &wanted, shelf, bench, terminal)
-            }
-            Err(bad) => refuse_time(bad, terminal.err),
-        },
-        Request::Resume(_, chosen) => match options_of(chosen, rate_of(list)) {
-            Ok(options) => {
-                let wanted = WantedSound {
-                    choice: RenderChoice { options, jobs },
-                    is_reported: chosen.report,
-                };
-                answer_resume(alloc, list, &wanted, shelf, bench, terminal)
-            }
-            Err(bad) => refuse_time(bad, terminal.err),
-        },
+        Request::Render(_, chosen) => {
+            answer_chosen_render(alloc, list, chosen, jobs, shelf, bench, terminal)
+        }
+        Request::Resume(_, chosen) => {
+            answer_chosen_resume(alloc, list, chosen, jobs, shelf, bench, terminal)
+        }
         Request::Consolidate(_, handle, report) => {
             let wanted = WantedMedia {
                 handle,
@@ -313,6 +299,92 @@ fn resume_as<S: Shelf, B: Bench, W: Watch>(
         resume_reported(alloc, list, &asked, shelf, bench, watch)
     } else {
         resume_watched(alloc, list, choice, shelf, bench, watch)
+    }
+}
+
+/// Renders the list by what the words choose, and prints what came of it, or that a time can't be read.
+#[tactic(auto, using(crate::proofs::Rates::answered_by))]
+fn answer_chosen_render<
+    S: Shelf + Reasons,
+    B: Bench + Reasons,
+    O: Console,
+    E: Console,
+    M: Meter,
+    A: Asides,
+>(
+    alloc: Global,
+    list: &[u8],
+    chosen: Chosen<'_>,
+    jobs: JobLength,
+    shelf: &mut S,
+    bench: &mut B,
+    terminal: &mut Terminal<O, E, M, A>,
+) -> u8
+    ensures consoles { GivesBack terminal.old terminal.new }
+    ensures rendered { result ≢ 2 → IsAnswered (RendersBy S.Shelf B.Bench jobs (chosen_of chosen.entry) list.now
+        shelf.old shelf.new bench.old bench.new)
+        rendered_lines O.Console terminal.old.out.now terminal.new.out.now result }
+    ensures bad_time { (option : Text) → values_of (rate_at list.now) (chosen_of chosen.entry) ≡ Err option
+        → (result ≡ 2)
+        × Prints E.contents E.failures terminal.old.err.now terminal.new.err.now (bad_time_line option) }
+    ensures statuses { result ≤ 2 }
+    ensures mistake { result ≡ 2 → NamesBadTime E.Console terminal.old.err.now terminal.new.err.now
+        (values_of (rate_at list.now) (chosen_of chosen.entry)) }
+    ensures two { result ≡ 2
+        → (shelf.new ≡ shelf.old) × (bench.new ≡ bench.old) × (terminal.new.out.now ≡ terminal.old.out.now) }
+{
+    match options_of(chosen, rate_of(list)) {
+        Ok(options) => {
+            let wanted = WantedSound {
+                choice: RenderChoice { options, jobs },
+                is_reported: chosen.report,
+            };
+            answer_render(alloc, list, &wanted, shelf, bench, terminal)
+        }
+        Err(bad) => refuse_time(bad, terminal.err),
+    }
+}
+
+/// Goes on with the rendering of the list by what the words choose, likewise.
+#[tactic(auto, using(crate::proofs::Rates::resumed_by))]
+fn answer_chosen_resume<
+    S: Shelf + Reasons,
+    B: Bench + Reasons,
+    O: Console,
+    E: Console,
+    M: Meter,
+    A: Asides,
+>(
+    alloc: Global,
+    list: &[u8],
+    chosen: Chosen<'_>,
+    jobs: JobLength,
+    shelf: &mut S,
+    bench: &mut B,
+    terminal: &mut Terminal<O, E, M, A>,
+) -> u8
+    ensures consoles { GivesBack terminal.old terminal.new }
+    ensures resumed { result ≢ 2 → IsAnswered (ResumesBy S.Shelf B.Bench jobs (chosen_of chosen.entry) list.now
+        shelf.old shelf.new bench.old bench.new)
+        resumed_lines O.Console terminal.old.out.now terminal.new.out.now result }
+    ensures bad_time { (option : Text) → values_of (rate_at list.now) (chosen_of chosen.entry) ≡ Err option
+        → (result ≡ 2)
+        × Prints E.contents E.failures terminal.old.err.now terminal.new.err.now (bad_time_line option) }
+    ensures statuses { result ≤ 2 }
+    ensures mistake { result ≡ 2 → NamesBadTime E.Console terminal.old.err.now terminal.new.err.now
+        (values_of (rate_at list.now) (chosen_of chosen.entry)) }
+    ensures two { result ≡ 2
+        → (shelf.new ≡ shelf.old) × (bench.new ≡ bench.old) × (terminal.new.out.now ≡ terminal.old.out.now) }
+{
+    match options_of(chosen, rate_of(list)) {
+        Ok(options) => {
+            let wanted = WantedSound {
+                choice: RenderChoice { options, jobs },
+                is_reported: chosen.report,
+            };
+            answer_resume(alloc, list, &wanted, shelf, bench, terminal)
+        }
+        Err(bad) => refuse_time(bad, terminal.err),
     }
 }
 

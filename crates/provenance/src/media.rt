@@ -9,7 +9,7 @@ ghost use Rattle.provenance.specs.Report.{known_digest, medium_data, medium_told
 use crate::Medium;
 use adlmodel::{Source, Sources};
 use relink::media_name;
-use serde_json::{Value, json, push};
+use serde_json::{Map, Value, json, push, put};
 use sound_terms::{BoundIndex, Homes};
 use std::alloc::{AllocError, Global};
 use std::str;
@@ -97,20 +97,17 @@ fn medium_value(
 ) -> Result<Value, AllocError>
     ensures { IfOk result (λ value. view value ≡ medium_data sound.now base (view origin) medium.now) }
 {
-    let channels = sound.channels();
-    let depth = sound.depth().bits();
     let file = media_name(alloc, medium.number)?;
-    let frames = medium.run.length;
     let digits = hex::encode(alloc, &medium.digest)?;
-    json!(in alloc; {
-        "base": base,
-        "channels": channels,
-        "depth": depth,
-        "file": file,
-        "frames": frames,
-        "sha256": digits,
-        "source": origin
-    })
+    let mut told = Map::new(alloc);
+    put(&mut told, alloc, "base", Value::from(base))?;
+    put(&mut told, alloc, "channels", Value::from(sound.channels()))?;
+    put(&mut told, alloc, "depth", Value::from(sound.depth().bits()))?;
+    put(&mut told, alloc, "file", Value::String(file))?;
+    put(&mut told, alloc, "frames", Value::from(medium.run.length))?;
+    put(&mut told, alloc, "sha256", Value::String(digits))?;
+    put(&mut told, alloc, "source", origin)?;
+    Ok(Value::Object(told))
 }
 
 /// What is told of a medium over these opened files.

@@ -19,7 +19,7 @@ use devices::Shelf;
 use digests::{hashed_media, sums_text};
 use lineage::{given_entries, group_entries, new_entries};
 use mediaset::Runs;
-use serde_json::{Value, json};
+use serde_json::{Map, Value, put};
 use sha2::{Digest, Sha256};
 use sound_terms::Event;
 use sourceindex::Bound;
@@ -65,21 +65,20 @@ fn consolidation_value(
         entries,
         notices,
     } = parts;
-    let form = FORM;
-    let program = asked.program;
-    let version = asked.version;
-    json!(in alloc; {
-        "entries": entries,
-        "form": form,
-        "given_list_sha256": given,
-        "groups": groups,
-        "handle": handle,
-        "media": media,
-        "new_list_sha256": new,
-        "notices": notices,
-        "program": program,
-        "version": version
-    })
+    let mut told = Map::new(alloc);
+    put(&mut told, alloc, "entries", Value::Array(entries))?;
+    put(&mut told, alloc, "form", Value::from(FORM))?;
+    put(&mut told, alloc, "given_list_sha256", Value::String(given))?;
+    put(&mut told, alloc, "groups", Value::Array(groups))?;
+    put(&mut told, alloc, "handle", Value::from(handle))?;
+    put(&mut told, alloc, "media", Value::Array(media))?;
+    put(&mut told, alloc, "new_list_sha256", Value::String(new))?;
+    put(&mut told, alloc, "notices", Value::Array(notices))?;
+    let program = Value::try_from_str(alloc, asked.program)?;
+    put(&mut told, alloc, "program", program)?;
+    let version = Value::try_from_str(alloc, asked.version)?;
+    put(&mut told, alloc, "version", version)?;
+    Ok(Value::Object(told))
 }
 
 /// The same, with the digests of the given list and of the new one, whose text this is.

@@ -5,8 +5,14 @@ pub returns-clause-reported : goal.returns-clause-reported
 returns-clause-reported g c =
     let same : c.out-1.given.0 ≡ c.answer_report-status.new.terminal.out.now =
     c.out-1.given.1 (sym c.answer_report-status.ensures.consoles.0) in
-    rw same (record {
+    let told = c.answer_report-status.ensures.printed in
+    record {
       before = c.in_ok-shelf.shelf;
       folder = c.in_ok-shelf.ensures.folder;
-      reported = c.answer_report-status.ensures.printed;
-    })
+      reported = record {
+        report = told.report;
+        holds = told.holds;
+        status_is = told.status_is;
+        printed = rw same told.printed;
+      };
+    }

@@ -3,14 +3,50 @@ use Rattle.passes.specs.Left.{Leaving, left_by, standard_left}
 use Rattle.provenance.specs.Asked.{AskedReport}
 use Rattle.consolidate.specs.Commands.{IsConsolidation}
 use Rattle.commandline.specs.declared.choice.MediaReport.{MediaReport}
-use Rattle.commandline.specs.CommandLine.{Asked}
+use Rattle.commandline.specs.CommandLine.{Asked, Chosen}
 use Rattle.commandline.specs.Request.{asked_of}
 use Rattle.list_terms.specs.Text.{rate_of}
-use Rattle.answers.specs.Answers.{IsAnswered, MayBeMistaken, asking, written_lines}
-use Rattle.answers.specs.Times.{part_of}
+use Rattle.answers.specs.Answers.{IsAnswered, MayBeMistaken, RendersBy, ResumesBy, asking, rendered_lines, resumed_lines, written_lines}
+use Rattle.answers.specs.Times.{part_of, values_of}
 use Rattle.answers.proofs.Drawn.{show_drawn}
-use Rattle.commandline.specs.RequestLaws.{consolidate_fields}
+use Rattle.commandline.specs.RequestLaws.{consolidate_fields, render_fields, resume_fields}
 use Rattle.answers.proofs.requests.answer_request.Goals as goal
+
+pub returns-in-Render-clause-rendered : goal.returns-in-Render-clause-rendered
+returns-in-Render-clause-rendered g c path media target chosen request = λ done.
+    let fields = render_fields _ _ _ _ path media target chosen (ap Some (ap asked_of (sym c.in-Render.is) ∙ request)) in
+    subst (λ (by : Chosen). IsAnswered (RendersBy g.S.Shelf g.B.Bench c.args.command.jobs by c.args.list.now
+    c.args.shelf.now c.answer_chosen_render.new.shelf c.args.bench.now c.answer_chosen_render.new.bench) rendered_lines
+    g.O.Console c.args.terminal.now.out.now c.answer_chosen_render.new.terminal.out.now c.answer_chosen_render.result) fields.3
+    (c.answer_chosen_render.ensures.rendered done)
+
+pub returns-in-Render-clause-bad_time : goal.returns-in-Render-clause-bad_time
+returns-in-Render-clause-bad_time g c path media target chosen option request failed =
+    let fields = render_fields _ _ _ _ path media target chosen (ap Some (ap asked_of (sym c.in-Render.is) ∙ request)) in
+    c.answer_chosen_render.ensures.bad_time option (ap (values_of (rate_of c.args.list.now)) fields.3 ∙ failed)
+
+pub returns-in-Render-clause-mistake : goal.returns-in-Render-clause-mistake
+returns-in-Render-clause-mistake g c = λ two.
+    subst (λ (asked : Asked). MayBeMistaken g.E.Console c.args.terminal.now.err.now c.answer_chosen_render.new.terminal.err.now
+    (rate_of c.args.list.now) asked) (ap asked_of (sym c.in-Render.is)) (c.answer_chosen_render.ensures.mistake two)
+
+pub returns-in-Resume-clause-resumed : goal.returns-in-Resume-clause-resumed
+returns-in-Resume-clause-resumed g c path media target chosen request = λ done.
+    let fields = resume_fields _ _ _ _ path media target chosen (ap Some (ap asked_of (sym c.in-Resume.is) ∙ request)) in
+    subst (λ (by : Chosen). IsAnswered (ResumesBy g.S.Shelf g.B.Bench c.args.command.jobs by c.args.list.now
+    c.args.shelf.now c.answer_chosen_resume.new.shelf c.args.bench.now c.answer_chosen_resume.new.bench) resumed_lines
+    g.O.Console c.args.terminal.now.out.now c.answer_chosen_resume.new.terminal.out.now c.answer_chosen_resume.result) fields.3
+    (c.answer_chosen_resume.ensures.resumed done)
+
+pub returns-in-Resume-clause-bad_time_resumed : goal.returns-in-Resume-clause-bad_time_resumed
+returns-in-Resume-clause-bad_time_resumed g c path media target chosen option request failed =
+    let fields = resume_fields _ _ _ _ path media target chosen (ap Some (ap asked_of (sym c.in-Resume.is) ∙ request)) in
+    c.answer_chosen_resume.ensures.bad_time option (ap (values_of (rate_of c.args.list.now)) fields.3 ∙ failed)
+
+pub returns-in-Resume-clause-mistake : goal.returns-in-Resume-clause-mistake
+returns-in-Resume-clause-mistake g c = λ two.
+    subst (λ (asked : Asked). MayBeMistaken g.E.Console c.args.terminal.now.err.now c.answer_chosen_resume.new.terminal.err.now
+    (rate_of c.args.list.now) asked) (ap asked_of (sym c.in-Resume.is)) (c.answer_chosen_resume.ensures.mistake two)
 
 pub returns-in-Consolidate-clause-consolidated : goal.returns-in-Consolidate-clause-consolidated
 returns-in-Consolidate-clause-consolidated g c place media target handle report request =
