@@ -1,2 +1,3 @@
+mod InFolders
 mod Refused
 mod Timed
