@@ -1,5 +1,5 @@
 -- What it is that a command comes to its stores, or doesn't.
-use Rattle.std.specs.Prelude.{◌≡◌, ◌≢◌, ◌⊎◌, ℕ, false, List, codes, Result, Ok, Err}
+use Rattle.std.specs.Prelude.{◌≡◌, ◌≢◌, ◌⊎◌, ℕ, Bool, true, false, List, codes, Result, Ok, Err, ⊤}
 use Rattle.devices.specs.declared.source.Shelf as source
 use Rattle.shelf.specs.Folder.{OutputFolder, SourceFolder, folder_named}
 use Rattle.shelf.specs.declared.Overwrite.{Overwrite}
@@ -7,7 +7,7 @@ use Rattle.shelf.specs.declared.Overwrite.TheVariants.{Files, Never}
 use Rattle.commandline.specs.declared.choice.MediaReport.{MediaReport}
 use Rattle.clap.specs.Walk.{Text}
 use Rattle.rendering.specs.declared.job_length.JobLength.TheVariants.{Longer}
-use Rattle.commandline.specs.CommandLine.{Asked, Chosen, Compare, Consolidate, Render, Resume, Selected}
+use Rattle.commandline.specs.CommandLine.{Asked, Chosen, Check, Report, Render, Resume, Consolidate, Compare, Show, Explain, ExplainNotice, Selected}
 use Rattle.list_terms.specs.Text.{rate_of}
 use Rattle.devices.specs.declared.bench.Bench as output
 use Rattle.sound_terms.specs.Passes.{standard_groups}
@@ -172,3 +172,31 @@ abbrev pub CantBeDone : {E : Type 0} → console.Ghosts E → (old new : E) → 
 CantBeDone err old new (Compare list media other other_media selected) =
     (text : List ℕ) × NamesBadTime err old new (selection_of (rate_of text) selected)
 CantBeDone err old new asked = (text : List ℕ) × MayBeMistaken err old new (rate_of text) asked
+
+-- The command that is asked for was called over the list and the folders that it names, and its answer is printed; or
+-- what kept it from them is. What is consolidated is compared with the list where that is asked for too.
+abbrev pub AnswersInFolders : {O : Type 0} → source.Ghosts SourceFolder → output.Ghosts OutputFolder → console.Ghosts O
+    → (is_verified : Bool) → (old new : O) → (status : ℕ) → Asked → Type 0
+AnswersInFolders shelf bench out is_verified old new status (Check list media) =
+    IsUnread out list old new status ⊎ (text : List ℕ) × ChecksFolder shelf out text media old new status
+AnswersInFolders shelf bench out is_verified old new status (Report list media) =
+    IsReportUnread out list old new status ⊎ (text : List ℕ) × ReportsFolder shelf out text media old new status
+AnswersInFolders shelf bench out is_verified old new status (Render list media target chosen) =
+    status ≢ 2 → IsKeptOut out list target old new status
+    ⊎ WorksInFolders Never (RendersBy shelf bench Longer chosen) rendered_lines out media target old new status
+AnswersInFolders shelf bench out is_verified old new status (Resume list media target chosen) =
+    status ≢ 2 → IsKeptOut out list target old new status
+    ⊎ WorksInFolders Files (ResumesBy shelf bench Longer chosen) resumed_lines out media target old new status
+AnswersInFolders shelf bench out false old new status (Consolidate list media target handle form) =
+    IsKeptOut out list target old new status
+    ⊎ WorksInFolders Never (λ given. IsConsolidation shelf bench standard_groups given handle (asking form given))
+    written_lines out media target old new status
+AnswersInFolders shelf bench out true old new status (Consolidate list media target handle form) =
+    IsKeptOut out list target old new status
+    ⊎ VerifiesInFolders shelf bench out handle form media target old new status
+AnswersInFolders shelf bench out is_verified old new status (Compare list media other other_media selected) =
+    status ≢ 2 → IsOneUnread out list other old new status
+    ⊎ ComparesFolders shelf out selected media other_media old new status
+AnswersInFolders shelf bench out is_verified old new status (Show list media handle drawn) = ⊤
+AnswersInFolders shelf bench out is_verified old new status (Explain number) = ⊤
+AnswersInFolders shelf bench out is_verified old new status (ExplainNotice number) = ⊤

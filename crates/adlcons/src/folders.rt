@@ -15,7 +15,7 @@ ghost use Rattle.answers.specs.Answers.{RendersBy, ResumesBy, asking, rendered_l
 ghost use Rattle.list_terms.specs.Text.{rate_of};
 ghost use Rattle.answers.specs.Answers.{MayBeMistaken};
 ghost use Rattle.answers.specs.Mistaken.{AreMistaken};
-ghost use Rattle.adlcons.specs.Openings.{AnswersWriting, CantBeDone, ChecksFolder, ComparesFolders, IsKeptOut, IsOneUnread, IsReportUnread, IsUnread, ReportsFolder, VerifiesInFolders, WorksInFolders, overwrite_for};
+ghost use Rattle.adlcons.specs.Openings.{AnswersInFolders, AnswersWriting, CantBeDone, ChecksFolder, ComparesFolders, IsKeptOut, IsOneUnread, IsReportUnread, IsUnread, ReportsFolder, VerifiesInFolders, WorksInFolders, overwrite_for};
 ghost use Rattle.shelf.specs.Folder.{folder_named};
 ghost use Rattle.shelf.specs.declared.Overwrite.TheVariants as overwrite;
 
@@ -113,7 +113,27 @@ where
         verifies: parsed.verifies,
     };
     let session = &Session { rt, manner, line };
-    match parsed.request {
+    answer_parsed(session, parsed.request, out, err)
+}
+
+/// Answers the request over the list and the folders that it names, with a status.
+fn answer_parsed<R, O: Console, E: Console, L: Progress>(
+    session: &Session<'_, R, L>,
+    request: Request<'_>,
+    out: &mut O,
+    err: &mut E,
+) -> u8
+where
+    R: Files + Input + AllocGlobal + Clone + Drop,
+    R::File: FileExt + Lock,
+    ensures answered { AnswersInFolders ⟦<ShownShelf<'static, R, L> as devices::Shelf>⟧
+        ⟦<FolderBench<R> as devices::Bench>⟧ O.Console session.now.manner.verifies out.old out.new result
+        (asked_of request.entry) }
+    ensures statuses { result ≤ 2 }
+    ensures mistake { result ≡ 2 → CantBeDone E.Console err.old err.new (asked_of request.entry) }
+    ensures two { result ≡ 2 → out.new ≡ out.old }
+{
+    match request {
         Request::Explain(number) => explain(number, out, err),
         Request::ExplainNotice(number) => explain_notice(number, out, err),
         Request::Check(list, media) => check_folder(session, list, media, out, err),
@@ -153,16 +173,9 @@ fn consolidate_folders<R, O: Console, E: Console, L: Progress>(
 where
     R: Files + Input + AllocGlobal + Clone + Drop,
     R::File: FileExt + Lock,
-    ensures consolidated { session.now.manner.verifies ≡ false
-        → IsKeptOut O.Console places.entry.list.now places.entry.out.now out.old out.new result
-        ⊎ WorksInFolders overwrite.Never
-        (λ list. IsConsolidation ⟦<ShownShelf<'static, R, L> as devices::Shelf>⟧ ⟦<FolderBench<R> as devices::Bench>⟧ standard_groups
-        list handle (asking report list))
-        written_lines O.Console places.entry.media.now places.entry.out.now out.old out.new result }
-    ensures verified { session.now.manner.verifies ≡ true
-        → IsKeptOut O.Console places.entry.list.now places.entry.out.now out.old out.new result
-        ⊎ VerifiesInFolders ⟦<ShownShelf<'static, R, L> as devices::Shelf>⟧ ⟦<FolderBench<R> as devices::Bench>⟧ O.Console handle
-        report places.entry.media.now places.entry.out.now out.old out.new result }
+    ensures answered { AnswersInFolders ⟦<ShownShelf<'static, R, L> as devices::Shelf>⟧
+        ⟦<FolderBench<R> as devices::Bench>⟧ O.Console session.now.manner.verifies out.old out.new result
+        (asked.Consolidate places.entry.list.now places.entry.media.now places.entry.out.now handle report) }
     ensures statuses { result ≤ 1 }
 {
     if session.manner.verifies {

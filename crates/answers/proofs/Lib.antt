@@ -1,3 +1,2 @@
-pub mod Drawn
 mod Rates
 pub mod Tables

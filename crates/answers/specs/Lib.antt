@@ -1,4 +1,5 @@
 pub mod Answers
 pub mod Mistaken
 pub mod MistakenLaws
+pub mod Requests
 pub mod Times

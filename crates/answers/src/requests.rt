@@ -20,6 +20,7 @@ ghost use Rattle.answers.specs.Answers.{IsAnswered, IsChecked, IsReportPrinted, 
 ghost use Rattle.asides.specs.Terminals.{GivesBack};
 ghost use Rattle.verdicts.specs.BadTime.{name_of};
 ghost use Rattle.answers.specs.Mistaken.{no_memory_line};
+ghost use Rattle.answers.specs.Requests.{AnswersAsked};
 ghost use Rattle.checkreport.specs.Reported.{IsReported};
 ghost use Rattle.verdicts.specs.Times.{bad_time_line};
 ghost use Rattle.verdicts.specs.Verdicts.{NamesBadTime};
@@ -147,6 +148,38 @@ pub fn answer_request<
         × Prints E.contents E.failures terminal.old.err.now terminal.new.err.now (bad_time_line option) }
     ensures picture_writes_nothing { (path media : Text) (handle : ℕ) (drawn : asked.Drawn)
         → asked_of command.entry.request ≡ asked.Show path media handle drawn → bench.new ≡ bench.old }
+{
+    carry_out(alloc, command, list, shelf, bench, terminal)
+}
+
+/// Runs the command that is asked for, and answers by what that is.
+fn carry_out<S: Shelf + Reasons, B: Bench + Reasons, O: Console, E: Console, M: Meter, A: Asides>(
+    alloc: Global,
+    command: Command<'_>,
+    list: &[u8],
+    shelf: &mut S,
+    bench: &mut B,
+    terminal: &mut Terminal<O, E, M, A>,
+) -> u8
+    ensures consoles { GivesBack terminal.old terminal.new }
+    ensures answered { AnswersAsked S.Shelf B.Bench O.Console E.Console command.entry.jobs
+        (left_by (λ pass. looking pass) (λ pass. gives pass) command.entry.passes.items) list.now
+        (record {
+          shelf_old = shelf.old;
+          shelf_new = shelf.new;
+          bench_old = bench.old;
+          bench_new = bench.new;
+          out_old = terminal.old.out.now;
+          out_new = terminal.new.out.now;
+          err_old = terminal.old.err.now;
+          err_new = terminal.new.err.now;
+        }) result (asked_of command.entry.request) }
+    ensures statuses { result ≤ 2 }
+    ensures mistake { result ≡ 2
+        → MayBeMistaken E.Console terminal.old.err.now terminal.new.err.now (rate_at list.now)
+        (asked_of command.entry.request) }
+    ensures two { result ≡ 2
+        → (shelf.new ≡ shelf.old) × (bench.new ≡ bench.old) × (terminal.new.out.now ≡ terminal.old.out.now) }
 {
     let Command {
         request,

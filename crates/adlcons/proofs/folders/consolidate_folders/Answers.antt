@@ -9,9 +9,12 @@ at_most_one status few never = elim (eq-or-lt_of_le few) [
   | inr less ↦ omega (arith, less)
 ]
 
-pub returns-clause-consolidated : goal.returns-clause-consolidated
-returns-clause-consolidated g c = λ plain.
-    c.work_in_folders.ensures.consolidated _ _ _ c.args.handle c.args.report refl
+pub returns-then-session-clause-answered : goal.returns-then-session-clause-answered
+returns-then-session-clause-answered g c = rw c.if-session.true c.verify_in_folders.ensures.answered
+
+pub returns-clause-answered : goal.returns-clause-answered
+returns-clause-answered g c =
+    rw c.if-session.false (c.work_in_folders.ensures.consolidated _ _ _ c.args.handle c.args.report refl)
 
 pub returns-clause-statuses : goal.returns-clause-statuses
 returns-clause-statuses g c =
