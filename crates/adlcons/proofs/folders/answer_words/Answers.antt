@@ -1,4 +1,4 @@
-use Rattle.std.proofs.Common.{◌≡◌, ◌∙◌, ℕ, Bool, Some, false, inl, inr, subst, sym, true}
+use Rattle.std.proofs.Common.{◌≡◌, ◌∙◌, ℕ, Bool, false, inl, inr, subst, sym, true}
 use Rattle.devices.specs.declared.source.Shelf as source
 use Rattle.devices.specs.declared.bench.Bench as output
 use Rattle.shelf.specs.Folder.{OutputFolder, SourceFolder}
@@ -6,13 +6,11 @@ use Rattle.clap.specs.Walk.{texts}
 use Rattle.clap.specs.Words.{kind_of}
 use Rattle.commandline.specs.CommandLine.{Asked}
 use Rattle.commandline.specs.Request.{asked_of}
+use Rattle.commandline.specs.RequestLaws.{same_asked}
 use Rattle.console.specs.declared.console.Console as console
 use Rattle.answers.specs.MistakenLaws.{mistaken_words}
 use Rattle.adlcons.specs.Openings.{AnswersInFolders, CantBeDone}
 use Rattle.adlcons.proofs.folders.answer_words.Goals as goal
-
-same : (one other : Asked) → Some one ≡ Some other → one ≡ other
-same one other is = cc
 
 -- whether what is written is compared is said in words
 verifying : {O : Type 0} (shelf : source.Ghosts SourceFolder) (bench : output.Ghosts OutputFolder)
@@ -23,37 +21,37 @@ verifying shelf bench out old new status asked given said is answered = rw (sym 
 
 pub returns-clause-checked : goal.returns-clause-checked
 returns-clause-checked g c list media request = λ done.
-    subst (AnswersInFolders _ _ _ _ _ _ _) (same _ _ (sym c.in-Ok.ensures.read ∙ request))
+    subst (AnswersInFolders _ _ _ _ _ _ _) (same_asked _ _ (sym c.in-Ok.ensures.read ∙ request))
     c.answer_parsed.ensures.answered
 
 pub returns-clause-reported : goal.returns-clause-reported
 returns-clause-reported g c list media request = λ done.
-    subst (AnswersInFolders _ _ _ _ _ _ _) (same _ _ (sym c.in-Ok.ensures.read ∙ request))
+    subst (AnswersInFolders _ _ _ _ _ _ _) (same_asked _ _ (sym c.in-Ok.ensures.read ∙ request))
     c.answer_parsed.ensures.answered
 
 pub returns-clause-rendered : goal.returns-clause-rendered
 returns-clause-rendered g c list media target chosen request =
-    subst (AnswersInFolders _ _ _ _ _ _ _) (same _ _ (sym c.in-Ok.ensures.read ∙ request))
+    subst (AnswersInFolders _ _ _ _ _ _ _) (same_asked _ _ (sym c.in-Ok.ensures.read ∙ request))
     c.answer_parsed.ensures.answered
 
 pub returns-clause-resumed : goal.returns-clause-resumed
 returns-clause-resumed g c list media target chosen request =
-    subst (AnswersInFolders _ _ _ _ _ _ _) (same _ _ (sym c.in-Ok.ensures.read ∙ request))
+    subst (AnswersInFolders _ _ _ _ _ _ _) (same_asked _ _ (sym c.in-Ok.ensures.read ∙ request))
     c.answer_parsed.ensures.answered
 
 pub returns-clause-compared : goal.returns-clause-compared
 returns-clause-compared g c list media other other_media selected request =
-    subst (AnswersInFolders _ _ _ _ _ _ _) (same _ _ (sym c.in-Ok.ensures.read ∙ request))
+    subst (AnswersInFolders _ _ _ _ _ _ _) (same_asked _ _ (sym c.in-Ok.ensures.read ∙ request))
     c.answer_parsed.ensures.answered
 
 pub returns-clause-consolidated : goal.returns-clause-consolidated
 returns-clause-consolidated g c list media target handle form request plain = λ done.
-    subst (AnswersInFolders _ _ _ false _ _ _) (same _ _ (sym c.in-Ok.ensures.read ∙ request))
+    subst (AnswersInFolders _ _ _ false _ _ _) (same_asked _ _ (sym c.in-Ok.ensures.read ∙ request))
     (verifying _ _ _ _ _ _ _ _ _ (c.in-Ok.ensures.verify ∙ plain) c.answer_parsed.ensures.answered)
 
 pub returns-clause-verified : goal.returns-clause-verified
 returns-clause-verified g c list media target handle form request asked = λ done.
-    subst (AnswersInFolders _ _ _ true _ _ _) (same _ _ (sym c.in-Ok.ensures.read ∙ request))
+    subst (AnswersInFolders _ _ _ true _ _ _) (same_asked _ _ (sym c.in-Ok.ensures.read ∙ request))
     (verifying _ _ _ _ _ _ _ _ _ (c.in-Ok.ensures.verify ∙ asked) c.answer_parsed.ensures.answered)
 
 pub returns-clause-mistake : goal.returns-clause-mistake

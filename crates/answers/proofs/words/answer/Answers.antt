@@ -1,15 +1,13 @@
-use Rattle.std.proofs.Common.{◌≡◌, ◌∙◌, ◌⊎◌, Some, true, inl, inr, sym}
+use Rattle.std.proofs.Common.{◌≡◌, ◌∙◌, ◌⊎◌, true, inl, inr, sym}
 use Rattle.clap.specs.Walk.{texts}
 use Rattle.clap.specs.Words.{kind_of}
 use Rattle.commandline.specs.CommandLine.{Asked, verifies}
 use Rattle.commandline.specs.Request.{asked_of}
+use Rattle.commandline.specs.RequestLaws.{same_asked}
 use Rattle.list_terms.specs.Text.{rate_of}
 use Rattle.answers.specs.Answers.{MayBeMistaken}
 use Rattle.answers.specs.MistakenLaws.{mistaken_words}
 use Rattle.answers.proofs.words.answer.Goals as goal
-
-asked_same : (one other : Asked) → Some one ≡ Some other → one ≡ other
-asked_same one other same = cc
 
 pub returns-in-Err-clause-mistake : goal.returns-in-Err-clause-mistake
 returns-in-Err-clause-mistake g c = λ two.
@@ -29,4 +27,4 @@ returns-clause-consolidated g c place media target handle report request well =
     c.out-1.given.1 (sym c.answer_request.ensures.consoles.0) in
     rw same
     (c.answer_request.ensures.consolidated place media target handle report
-    (asked_same _ _ (sym c.in-Ok.ensures.read ∙ request)))
+    (same_asked _ _ (sym c.in-Ok.ensures.read ∙ request)))
