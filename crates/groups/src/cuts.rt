@@ -6,7 +6,8 @@ ghost use Rattle.sound_terms.specs.Groups.{IsGroup, IsPiece, mix_of, reads};
 ghost use Rattle.groups.specs.Apart.{IsApart};
 ghost use Rattle.sound_terms.specs.Passes.{as_group, cut_group, cut_groups, piece_before, piece_behind};
 
-use crate::{Group, IntervalFault, Intervals, Piece, Pieces};
+use crate::pieces::{Pieces, group_from, group_pieces};
+use crate::{Group, IntervalFault, Intervals, Piece};
 use sampletime::SampleTime;
 use std::alloc::AllocError;
 
@@ -54,7 +55,7 @@ fn push_some(groups: &mut Vec<Group>, pieces: Pieces) -> Result<(), AllocError>
     requires sound { All IsPiece pieces.items }
     ensures { OnOk result (groups.new.items ≡ groups.old.items ++ as_group pieces.items) }
 {
-    if let Some(group) = Group::of(pieces) {
+    if let Some(group) = group_from(pieces) {
         groups.push(group)?;
     }
     Ok(())
@@ -77,34 +78,32 @@ struct Cut {
     after: Pieces,
 }
 
-impl Group {
-    /// What of the pieces lies before this time, and what from it on.
-    fn cut(&self, time: u64) -> Result<Cut, AllocError>
-        ensures before { IfOk result (λ cut. cut.before.items ≡ flat_map (piece_before time) self.now) }
-        ensures after { IfOk result (λ cut. cut.after.items ≡ flat_map (piece_behind time) self.now) }
-        ensures group { IsGroup self.now }
-        ensures sound { All IsPiece self.now }
-    {
-        let alloc = self.allocator();
-        let mut cut = Cut {
-            before: Pieces::new(alloc),
-            after: Pieces::new(alloc),
-        };
-        for piece in self.pieces().as_slice() {
-            push_piece(&mut cut.before, before(piece, time))?;
-            push_piece(&mut cut.after, after(piece, time))?;
-        }
-        Ok(cut)
+/// What of the pieces of a group lies before this time, and what from it on.
+fn cut_pieces(group: &Group, time: u64) -> Result<Cut, AllocError>
+    ensures before { IfOk result (λ cut. cut.before.items ≡ flat_map (piece_before time) group.now) }
+    ensures after { IfOk result (λ cut. cut.after.items ≡ flat_map (piece_behind time) group.now) }
+    ensures group { IsGroup group.now }
+    ensures sound { All IsPiece group.now }
+{
+    let alloc = group.allocator();
+    let mut cut = Cut {
+        before: Pieces::new(alloc),
+        after: Pieces::new(alloc),
+    };
+    for piece in group_pieces(group).as_slice() {
+        push_piece(&mut cut.before, before(piece, time))?;
+        push_piece(&mut cut.after, after(piece, time))?;
     }
+    Ok(cut)
+}
 
-    /// Adds both sides of the group, those that aren't empty, to these groups.
-    fn push_cut(&self, time: u64, groups: &mut Vec<Group>) -> Result<(), AllocError>
-        ensures { OnOk result (groups.new.items ≡ groups.old.items ++ cut_group time self.now) }
-    {
-        let Cut { before, after } = self.cut(time)?;
-        push_some(groups, before)?;
-        push_some(groups, after)
-    }
+/// Adds both sides of a group, those that aren't empty, to these groups.
+fn push_cut(group: &Group, time: u64, groups: &mut Vec<Group>) -> Result<(), AllocError>
+    ensures { OnOk result (groups.new.items ≡ groups.old.items ++ cut_group time group.now) }
+{
+    let Cut { before, after } = cut_pieces(group, time)?;
+    push_some(groups, before)?;
+    push_some(groups, after)
 }
 
 impl Intervals {
@@ -114,7 +113,7 @@ impl Intervals {
     {
         let mut sides = Vec::new(self.allocator());
         for group in self.groups() {
-            group.push_cut(time, &mut sides)?;
+            push_cut(group, time, &mut sides)?;
         }
         Ok(sides)
     }

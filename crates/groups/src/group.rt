@@ -7,13 +7,9 @@ ghost use Rattle.sound_terms.specs.Passes.{is_followed_by, lengthened};
 ghost use Rattle.groups.specs.Packed.{pieces_in};
 
 use crate::packed::Packed;
-use smallvec::SmallVec;
 use sound_terms::{Piece, Placed};
 use std::alloc::Global;
 use std::marker::Model;
-
-/// The pieces of a group, which take no memory of their own.
-pub type Pieces = SmallVec<Piece, 3>;
 
 /// One to three pieces that continue one another in destination and source: a rise, a flat part and a fall, each at
 /// most once. A clause sees the list of its pieces.
@@ -47,17 +43,6 @@ impl Group {
         Group { alloc, packed }
     }
 
-    /// These pieces as a group; `None` where there is none.
-    pub(crate) fn of(pieces: Pieces) -> Option<Self>
-        requires group { pieces.items ≢ [] → IsGroup pieces.items }
-        requires sound { All IsPiece pieces.items }
-        ensures pieces { MatchOption result (pieces.items ≡ []) (λ group. group ≡ pieces.items) }
-        ensures formed { IfSome result (λ group. IsGroup group × All IsPiece group) }
-    {
-        let packed = Packed::of(pieces.as_slice())?;
-        Group::from_packed(*pieces.allocator(), packed)
-    }
-
     /// The pieces of this record as a group; `None` where there is none.
     pub(crate) fn from_packed(alloc: Global, packed: Packed) -> Option<Self>
         requires { pieces_in packed ≢ [] → IsGroup (pieces_in packed) × All IsPiece (pieces_in packed) }
@@ -75,16 +60,13 @@ impl Group {
         self.alloc
     }
 
-    /// Its pieces, in order.
-    #[inline(always)]
-    pub fn pieces(&self) -> Pieces
-        ensures pieces { result.items ≡ self.now }
+    /// Its pieces in one record.
+    pub(crate) fn packed(&self) -> Packed
+        ensures pieces { pieces_in result ≡ self.now }
         ensures group { IsGroup self.now }
         ensures sound { All IsPiece self.now }
     {
-        let mut pieces = SmallVec::new(self.alloc);
-        self.packed.push_pieces(&mut pieces);
-        pieces
+        self.packed
     }
 
     /// How many pieces it has.

@@ -5,6 +5,7 @@ ghost use Rattle.sound_terms.specs.Mix.{Reading};
 ghost use Rattle.sound_terms.specs.Groups as spec;
 ghost use Rattle.sound_terms.specs.Groups.{AreGroups, IsGroup, IsPiece, are_whole, in_start_order, mix_of, pieces_of, reads};
 
+use crate::pieces::group_pieces;
 use crate::{Group, Piece, Shape};
 use std::alloc::{AllocError, Global};
 use std::marker::Model;
@@ -83,7 +84,7 @@ impl Intervals {
     {
         let mut pieces = Vec::with_capacity(self.allocator(), self.piece_count())?;
         for group in self.groups() {
-            pieces.extend_from_slice(group.pieces().as_slice())?;
+            pieces.extend_from_slice(group_pieces(group).as_slice())?;
         }
         Ok(pieces)
     }
@@ -108,7 +109,7 @@ impl Intervals {
 fn is_whole_group(group: &Group) -> bool
     ensures { result ≡ list_all spec.is_whole group.now }
 {
-    let pieces = group.pieces();
+    let pieces = group_pieces(group);
     pieces.as_slice().iter().all(is_whole)
 }
 

@@ -7,10 +7,12 @@ mod group;
 mod intervals;
 mod packed;
 mod parts;
+mod pieces;
 mod placed;
 
 pub use fault::IntervalFault;
-pub use group::{Group, Pieces};
+pub use group::Group;
 pub use intervals::Intervals;
 pub use parts::group_of;
+pub use pieces::{Pieces, group_pieces};
 pub use sound_terms::{Piece, Placed, Shape};

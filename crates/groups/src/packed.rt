@@ -6,7 +6,7 @@ ghost use Rattle.sound_terms.specs.Groups.{IsGroup, IsPiece, start_of};
 ghost use Rattle.sound_terms.specs.Passes.{is_followed_by, lengthened};
 ghost use Rattle.groups.specs.Packed.{fall_in, flat_in, piece_in, pieces_in, rise_in};
 
-use crate::{Piece, Pieces, Placed, Shape};
+use crate::{Piece, Placed, Shape};
 
 /// A ramp of a group, in samples: `length` of them, from sample `offset` on of the `den` that it had as a whole. Where
 /// the group has no such ramp its length is 0.
@@ -160,7 +160,7 @@ impl Packed {
 
     /// Its rise.
     #[inline(always)]
-    fn rising(&self) -> Piece
+    pub fn rising(&self) -> Piece
         ensures { result ≡ rise_in self.now }
     {
         let shape = Shape::Rise {
@@ -172,7 +172,7 @@ impl Packed {
 
     /// Its flat part.
     #[inline(always)]
-    fn flat(&self) -> Piece
+    pub fn flat(&self) -> Piece
         ensures { result ≡ flat_in self.now }
     {
         self.part(u64::from(self.rise.length), self.middle, Shape::Flat)
@@ -180,7 +180,7 @@ impl Packed {
 
     /// Its fall.
     #[inline(always)]
-    fn falling(&self) -> Piece
+    pub fn falling(&self) -> Piece
         ensures { result ≡ fall_in self.now }
     {
         let shape = Shape::Fall {
@@ -216,24 +216,6 @@ impl Packed {
             self.flat()
         } else {
             self.rising()
-        }
-    }
-
-    /// Adds its pieces, in order, where none are yet.
-    #[inline(always)]
-    pub fn push_pieces(&self, pieces: &mut Pieces)
-        requires none { pieces.old.items ≡ [] }
-        requires room { 3 ≤ pieces.old.capacity }
-        ensures { pieces.new.items ≡ pieces_in self.now }
-    {
-        if self.rise.length > 0 {
-            pieces.push_reserved(self.rising());
-        }
-        if self.middle > 0 {
-            pieces.push_reserved(self.flat());
-        }
-        if self.fall.length > 0 {
-            pieces.push_reserved(self.falling());
         }
     }
 

@@ -3,5 +3,7 @@
 
 mod sound;
 
-pub use groups::{Group, IntervalFault, Intervals, Piece, Pieces, Placed, Shape, group_of};
+pub use groups::{
+    Group, IntervalFault, Intervals, Piece, Pieces, Placed, Shape, group_of, group_pieces,
+};
 pub use sound::from_checked;

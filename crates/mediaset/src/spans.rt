@@ -5,7 +5,7 @@ ghost use Rattle.sound_terms.specs.Groups.{IsPiece, pieces_of};
 ghost use Rattle.mediaset.specs.Spans as spec;
 ghost use Rattle.mediaset.specs.Spans.{gathered, put_span};
 
-use groups::{Intervals, Piece};
+use groups::{Intervals, Piece, group_pieces};
 use sound_terms::Homes;
 use std::alloc::{AllocError, Global};
 
@@ -101,7 +101,7 @@ pub fn spans_of(
 {
     let mut spans = Vec::with_capacity(alloc, intervals.piece_count())?;
     for group in intervals.groups() {
-        push_spans(group.pieces().as_slice(), homes, handle, &mut spans)?;
+        push_spans(group_pieces(group).as_slice(), homes, handle, &mut spans)?;
     }
     Ok(spans)
 }

@@ -5,7 +5,7 @@ ghost use Rattle.sound_terms.specs.Passes as spec;
 ghost use Rattle.passes.specs.Alone.{each_alone};
 
 use crate::{Pass, PassFault};
-use groups::{Group, Intervals};
+use groups::{Group, Intervals, group_pieces};
 use std::alloc::{AllocError, Global};
 
 /// Adds each piece of a group as a group of its own.
@@ -13,7 +13,7 @@ fn push_each(group: &Group, groups: &mut Vec<Group>) -> Result<(), AllocError>
     ensures { OnOk result (groups.new.items ≡ groups.old.items ++ each_alone group.now) }
 {
     let alloc = *groups.allocator();
-    for piece in group.pieces().as_slice() {
+    for piece in group_pieces(group).as_slice() {
         groups.push(Group::alone(alloc, *piece))?;
     }
     Ok(())

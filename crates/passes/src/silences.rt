@@ -6,7 +6,7 @@ ghost use Rattle.sound_terms.specs.Groups.{Agrees, pieces_of};
 ghost use Rattle.sound_terms.specs.Passes.{silences};
 
 use crate::{PassFault, Samples};
-use groups::{Intervals, Piece};
+use groups::{Intervals, Piece, group_pieces};
 use std::alloc::Global;
 
 /// Whether all samples that the piece reads are zero.
@@ -58,7 +58,7 @@ fn ask_groups<P: Samples>(
 {
     let mut silent = Vec::new(alloc);
     for group in intervals.groups() {
-        push_silences(group.pieces().as_slice(), samples, &mut silent)?;
+        push_silences(group_pieces(group).as_slice(), samples, &mut silent)?;
     }
     Ok(silent)
 }

@@ -1,6 +1,6 @@
 // The sound as groups of pieces, and what passes leave of it.
 use anyhow::Result;
-use interval::{Group, IntervalFault, Intervals, Piece, Pieces, Placed, Shape};
+use interval::{Group, IntervalFault, Intervals, Piece, Pieces, Placed, Shape, group_pieces};
 use passes::{DropSilent, JoinCuts, Pass, PassFault, Regroup, Samples, SplitFades, run, silent_of};
 use sampletime::SampleTime;
 use shelf::ShelfFault;
@@ -25,7 +25,7 @@ pub fn one_second(alloc: Global) -> Result<Intervals, AllocError> {
 /// The pieces of the first group.
 pub fn first_pieces(intervals: &Intervals) -> Option<Pieces> {
     let group = intervals.groups().first()?;
-    Some(group.pieces())
+    Some(group_pieces(group))
 }
 
 /// Groups cut at a time.

@@ -4,7 +4,7 @@ ghost use Rattle.std.specs.List.{flat_map};
 ghost use Rattle.sound_terms.specs.Groups.{IsPiece};
 ghost use Rattle.trials_lists.specs.FlatCut as spec;
 
-use groups::{Group, Intervals, Piece, Shape};
+use groups::{Group, Intervals, Piece, Shape, group_pieces};
 use passes::{Pass, PassFault};
 use std::alloc::{AllocError, Global};
 
@@ -20,7 +20,7 @@ fn halves(time: u64, group: &Group) -> Option<(Piece, Piece)>
         (λ halves. spec.flat_cut time group.now ≡ (halves.0 ∷ []) ∷ (halves.1 ∷ []) ∷ []) }
     ensures sound { IfSome result (λ halves. IsPiece halves.0 × IsPiece halves.1) }
 {
-    let pieces = group.pieces();
+    let pieces = group_pieces(group);
     match pieces.as_slice() {
         [piece]
             if piece.shape == Shape::Flat

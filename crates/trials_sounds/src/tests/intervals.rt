@@ -3,7 +3,7 @@ ghost use Rattle.std.specs.Prelude.{◌≡◌, ◌≤◌, ◌+◌, IfOk};
 ghost use Rattle.sampletime.specs.TimeCode.{day};
 ghost use Rattle.sound_terms.specs.Entries.{IsPlayable};
 
-use groups::{Intervals, Piece, Shape, group_of};
+use groups::{Intervals, Piece, Shape, group_of, group_pieces};
 use sampletime::SampleTime;
 use sound_terms::{BoundIndex, Channels, Depth, Event, Fade};
 use soundlaw::{contribution, finish, widen};
@@ -132,7 +132,7 @@ fn an_in_fade_that_is_cut_goes_on_where_it_was(rt: HostRuntime) -> Result<(), Fa
         .iter()
         .zip([(RAMP, [0, 250]), (REST, [500, 750])])
     {
-        let pieces = group.pieces();
+        let pieces = group_pieces(group);
         assert_eq!(rt; pieces.as_slice(), [piece].as_slice());
         assert_eq!(rt; pieces.as_slice().first().and_then(finished), Some(samples));
     }

@@ -1,7 +1,7 @@
 use Rattle.std.proofs.Common.{◌≡◌, take}
 use Rattle.std.specs.List.{flat_map}
 use Rattle.sound_terms.specs.Passes.{piece_before, piece_behind}
-use Rattle.groups.proofs.group.Group.cut.Given as goal
+use Rattle.groups.proofs.cuts.cut_pieces.Given as goal
 
 abbrev pub invariant-loop-piece : goal.invariant-loop-piece
 invariant-loop-piece l =
