@@ -32,8 +32,9 @@ pub record Around (S B O E : Type 0) : Type 0 where
   pub err_old : E
   pub err_new : E
 
--- The command that is asked for was called over the list, and its answer is printed. A rendering has jobs of this length,
--- and a consolidation leaves these pieces of the entries; a check, a report and a picture write nothing.
+-- The command that is asked for was called over the list, and its answer is printed, or a time that can't be read is
+-- named. A rendering has jobs of this length, and a consolidation leaves these pieces of the entries; a check, a report, a
+-- picture and an explanation write nothing. Of the picture and of the explanation itself nothing is said.
 abbrev pub AnswersAsked : {S B O E : Type 0} → source.Ghosts S → output.Ghosts B → console.Ghosts O → console.Ghosts E
     → JobLength → Leaving → (list : List ℕ) → Around S B O E → (status : ℕ) → Asked → Type 0
 AnswersAsked shelf bench out err jobs leave list at status (Check path media) =

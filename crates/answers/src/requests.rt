@@ -18,7 +18,6 @@ ghost use Rattle.list_terms.specs.Steps.{ok_map};
 ghost use Rattle.list_terms.specs.Text.{rate_of as rate_at};
 ghost use Rattle.answers.specs.Answers.{IsAnswered, IsChecked, IsReportPrinted, MayBeMistaken, RendersAs, RendersBy, ResumesAs, ResumesBy, accepted_lines, asking, rendered_lines, resumed_lines, written_lines};
 ghost use Rattle.asides.specs.Terminals.{GivesBack};
-ghost use Rattle.verdicts.specs.BadTime.{name_of};
 ghost use Rattle.answers.specs.Mistaken.{no_memory_line};
 ghost use Rattle.answers.specs.Requests.{AnswersAsked};
 ghost use Rattle.checkreport.specs.Reported.{IsReported};

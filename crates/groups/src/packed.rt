@@ -1,5 +1,5 @@
 // The pieces of a group in one record.
-ghost use Rattle.std.specs.Prelude.{◌≡◌, ◌≢◌, ◌≤◌, ◌<◌, ◌-◌, ◌^◌, ◌++◌, ◌∷◌, ◌↔◌, [], IfSome, IsSome, IsTrue, MatchOption, Some, length, slice_get};
+ghost use Rattle.std.specs.Prelude.{◌≡◌, ◌≢◌, ◌<◌, ◌-◌, ◌^◌, ◌++◌, ◌∷◌, ◌↔◌, [], IfSome, IsSome, IsTrue, MatchOption, Some, length, slice_get};
 ghost use Rattle.std.specs.List.{All};
 ghost use Rattle.sound_terms.specs.Entries.{event_of};
 ghost use Rattle.sound_terms.specs.Groups.{IsGroup, IsPiece, start_of};

@@ -1,4 +1,5 @@
-// The pieces of a group in a list of their own. No type names that list, so what is stated of groups reads nothing of it.
+// The pieces of a group in a list of their own. No method of a type names that list, so crates over groups don't read
+// what is stated of it.
 ghost use Rattle.std.specs.Prelude.{◌≡◌, ◌≢◌, ◌≤◌, [], IfSome, MatchOption};
 ghost use Rattle.std.specs.List.{All};
 ghost use Rattle.sound_terms.specs.Groups.{IsGroup, IsPiece};
