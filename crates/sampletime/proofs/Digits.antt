@@ -1,9 +1,9 @@
--- Digits are those of the number that they spell: two of one below 100, four of one below 10000.
+-- Parsed digits are the decimal digits of the number: two for a number below 100, four for a number below 10000.
 use Rattle.std.proofs.Common.{◌≡◌, ℕ, ◌+◌, ◌/◌, ◌%◌, [], ◌∷◌, Some, arith}
 use Rattle.std.proofs.lemmas.Bool.Decides.{nat_tests}
 use Rattle.sampletime.specs.TimeCode.{two_digits, four_digits}
 
--- digits are those of the number that they spell
+-- the two bytes are the decimal digits of n
 pub record AreDigitsOf (n a b : ℕ) : Type 0 where
   pub tens : a ≡ 48 + n / 10
   pub ones : b ≡ 48 + n % 10

@@ -1,11 +1,11 @@
--- The fields of a time: parts of the number of its samples, which they give again.
+-- The fields of a time: quotients and remainders of its samples that add up to the samples again.
 use Rattle.std.proofs.Common.{◌≡◌, ℕ, ◌/◌, ◌%◌, ◌<◌, true, arith}
 use Rattle.std.proofs.lemmas.Bool.Decides.{nat_tests}
 use Rattle.sampletime.specs.FrameRate.{is_rate}
 use Rattle.sampletime.specs.RateLaws.{at_each_rate, frame_of, remainder_of}
 use Rattle.sampletime.specs.TimeCode.{is_in_day, samples_of_parts}
 
--- these are the fields of that many samples
+-- the fields of a time of t samples
 pub record AreFieldsOf (rate t h m s f r : ℕ) : Type 0 where
   pub hours : h ≡ t / 172800000
   pub minutes : m ≡ t / 2880000 % 60

@@ -1,4 +1,4 @@
--- A time text and its samples, there and back.
+-- Parsing and formatting time texts are inverse to each other.
 use Rattle.std.proofs.Common.{◌≡◌, ℕ, ◌≤◌, List, [], ◌∷◌, Option, Some, None, IfSome, Bool, true, false, ◌&&◌, if◌then◌else◌, IsTrue, refl, sym, ap}
 use Rattle.sampletime.specs.TimeCode.{day, are_separators, is_in_day, two_digits, four_digits, time_of_parts, samples_of, samples_of_parts, text_of}
 use Rattle.sampletime.specs.FrameRate.{frames_per_second, is_rate}
@@ -14,7 +14,7 @@ chosen true false x y e = cc
 chosen false b' x y e = cc
 
 module _ (rate : ℕ) (known : is_rate rate ≡ true) where
-  -- parts that have a time are numbers, in the day
+  -- fields that parse to a time are all present and within the day
   record HaveTime (h' m' s' f' r' : Option ℕ) (separators : List ℕ) (t : ℕ) (separators' : List ℕ) : Type 0 where
     hours : ℕ
     minutes : ℕ
@@ -74,7 +74,7 @@ module _ (rate : ℕ) (known : is_rate rate ≡ true) where
       rw p.same cc
   text_of-samples_of _ t separators e = cc
 
--- what a text is read as is written as that text
+-- formatting a parsed time gives the text back
 pub text_is_again :
     (rate : Rate) (text : List ℕ) (time : Option (ℕ × List ℕ)) → time ≡ samples_of (frames_per_second rate) text
     → IfSome time (λ p. text ≡ text_of (frames_per_second rate) p.0 p.1)
@@ -82,7 +82,7 @@ text_is_again rate text None e = tt
 text_is_again rate text (Some p) e =
     text_of-samples_of (frames_per_second rate) (is_rate-of rate) text p.0 p.1 (sym e)
 
--- what a time is written as is read as that time
+-- parsing a formatted time gives the time back
 pub time_is_again :
     (rate : Rate) (text : List ℕ) (t : ℕ) (separators : List ℕ) → text ≡ text_of (frames_per_second rate) t separators
     → t ≤ day → IsTrue (are_separators separators)

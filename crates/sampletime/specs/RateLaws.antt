@@ -1,4 +1,4 @@
--- Laws of the three rates.
+-- Laws that hold at each of the three frame rates.
 use Rattle.std.proofs.Common.{◌≡◌, ℕ, ◌/◌, ◌%◌, ◌<◌, ◌≤◌, Bool, true, false, refl, subst, arith}
 use Rattle.std.specs.Prelude.{◌==◌}
 use Rattle.std.proofs.lemmas.Bool.Decides.{nat_tests}
@@ -15,7 +15,7 @@ is_rate-of Frames30 = refl
 same_number : (a b : ℕ) → (a == b) ≡ true → b ≡ a
 same_number a b h = grind (arith, nat_tests)
 
--- what holds at each of the three rates holds at every rate
+-- a property of all three frame rates holds for every frame rate
 pub at_each_rate :
     (P : ℕ → Type 0) → P 24 → P 25 → P 30 → (rate : ℕ) → is_rate rate ≡ true → P rate
 at_each_rate P a b c rate h = by_tests (rate == 24) refl (rate == 25) refl (rate == 30) refl where
@@ -27,14 +27,15 @@ at_each_rate P a b c rate h = by_tests (rate == 24) refl (rate == 25) refl (rate
   by_tests false e false f true g = subst P (same_number rate 30 g) c
   by_tests false e false f false g = let no : false ≡ true = rw (e, f, g) at h in absurd (cc)
 
--- the frame and the remainder of so many samples
+-- frame within its second, and samples after the last whole frame, of a number of samples
 abbrev pub frame_of : (rate t : ℕ) → ℕ
 frame_of rate t = t / frame_samples rate % rate
 
 abbrev pub remainder_of : (rate t : ℕ) → ℕ
 remainder_of rate t = t % frame_samples rate
 
--- the fields of a moment of the day are in the day, give its samples, and have few digits
+-- the fields of a time of day are within their limits, add up to its samples, and have at most two (remainder: four)
+-- digits
 pub record DividesDay (rate : ℕ) : Type 0 where
   pub in_day :
       (t : ℕ) → t ≤ day

@@ -1,11 +1,11 @@
--- What a time is written as is read as that time.
+-- Formatting a time and parsing the text gives the time back.
 use Rattle.std.proofs.Common.{◌≡◌, ℕ, ◌+◌, ◌/◌, ◌%◌, ◌<◌, ◌≤◌, true, List, [], ◌∷◌, Some, IsTrue, arith}
 use Rattle.std.proofs.lemmas.Bool.Decides.{nat_tests}
 use Rattle.sampletime.specs.FrameRate.{is_rate}
 use Rattle.sampletime.specs.RateLaws.{divides_day, frame_of, remainder_of}
 use Rattle.sampletime.specs.TimeCode.{are_separators, day, four_digits, is_in_day, samples_of, samples_of_parts, text_of, time_of_parts, two_digits}
 
--- the digits of a number spell it
+-- parsing the two digits of a number gives the number
 two_digits-of : (n : ℕ) → n < 100 → two_digits ((48 + n / 10) ∷ (48 + n % 10) ∷ []) ≡ Some n
 two_digits-of n h = grind (arith, nat_tests)
 
@@ -14,14 +14,14 @@ four_digits-of :
     → four_digits ((48 + n / 1000) ∷ (48 + n / 100 % 10) ∷ (48 + n / 10 % 10) ∷ (48 + n % 10) ∷ []) ≡ Some n
 four_digits-of n h = grind (arith, nat_tests)
 
--- fields in the day, between separators, are a time
+-- valid fields with valid separators are a time
 time_of_parts-in_day :
     (rate h m s f r : ℕ) (separators : List ℕ) → is_in_day rate h m s f r ≡ true → are_separators separators ≡ true
     → time_of_parts rate (Some h) (Some m) (Some s) (Some f) (Some r) separators
     ≡ Some (samples_of_parts rate h m s f r, separators)
 time_of_parts-in_day rate h m s f r separators i e = rw (i, e)
 
--- the samples and separators of a written time
+-- parsing a formatted time gives its samples and separators
 pub samples_of-text_of :
     (rate t : ℕ) (separators : List ℕ) → IsTrue (is_rate rate) → t ≤ day → IsTrue (are_separators separators)
     → samples_of rate (text_of rate t separators) ≡ Some (t, separators)

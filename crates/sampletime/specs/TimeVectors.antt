@@ -1,8 +1,8 @@
--- Worked times at each rate. Each is computed from the definitions.
+-- Worked times at each frame rate, computed from the definitions.
 use Rattle.std.specs.Prelude.{◌≡◌, refl, ℕ, List, [], ◌∷◌, map, Option, None, Some, option_map, codes}
 use Rattle.sampletime.specs.TimeCode.{samples_of, text_of}
 
--- the samples of time texts, whatever parts their fields
+-- samples of each time text, ignoring the separators
 abbrev samples_at : ℕ → List (List ℕ) → List (Option ℕ)
 samples_at rate texts = map (λ text. option_map (λ time. time.0) (samples_of rate text)) texts
 
@@ -21,7 +21,7 @@ pub at_30 : samples_at 30 (codes "00.00.00.29/1599" ∷ codes "00.00.00.00/1600"
     ≡ Some 47999 ∷ None ∷ Some 1920 ∷ Some 4147200000 ∷ None ∷ []
 at_30 = refl
 
--- one moment at each rate, ten samples before a second ends
+-- one time at each frame rate, ten samples before a second ends
 pub written : map (λ rate. text_of rate 239990 (codes ".../")) (24 ∷ 25 ∷ 30 ∷ [])
     ≡ codes "00.00.04.23/1990" ∷ codes "00.00.04.24/1910" ∷ codes "00.00.04.29/1590" ∷ []
 written = refl

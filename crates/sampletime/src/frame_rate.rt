@@ -1,9 +1,10 @@
-// The rates at which frames are counted.
+// Frame rates of time code.
 ghost use Rattle.std.specs.Prelude.{◌≡◌, ◌≤◌, ◌*◌, ◌/◌, ◌%◌, IsTrue};
 ghost use Rattle.sampletime.specs.FrameRate.{frames_per_second, is_rate};
 ghost use Rattle.sampletime.specs.TimeCode.{frame_samples};
 
-/// How many frames a second has. At 48000 samples a second a frame has 2000, 1920 or 1600 of them.
+/// A time-code frame rate: 24, 25 or 30 frames per second. At 48,000 samples per second a frame has 2000, 1920 or 1600
+/// samples.
 #[derive(Clone, Copy, Debug, PartialEq, Eq)]
 pub enum Rate {
     Frames24,
@@ -12,7 +13,7 @@ pub enum Rate {
 }
 
 impl Rate {
-    /// The frames of a second: 24, 25 or 30.
+    /// Returns the number of frames per second: 24, 25 or 30.
     pub fn frames_per_second(self) -> u8
         ensures frames { result ≡ frames_per_second self }
         ensures known { IsTrue (is_rate result) }
@@ -25,7 +26,7 @@ impl Rate {
         }
     }
 
-    /// The samples of a frame: 2000, 1920 or 1600.
+    /// Returns the number of samples per frame: 2000, 1920 or 1600.
     pub fn samples_per_frame(self) -> u16
         ensures samples { result ≡ frame_samples (frames_per_second self) }
         ensures few { result ≤ 2000 }
@@ -37,7 +38,7 @@ impl Rate {
         }
     }
 
-    /// The samples of so many frames.
+    /// Returns the number of samples in `frames` frames.
     pub(crate) fn samples_of_frames(self, frames: u8) -> u64
         ensures samples { result ≡ frames * frame_samples (frames_per_second self) }
         ensures few { result ≤ 510000 }
@@ -50,7 +51,7 @@ impl Rate {
         }
     }
 
-    /// The frame of its second that so many samples lead into.
+    /// Returns the number of the frame within its second that contains the given sample.
     pub(crate) fn frame_in_second(self, samples: u64) -> u8
         ensures frame { result ≡ samples / frame_samples (frames_per_second self) % frames_per_second self }
         ensures few { result ≤ 29 }
@@ -62,7 +63,7 @@ impl Rate {
         }
     }
 
-    /// The samples behind the last whole frame.
+    /// Returns the number of samples after the last whole frame.
     pub(crate) fn remainder_of(self, samples: u64) -> u16
         ensures remainder { result ≡ samples % frame_samples (frames_per_second self) }
         ensures few { result ≤ 1999 }

@@ -1,8 +1,9 @@
-//! AES31 time code at 48000 samples a second: the text `hh:mm:ss:ff/rrrr` and the number of samples that it means.
+//! AES31 time code at 48,000 samples per second: the text `hh:mm:ss:ff/rrrr` and the number of samples since midnight.
 //!
-//! A day has 4,147,200,000 samples. A second has 24, 25 or 30 frames, of 2000, 1920 or 1600 samples, so the last field,
-//! the remainder, goes from 0000 to 1999, 1919 or 1599. Each of the four separators is one of `:`, `;`, `.`, `,`, `|`, `=` and `/`; what a separator
-//! says beyond that isn't interpreted. The day's end, 24 hours and all else zero, is a time too.
+//! A day has 4,147,200,000 samples. A second has 24, 25 or 30 frames of 2000, 1920 or 1600 samples, so the last field,
+//! the remainder, ranges from 0000 to 1999, 1919 or 1599. Each of the four separators is one of `:`, `;`, `.`, `,`,
+//! `|`, `=` and `/`; any further meaning of a separator is ignored. The end of the day, 24 hours with all other fields
+//! zero, is also a valid time.
 #![tactic(auto)]
 
 ghost use Rattle.std.specs.Prelude.{◌≡◌, ◌≤◌, ◌<◌, ◌+◌, ◌/◌, ◌%◌, [], ◌∷◌, SomeIff, IsTrue, IfSome};
@@ -19,7 +20,7 @@ const SAMPLES_PER_SECOND: u64 = 48_000;
 
 const SAMPLES_PER_DAY: u64 = 24 * 60 * 60 * SAMPLES_PER_SECOND;
 
-/// A moment of a day, or a length of at most a day, in samples at 48000 a second: 0 to [`SampleTime::DAY`].
+/// A time of day or a duration of at most one day, in samples at 48,000 per second: 0 to [`SampleTime::DAY`].
 #[derive(Clone, Copy, Debug, PartialEq, Eq, PartialOrd, Ord)]
 pub struct SampleTime {
     samples: u64,
@@ -39,15 +40,15 @@ impl Model for SampleTime {
 }
 
 impl SampleTime {
-    /// Midnight, the day's beginning.
+    /// Midnight, the start of the day.
     pub const ZERO: SampleTime = SampleTime { samples: 0 };
 
-    /// The day's end, 24 hours.
+    /// The end of the day, 24 hours.
     pub const DAY: SampleTime = SampleTime {
         samples: SAMPLES_PER_DAY,
     };
 
-    /// The time of so many samples; `None` where they are more than a day's.
+    /// Creates a time from a number of samples, or returns `None` if the number exceeds one day.
     pub fn new(samples: u64) -> Option<Self>
         ensures { SomeIff result (samples ≤ day) samples }
     {
@@ -58,7 +59,7 @@ impl SampleTime {
         }
     }
 
-    /// The number of samples, 0 to 4,147,200,000.
+    /// Returns the number of samples, 0 to 4,147,200,000.
     pub fn get(self) -> u64
         ensures samples { result ≡ self }
         ensures in_day { result ≤ day }
@@ -67,7 +68,7 @@ impl SampleTime {
     }
 }
 
-/// The four separators of a time text, in the order of the text.
+/// The four separators of a time text, in their order in the text.
 #[derive(Clone, Copy, Debug, PartialEq, Eq)]
 pub struct Separators {
     bytes: [u8; 4],
@@ -90,7 +91,8 @@ impl Separators {
     /// The separators of `00.00.00.00/0000`.
     pub const DEFAULT: Separators = Separators { bytes: *b".../" };
 
-    /// These four bytes as separators; `None` where one of them is none of `:`, `;`, `.`, `,`, `|`, `=` and `/`.
+    /// Creates separators from four bytes, or returns `None` if a byte isn't one of `:`, `;`, `.`, `,`, `|`, `=` and
+    /// `/`.
     #[inline(always)]
     pub fn new(bytes: [u8; 4]) -> Option<Self>
         ensures { SomeIff result (IsTrue (are_separators bytes)) bytes }
@@ -103,7 +105,7 @@ impl Separators {
         }
     }
 
-    /// The four bytes.
+    /// Returns the separators as four bytes.
     pub fn bytes(self) -> [u8; 4]
         ensures bytes { result ≡ self }
         ensures separators { IsTrue (are_separators result) }
@@ -120,14 +122,14 @@ impl Default for Separators {
     }
 }
 
-/// Whether a byte may part two fields.
+/// Returns true if the byte can separate two fields.
 fn is_separator(byte: u8) -> bool
     ensures { result ≡ time_code.is_separator byte }
 {
     matches!(byte, b':' | b';' | b'.' | b',' | b'|' | b'=' | b'/')
 }
 
-/// The number that two ASCII digits spell, 0 to 99.
+/// Parses two ASCII digits, 0 to 99.
 fn two_digits(digits: [u8; 2]) -> Option<u8>
     ensures { result ≡ time_code.two_digits digits }
 {
@@ -139,7 +141,7 @@ fn two_digits(digits: [u8; 2]) -> Option<u8>
     }
 }
 
-/// The number that four ASCII digits spell, 0 to 9999.
+/// Parses four ASCII digits, 0 to 9999.
 #[inline(always)]
 fn four_digits(digits: [u8; 4]) -> Option<u16>
     ensures { result ≡ time_code.four_digits digits }
@@ -150,7 +152,7 @@ fn four_digits(digits: [u8; 4]) -> Option<u16>
     Some(u16::from(hundreds) * 100 + u16::from(ones))
 }
 
-/// The two ASCII digits of a number below 100.
+/// Returns the two ASCII digits of a number below 100.
 fn digits_of_two(number: u8) -> [u8; 2]
     requires { number < 100 }
     ensures { result ≡ (48 + number / 10) ∷ (48 + number % 10) ∷ [] }
@@ -158,7 +160,7 @@ fn digits_of_two(number: u8) -> [u8; 2]
     [b'0' + number / 10, b'0' + number % 10]
 }
 
-/// The four ASCII digits of a number below 10000.
+/// Returns the four ASCII digits of a number below 10000.
 fn digits_of_four(number: u16) -> [u8; 4]
     requires { number < 10000 }
     ensures { result ≡ (48 + number / 1000) ∷ (48 + number / 100 % 10) ∷ (48 + number / 10 % 10) ∷ (48 + number % 10)
@@ -180,7 +182,7 @@ struct Parts {
 }
 
 impl Parts {
-    /// The fields of a time, each within its limit.
+    /// Splits a time into its fields.
     fn of(time: SampleTime, rate: Rate) -> Self
         ensures hours { result.hours ≡ time / 172800000 }
         ensures minutes { result.minutes ≡ time / 2880000 % 60 }
@@ -202,7 +204,7 @@ impl Parts {
         }
     }
 
-    /// The time that these fields mean; `None` where one is past its limit or the day's end is passed.
+    /// Returns the time, or `None` if a field exceeds its limit or the time is after the end of the day.
     #[inline(always)]
     fn time(self, rate: Rate) -> Option<SampleTime>
         ensures time { SomeIff result
@@ -225,7 +227,7 @@ impl Parts {
         }
     }
 
-    /// The time, beside these bytes as separators; `None` where either is refused.
+    /// Returns the time and the separators, or `None` if either is invalid.
     #[inline(always)]
     fn parted_by(self, separators: [u8; 4], rate: Rate) -> Option<(SampleTime, Separators)>
         ensures value { result ≡ time_of_parts (frames_per_second rate) (Some self.hours) (Some self.minutes) (Some self.seconds)
@@ -237,7 +239,7 @@ impl Parts {
         Some((time, separators))
     }
 
-    /// The text of these fields, each below 100 and the remainder below 10000.
+    /// Formats the fields, each below 100 and the remainder below 10000, as a time text.
     fn text(self, separators: Separators) -> [u8; 16]
         requires hours { self.hours < 100 }
         requires minutes { self.minutes < 100 }
@@ -258,11 +260,11 @@ impl Parts {
     }
 }
 
-/// The time and the separators of a time text of 16 bytes, `hh:mm:ss:ff/rrrr` with any four separators, at a rate.
+/// Parses a 16-byte time text `hh:mm:ss:ff/rrrr` with any four separators at the given frame rate.
 ///
-/// Hours are 00 to 23, minutes and seconds 00 to 59, frames and the remainder below those of a second and of a frame
-/// (24 and 2000, 25 and 1920, or 30 and 1600), or the text is the day's end, 24 hours and all else zero. Every other
-/// text is `None`: nothing is carried into the next field.
+/// Hours are 00 to 23, minutes and seconds 00 to 59; the frame number is less than the frame rate, and the remainder is
+/// less than the number of samples per frame (2000, 1920 or 1600). The end of the day, 24 hours with all other fields
+/// zero, is accepted too. Returns `None` for any other text: an excess is never carried into the next field.
 #[inline(always)]
 pub fn parse_time(text: &[u8], rate: Rate) -> Option<(SampleTime, Separators)>
     ensures value { result ≡ samples_of (frames_per_second rate) text.now }
@@ -283,7 +285,7 @@ pub fn parse_time(text: &[u8], rate: Rate) -> Option<(SampleTime, Separators)>
     }
 }
 
-/// The time and the separators of a time text's fields, in digits.
+/// Parses the digits of the fields of a time text.
 #[inline(always)]
 fn parse_fields(
     hours: [u8; 2],
@@ -308,7 +310,8 @@ fn parse_fields(
     parts.parted_by(separators, rate)
 }
 
-/// The time text of a time at a rate, with these separators: 16 bytes that [`parse_time`] reads as both again.
+/// Formats a time at the given frame rate as a 16-byte time text with these separators. [`parse_time`] parses it back
+/// to both.
 #[tactic(auto, using(crate::proofs::RoundTrip::time_is_again))]
 pub fn text_of(time: SampleTime, separators: Separators, rate: Rate) -> [u8; 16]
     ensures text { result ≡ text_of (frames_per_second rate) time separators }
