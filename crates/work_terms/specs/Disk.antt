@@ -1,151 +1,151 @@
--- Files by name as a disk keeps them: what a call does to what is read, and to what a crash may leave.
+-- Named files on a disk: the effect of calls on the bytes read and on the contents that a crash may leave.
 use Rattle.std.specs.Prelude.{◌≡◌, ◌≢◌, ◌⊎◌, ℕ, ◌+◌, ◌^◌, ◌<◌, ◌≤◌, max, Bool, IsTrue, Option, Some, None, List, [], ◌∷◌, ◌++◌, length, take, drop, Contains, Result, IfErr, IsErrAnd, OnErr, OnOk, ⊤}
 
--- the bytes of each name's file, none where there is no such file
+-- contents of each file by name, or None if the file does not exist
 abbrev pub Files : Type 0
 Files = List ℕ → Option (List ℕ)
 
--- these bytes stand in the file from `at` on, all of them inside it
+-- the file has these bytes at offset `at`, all within its length
 pub record IsRange (stored : Option (List ℕ)) (at : ℕ) (bytes : List ℕ) : Type 0 where
   pub file : List ℕ
   pub there : stored ≡ Some file
   pub inside : at + length bytes ≤ length file
   pub same : bytes ≡ take (length bytes) (drop at file)
 
--- where the file ends, 0 where it isn't there
+-- length of the file, or 0 if it does not exist
 abbrev pub end_of : Option (List ℕ) → ℕ
 end_of None = 0
 end_of (Some file) = length file
 
--- nothing stands under the name, or an empty file
+-- the file is empty or does not exist
 abbrev pub IsEmptyOrAbsent : Option (List ℕ) → Type 0
 IsEmptyOrAbsent file = (file ≡ None) ⊎ (file ≡ Some [])
 
--- one file changes by this step, every other stays
+-- one file changes by the given step, and no other file changes
 pub record Changes (step : Option (List ℕ) → Option (List ℕ) → Type 0) (name : List ℕ) (old new : Files) : Type 0 where
   pub here : step (old name) (new name)
   pub others : (n : List ℕ) → n ≢ name → new n ≡ old n
 
--- no file changes but those of these names
+-- no file changes except those with these names
 abbrev pub ChangesOnly : List (List ℕ) → Files → Files → Type 0
 ChangesOnly names old new = (n : List ℕ) → ¬ Contains names n → new n ≡ old n
 
--- created, or emptied
+-- the file was created or truncated to zero length
 abbrev pub IsCreated : Option (List ℕ) → Option (List ℕ) → Type 0
 IsCreated old new = new ≡ Some []
 
--- where a create failed: as it was, or empty
+-- result of a failed create: the file is unchanged or empty
 abbrev pub MayBeCreated : Option (List ℕ) → Option (List ℕ) → Type 0
 MayBeCreated old new = (new ≡ old) ⊎ (new ≡ Some [])
 
--- where a crash meets a create that isn't synced: the old bytes or none
+-- result of a crash during an unsynced create: the old contents, an empty file or no file
 abbrev pub IsPending : Option (List ℕ) → Option (List ℕ) → Type 0
 IsPending old new = (new ≡ old) ⊎ IsEmptyOrAbsent new
 
--- these bytes stand at their place inside the file, all else as it was
+-- the bytes are written at offset `at` within the file, and the rest is unchanged
 pub record IsWritten (at : ℕ) (bytes : List ℕ) (old new : Option (List ℕ)) : Type 0 where
   pub file : List ℕ
   pub there : old ≡ Some file
   pub inside : at + length bytes ≤ length file
   pub written : new ≡ Some (take at file ++ (bytes ++ drop (at + length bytes) file))
 
--- these bytes stand behind what was there
+-- the bytes are appended to the file
 pub record IsAppended (bytes : List ℕ) (old new : Option (List ℕ)) : Type 0 where
   pub file : List ℕ
   pub there : old ≡ Some file
   pub appended : new ≡ Some (file ++ bytes)
 
--- both contents are those of a file that is there, and in this relation, or both say that there is none
+-- the file exists before and after and its contents satisfy the relation, or it exists neither before nor after
 abbrev pub OfFile : (List ℕ → List ℕ → Type 0) → Option (List ℕ) → Option (List ℕ) → Type 0
 OfFile step None new = new ≡ None
 OfFile step (Some old) new = (file : List ℕ) × (new ≡ Some file) × step old file
 
--- any bytes in the n places from `at` on, the same bytes elsewhere, the same length
+-- the n bytes from offset `at` on are arbitrary, the other bytes and the length are unchanged
 pub record HasTornRange (at n : ℕ) (old new : List ℕ) : Type 0 where
   pub before : take at new ≡ take at old
   pub after : drop (at + n) new ≡ drop (at + n) old
   pub same_length : length new ≡ length old
 
--- any bytes in the n places from `at` on, the same bytes elsewhere, and any length up to their end
+-- the n bytes from offset `at` on are arbitrary, the other bytes are unchanged, and the file may have grown up to the
+-- end of the n bytes
 pub record HasTornEnd (at n : ℕ) (old new : List ℕ) : Type 0 where
   pub before : take at new ≡ take at old
   pub after : drop (at + n) new ≡ drop (at + n) old
   pub no_shorter : length old ≤ length new
   pub no_longer : length new ≤ max (length old) (at + n)
 
--- a write of n bytes at `at` that failed, or that a crash meets
+-- result of a failed or interrupted write of n bytes at offset `at`
 abbrev pub IsTorn : ℕ → ℕ → Option (List ℕ) → Option (List ℕ) → Type 0
 IsTorn at n = OfFile (HasTornRange at n)
 
--- an append of n bytes that failed: at most so many bytes, of any kind, behind what was there
+-- result of a failed append of n bytes: at most n arbitrary bytes are added
 abbrev pub IsGrown : ℕ → Option (List ℕ) → Option (List ℕ) → Type 0
 IsGrown n = OfFile (λ old new. (more : List ℕ) × (length more ≤ n) × (new ≡ old ++ more))
 
--- an append of n bytes to a file that ended at `at`, where a crash meets it
+-- result of an append of n bytes to a file of length `at` that a crash interrupted
 abbrev pub IsTornBehind : ℕ → ℕ → Option (List ℕ) → Option (List ℕ) → Type 0
 IsTornBehind at n = OfFile (HasTornEnd at n)
 
--- each new outcome of a crash is an old outcome after a step
+-- each new crash outcome follows from an old crash outcome by one step
 abbrev pub Follows : (Files → Files → Type 0) → (Files → Type 0) → (Files → Type 0) → Type 0
 Follows step old new = (c : Files) → new c → (d : Files) × old d × step d c
 
--- a crash leaves this file as it is read
+-- a crash leaves the file with the contents that reads return
 abbrev pub IsDurable : List ℕ → Files → (Files → Type 0) → Type 0
 IsDurable name stored may_leave = (c : Files) → may_leave c → c name ≡ stored name
 
--- nothing of this file is pending: it is durable, or it isn't there and each crash leaves none or an empty one
+-- nothing is pending for the file: it is durable, or it does not exist and a crash leaves no file or an empty one
 abbrev pub IsSettled : List ℕ → Files → (Files → Type 0) → Type 0
 IsSettled name stored may_leave =
     IsDurable name stored may_leave
     ⊎ ((stored name ≡ None) × ((c : Files) → may_leave c → IsEmptyOrAbsent (c name)))
 
--- Time goes on: a crash since t might have left what it might have left before, or what it may leave now.
+-- Time passes: a crash since t may leave an outcome that was possible before or one that is possible now.
 pub record Elapses (before now : ℕ) (past since : ℕ → Files → Type 0) (may_leave : Files → Type 0) : Type 0 where
   pub later : before ≤ now
   pub nothing_else : (t : ℕ) (c : Files) → t ≤ before → since t c → past t c ⊎ may_leave c
   pub keeps : (t : ℕ) (c : Files) → t ≤ before → past t c → since t c
 
--- A crash at any moment since old leaves files that have P.
+-- A crash at any moment since `old` leaves files with property P.
 pub record LeavesOnly {D : Type 0} (moment : D → ℕ) (left_since : D → ℕ → Files → Type 0) (old new : D)
     (P : Files → Type 0) : Type 0 where
   pub later : moment old ≤ moment new
   pub each : (c : Files) → left_since new (moment old) c → P c
-  -- for a run that began earlier
+  -- for an observation that began earlier
   pub before : (t : ℕ) (c : Files) → t ≤ moment old → left_since new t c → left_since old t c ⊎ P c
 
--- nothing was written: reads are as they were, and a crash leaves, and at each moment left, what it might have left
--- before
+-- nothing was written: reads and the possible outcomes of a crash at any moment are unchanged
 pub record IsUntouched {D : Type 0} (stored : D → Files) (may_leave : D → Files → Type 0) (moment : D → ℕ)
     (left_since : D → ℕ → Files → Type 0) (old new : D) : Type 0 where
   pub reads : stored new ≡ stored old
   pub crash : (c : Files) → may_leave new c → may_leave old c
   pub moments : LeavesOnly moment left_since old new (may_leave old)
 
--- this outcome is one of these but for the file of that name
+-- the outcome equals one of the given outcomes except for the named file
 abbrev pub IsBeside : (Files → Type 0) → List ℕ → Files → Type 0
 IsBeside outcomes name c = (d : Files) × outcomes d × ChangesOnly (name ∷ []) d c
 
--- a crash, at each moment since old and now, leaves every file but this one as it might have left it before
+-- a crash at any moment since `old` leaves every file except the named one as a crash before could have left it
 pub record LeavesOthers {D : Type 0} (may_leave : D → Files → Type 0) (moment : D → ℕ)
     (left_since : D → ℕ → Files → Type 0) (name : List ℕ) (old new : D) : Type 0 where
   pub now : (c : Files) → may_leave new c → IsBeside (may_leave old) name c
   pub moments : LeavesOnly moment left_since old new (IsBeside (may_leave old) name)
 
--- a failure was counted, but where the count was at its last value
+-- the failure count has increased, unless it was already at its maximum
 pub record Rises (before now : ℕ) : Type 0 where
   pub later : before ≤ now
   pub rose : before + 1 < 2 ^ 64 → before < now
 
--- a quiet answer left the count of failures, one that tells a device fault raised it
+-- a result without a device fault leaves the failure count unchanged, a device fault increases it
 pub record HasCause (before now : ℕ) (quiet device : Type 0) : Type 0 where
   pub later : before ≤ now
   pub left : quiet → now ≡ before
   pub rose : device → before + 1 < 2 ^ 64 → before < now
 
--- What a call leaves of a store that it only reads, and which of its answers tell a device fault.
+-- Effect of a read-only call on a store, and the results that report a device fault.
 module _ {S : Type 0} (stored : S → Files) (honest : S → Bool) (failures : S → ℕ) (failed_at : S → List ℕ → Type 0)
   where
-    -- nothing was written: the same files and the same honesty, and a failure is counted at its file
+    -- nothing was written, honesty is unchanged, and a failure is recorded for its file
     pub record HasRead (old new : S) (quiet device failed : Type 0) : Type 0 where
       pub same : stored new ≡ stored old
       pub honest_same : honest new ≡ honest old
@@ -153,23 +153,24 @@ module _ {S : Type 0} (stored : S → Files) (honest : S → Bool) (failures : S
       pub keeps : (n : List ℕ) → failed_at old n → failed_at new n
       pub failed_there : failed
 
-    -- nothing was written, and nothing has failed
+    -- nothing was written and no failure was recorded
     pub record IsKept (old new : S) : Type 0 where
       pub same : stored new ≡ stored old
       pub honest_same : honest new ≡ honest old
       pub quiet : failures new ≡ failures old
       pub keeps : (n : List ℕ) → failed_at old n → failed_at new n
 
-    -- a call that only reads, by its result: these faults tell a failure, of a file that has one of these names
+    -- effect of a read-only call by its result: `is_device` selects the faults that report a failure, `names` the files
+    -- concerned
     abbrev pub ReadsTo : {X E : Type 0} → S → S → Result X E → (E → Type 0) → (E → (List ℕ → Type 0) → Type 0) → Type 0
     ReadsTo old new result is_device names =
         HasRead old new (IfErr result (λ fault. ¬ is_device fault)) (IsErrAnd result is_device)
         (IfErr result (λ fault. is_device fault → names fault (failed_at new)))
 
--- What a call leaves of a store that it writes: the files that stay are as they were, and as durable.
+-- Effect of a writing call on a store: certain files keep their contents and their durability.
 module _ {S : Type 0} (stored : S → Files) (honest : S → Bool) (failures : S → ℕ) (failed_at : S → List ℕ → Type 0)
     (may_leave : S → Files → Type 0) where
-  -- only the files that don't stay changed: the same honesty, and a failure is counted at its file
+  -- the files in `stays` are unchanged, honesty is unchanged, and a failure is recorded for its file
   pub record HasWritten (stays : List ℕ → Type 0) (old new : S) (quiet device failed : Type 0) : Type 0 where
     pub others : IsTrue (honest old) → (n : List ℕ) → stays n → stored new n ≡ stored old n
     pub durable : IsTrue (honest old) → (n : List ℕ) → stays n → IsDurable n (stored old) (may_leave old)
@@ -179,7 +180,7 @@ module _ {S : Type 0} (stored : S → Files) (honest : S → Bool) (failures : S
     pub keeps : (n : List ℕ) → failed_at old n → failed_at new n
     pub failed_there : failed
 
-  -- only the files that don't stay changed, and nothing has failed
+  -- the files in `stays` are unchanged and no failure was recorded
   pub record IsExtended (stays : List ℕ → Type 0) (old new : S) : Type 0 where
     pub others : IsTrue (honest old) → (n : List ℕ) → stays n → stored new n ≡ stored old n
     pub durable : IsTrue (honest old) → (n : List ℕ) → stays n → IsDurable n (stored old) (may_leave old)
@@ -188,24 +189,25 @@ module _ {S : Type 0} (stored : S → Files) (honest : S → Bool) (failures : S
     pub quiet : failures new ≡ failures old
     pub keeps : (n : List ℕ) → failed_at old n → failed_at new n
 
-  -- a call that may change all files but those that stay, by its result
+  -- effect by its result of a call that may change every file not in `stays`
   abbrev pub WritesTo : {X E : Type 0} → (List ℕ → Type 0) → S → S → Result X E → (E → Type 0)
       → (E → (List ℕ → Type 0) → Type 0) → Type 0
   WritesTo stays old new result is_device names =
       HasWritten stays old new (IfErr result (λ fault. ¬ is_device fault)) (IsErrAnd result is_device)
       (IfErr result (λ fault. is_device fault → names fault (failed_at new)))
 
--- What is left of an output where a text is added at the end of a file, be it in pieces.
+-- Effect on an output of appending a text to a file, possibly in several writes.
 module _ {B : Type 0} (stored : B → Files) (honest : B → Bool) (failures : B → ℕ) (failed_at : B → List ℕ → Type 0)
     (may_leave : B → Files → Type 0) (moment : B → ℕ) (left_since : B → ℕ → Files → Type 0) (name text : List ℕ) where
-  -- what a crash might have left before the text came, but for this file: after its bytes stands at most so much as the
-  -- text is long, where the store is honest
+  -- a crash leaves the files as it could have before, except that on an honest store this file may end with at most
+  -- `length text` arbitrary bytes
   abbrev pub MayBeTorn : B → Files → Type 0
   MayBeTorn old c =
       (d : Files) × may_leave old d
       × Changes (λ before after. IsTrue (honest old)
       → IsTornBehind (end_of (stored old name)) (length text) before after) name d c
 
+  -- effect of appending the text, by the result of the call
   pub record HasAppended {X E : Type 0} (old new : B) (result : Result X E) : Type 0 where
     pub appended : IsTrue (honest old)
         → OnOk result (OfFile (λ before after. after ≡ before ++ text) (stored old name) (stored new name))

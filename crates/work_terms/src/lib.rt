@@ -1,2 +1,2 @@
-//! Words that contracts on files and refusals are written in. It has no code.
+//! Definitions for contracts about stored files and refusals. This crate has no code.
 #![tactic(auto)]
