@@ -1,4 +1,4 @@
--- Workers at a board: each event is one step of the board, of one worker's hand and of the files.
+-- Workers at a board: each event is one step of the board, the files and the hand of one worker.
 use Rattle.std.specs.Prelude.{◌≡◌, ◌≢◌, ℕ, zero, suc, ◌+◌, ◌<◌, Bool, true, false, IsTrue, cond, ◌==◌, MatchBool, Option, Some, None, is_none, List, [], ◌∷◌, length}
 use Rattle.work_terms.specs.Disk.{Files, IsRange, IsWritten, IsTorn, Rises}
 use Rattle.job_terms.specs.declared.Ticket.{Ticket}
@@ -6,14 +6,14 @@ use Rattle.job_terms.specs.declared.BoardEvent.{BoardEvent}
 use Rattle.job_terms.specs.declared.BoardEvent.TheVariants.{Give, Work, Deliver, Fault, Lose, Reclaim}
 use Rattle.job_terms.specs.Board.{Board, can_give, job_at, is_current, is_done, is_out, ticket_of, given_out, reopened, accepted, faulted, is_last_fault}
 
--- the jobs of a work: how many, the file and the place of each, and the bytes that are to stand there
+-- jobs of a task: their number, and for each job its file, its offset and the bytes to be stored there
 pub record Jobs : Type 0 where
   pub count : ℕ
   pub name : ℕ → List ℕ
   pub at : ℕ → ℕ
   pub bytes : ℕ → List ℕ
 
--- the jobs before any source is read: the length of each, and its bytes by what the sources hold
+-- jobs before any source is read: their number, the files and offsets, and their bytes as a function of the sources
 pub record JobsBy : Type 0 where
   pub count : ℕ
   pub name : ℕ → List ℕ
@@ -21,22 +21,22 @@ pub record JobsBy : Type 0 where
   pub size : ℕ → ℕ
   pub bytes : Files → ℕ → List ℕ
 
--- over these sources
+-- the jobs for the given sources
 abbrev pub jobs_over : JobsBy → Files → Jobs
 jobs_over work sources = record { count = work.count; name = work.name; at = work.at; bytes = work.bytes sources }
 
--- what a worker holds
+-- what a worker holds: nothing, a job to do, or the bytes made for a job
 pub data Hand : Type 0 where
   Nothing : Hand
   Holds : (ticket : Ticket) → Hand
   Made : (ticket : Ticket) (bytes : List ℕ) → Hand
 
--- why a run ended: a job failed for the third time, or the mark of a block wasn't written
+-- reason why a run ended: a job failed for the third time, or the mark of a block was not written
 pub data End : Type 0 where
   GivenUp : (job : ℕ) → End
   MarkFailed : End
 
--- all but the workers' hands
+-- state shared by all workers
 pub record State : Type 0 where
   pub board : Board
   pub files : Files
@@ -54,12 +54,12 @@ hand_of None made bytes = Nothing
 hand_of (Some ticket) false bytes = Holds ticket
 hand_of (Some ticket) true bytes = Made ticket bytes
 
--- one output's place changes by this step, every other output's file stays as it is
+-- the step changes the file of job k; no other output file changes
 pub record Puts (step : Option (List ℕ) → Option (List ℕ) → Type 0) (name : ℕ → List ℕ) (k : ℕ) (old new : Files) : Type 0 where
   pub here : step (old (name k)) (new (name k))
   pub others : (j : ℕ) → name j ≢ name k → new (name j) ≡ old (name j)
 
--- a fault under this ticket: the job is open again, and the third ends the run; nothing where it is stale
+-- a fault under this ticket reopens the job, and the third fault ends the run; a stale ticket has no effect
 abbrev pub after_fault : State → Ticket → State
 after_fault old ticket = cond (is_current old.board ticket)
     (record old {
@@ -68,14 +68,14 @@ after_fault old ticket = cond (is_current old.board ticket)
     })
     old
 
--- any job that can be handed out is given; where none can, nothing happens
+-- any job that can be issued is issued to the worker; nothing happens if there is none
 pub data GiveStep (old : State) (hand : Hand) (new : State) (now : Hand) : Type 0 where
   Gives : (k : ℕ) → hand ≡ Nothing → can_give old.board k ≡ true → new ≡ record old { board = given_out old.board k }
       → now ≡ Holds (ticket_of old.board k) → GiveStep old hand new now
   NoneLeft : hand ≡ Nothing → ((k : ℕ) → can_give old.board k ≡ false) → new ≡ old → now ≡ hand → GiveStep old hand new now
   Busy : hand ≢ Nothing → new ≡ old → now ≡ hand → GiveStep old hand new now
 
--- the bytes of the job are made, or the shelf failed in this step
+-- the worker makes the bytes of its job, or the shelf fails
 pub data WorkStep (jobs : Jobs) (old : State) (hand : Hand) (new : State) (now : Hand) : Type 0 where
   Makes : (ticket : Ticket) → hand ≡ Holds ticket → new ≡ old → now ≡ Made ticket (jobs.bytes ticket.job)
       → WorkStep jobs old hand new now
@@ -84,8 +84,9 @@ pub data WorkStep (jobs : Jobs) (old : State) (hand : Hand) (new : State) (now :
       → WorkStep jobs old hand new now
   HasNoJob : ((ticket : Ticket) → hand ≢ Holds ticket) → new ≡ old → now ≡ hand → WorkStep jobs old hand new now
 
--- under the current ticket the bytes are written and the job is done, or the bench failed and the job's own place holds
--- any bytes, or (with marks) it is done and its mark failed; under another ticket they are dropped and counted
+-- Under the current ticket the bytes are written and the job is done; or the bench fails, and the range of the job
+-- holds arbitrary bytes; or, with marks, the job is done but its mark is not written. Under a stale ticket the bytes
+-- are dropped and counted.
 pub data DeliverStep (marks : Bool) (jobs : Jobs) (old : State) (hand : Hand) (new : State) (now : Hand) : Type 0 where
   Delivers : (ticket : Ticket) (bytes : List ℕ) (files : Files) → hand ≡ Made ticket bytes
       → is_current old.board ticket ≡ true → Puts (IsWritten (jobs.at ticket.job) bytes) jobs.name ticket.job old.files files
@@ -113,25 +114,25 @@ pub data DeliverStep (marks : Bool) (jobs : Jobs) (old : State) (hand : Hand) (n
   HasNoBytes : ((ticket : Ticket) (bytes : List ℕ) → hand ≢ Made ticket bytes) → new ≡ old → now ≡ hand
       → DeliverStep marks jobs old hand new now
 
--- what the worker holds fails: a job with a current ticket is open again with one fault more
+-- the worker fails: if its ticket is current, the job is reopened with one more fault
 abbrev pub FaultStep : State → Hand → State → Hand → Type 0
 FaultStep old Nothing new now = (new ≡ old) × (now ≡ Nothing)
 FaultStep old (Holds ticket) new now = (new ≡ after_fault old ticket) × (now ≡ Nothing)
 FaultStep old (Made ticket bytes) new now = (new ≡ after_fault old ticket) × (now ≡ Nothing)
 
--- a job that is out is open again, and its ticket stale
+-- an issued job is reopened, which makes its ticket stale
 abbrev pub ReclaimStep : State → ℕ → State → Type 0
 ReclaimStep old k new = new ≡ cond (is_out (job_at old.board k).standing) (record old { board = reopened old.board k }) old
 
 abbrev pub with_hand : (ℕ → Hand) → ℕ → Hand → ℕ → Hand
 with_hand hands w hand v = cond (v == w) hand (hands v)
 
--- a step of one worker: of the state and of its own hand
+-- a step of one worker changes the shared state and its own hand only
 abbrev pub HandStep : (State → Hand → State → Hand → Type 0) → World → ℕ → World → Type 0
 HandStep step old w new =
     (hand : Hand) × step old.state (old.hands w) new.state hand × (new.hands ≡ with_hand old.hands w hand)
 
--- one event
+-- effect of one event
 abbrev pub BoardStep : Bool → Jobs → World → BoardEvent → World → Type 0
 BoardStep marks jobs old (Give w) new = HandStep GiveStep old w new
 BoardStep marks jobs old (Work w) new = HandStep (WorkStep jobs) old w new
@@ -140,19 +141,19 @@ BoardStep marks jobs old (Fault w) new = HandStep FaultStep old w new
 BoardStep marks jobs old (Lose w) new = HandStep (λ old _ new now. (new ≡ old) × (now ≡ Nothing)) old w new
 BoardStep marks jobs old (Reclaim k) new = ReclaimStep old.state k new.state × (new.hands ≡ old.hands)
 
--- one event after the other, until the run ends
+-- effects of events in sequence, until the run ends
 abbrev pub BoardRun : Bool → Jobs → World → List BoardEvent → World → Type 0
 BoardRun marks jobs old [] new = new ≡ old
 BoardRun marks jobs old (event ∷ events) new = MatchBool (is_none old.state.ended)
     ((mid : World) × BoardStep marks jobs old event mid × BoardRun marks jobs mid events new)
     (new ≡ old)
 
--- n rounds of the worker 1
+-- n rounds of worker 1
 abbrev pub rounds : ℕ → List BoardEvent
 rounds zero = []
 rounds (suc n) = Give 1 ∷ (Work 1 ∷ (Deliver 1 ∷ rounds n))
 
--- each done job's bytes stand at its place
+-- the bytes of each job that is done are stored at its offset
 abbrev pub DonePlaces : Jobs → State → Type 0
 DonePlaces jobs state = (k : ℕ) → k < jobs.count → is_done (job_at state.board k).standing ≡ true
     → IsRange (state.files (jobs.name k)) (jobs.at k) (jobs.bytes k)
