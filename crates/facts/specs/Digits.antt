@@ -1,9 +1,9 @@
--- The digits that a number of two to five of them is written with.
+-- Decimal digits of numbers with two to five digits.
 use Rattle.std.specs.Prelude.{◌≡◌, ℕ, ◌+◌, ◌/◌, ◌%◌, ◌<◌, ◌≤◌, List, [], ◌∷◌, ◌++◌, decimal}
 use Rattle.std.proofs.Common.{ap, ◌∙◌, arith}
 use Rattle.std.proofs.lemmas.Fmt.{decimal_digit, decimal_step}
 
--- the last digit stands behind those of the tenth part
+-- the digits of n are the digits of n / 10 followed by the last digit
 decimal_more :
     (n : ℕ) (front : List ℕ) → 10 ≤ n → n < 100000 → decimal (n / 10) ≡ front
     → decimal n ≡ front ++ ((48 + n % 10) ∷ [])

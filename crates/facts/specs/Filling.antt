@@ -1,8 +1,8 @@
--- Words that are put one behind the other over bytes.
+-- Filling a buffer with consecutive words.
 use Rattle.std.proofs.Common.{◌≡◌, ℕ, ◌+◌, List, [], ◌++◌, length, take, drop, refl, sym, ap, ◌∙◌, arith, length-append}
 use Rattle.std.proofs.lemmas.List.{append_assoc, drop_at, take_at, drop-drop}
 
--- one word more, up to m
+-- one more word is written at offset n, up to m
 filled : (front word old now new : List ℕ) (n m : ℕ) → length front ≡ n → n + length word ≡ m
     → now ≡ front ++ drop n old
     → new ≡ take n now ++ (word ++ drop (n + length word) now) → new ≡ front ++ (word ++ drop m old)
@@ -14,7 +14,7 @@ filled front word old now new n m long wide before put =
     ∙ ap (drop (length word)) (drop_at front rest n long) ∙ drop-drop (length word) n old ∙ ap (λ k. drop k old) wide in
     put ∙ rw (taken, behind)
 
--- three words, the second from `i` on and the third from `j` on, up to `k`
+-- three consecutive words are written: the second at offset i, the third at j, up to k
 pub three_filled : (a b c old x y z : List ℕ) (i j k : ℕ) → length a ≡ i → i + length b ≡ j → j + length c ≡ k
     → x ≡ take 0 old ++ (a ++ drop (0 + length a) old) → y ≡ take i x ++ (b ++ drop (i + length b) x)
     → z ≡ take j y ++ (c ++ drop (j + length c) y) → z ≡ a ++ (b ++ (c ++ drop k old))

@@ -1,4 +1,4 @@
--- Lists all of whose items pass a test, or are so.
+-- Lists whose items all pass a test or have a property.
 use Rattle.std.specs.Prelude.{◌≡◌, ℕ, Bool, true, List, [], ◌∷◌, ◌++◌, Some, refl}
 use Rattle.std.specs.List.{All, flat_map, list_all, slice_get}
 use Rattle.std.proofs.Common.{subst}
@@ -13,7 +13,7 @@ all_push test [] x h k = rw k refl
 all_push test (y ∷ xs) x h k =
     rw (and_left (test y) (list_all test xs) h) (all_push test xs x (and_right (test y) (list_all test xs) h) k)
 
--- what holds of all of two lists, of the first and of the second
+-- a property of all items of two joined lists holds for the items of each
 pub all_front : {X : Type 0} (P : X → Type 0) (xs ys : List X) → All P (xs ++ ys) → All P xs
 all_front P [] ys all = All-nil P
 all_front P (x ∷ xs) ys all =
@@ -23,13 +23,13 @@ pub all_behind : {X : Type 0} (P : X → Type 0) (xs ys : List X) → All P (xs 
 all_behind P [] ys all = all
 all_behind P (x ∷ xs) ys all = all_behind P xs ys (All-tail P x (xs ++ ys) all)
 
--- what holds of all holds of the one at a place
+-- a property of all items holds for the item at an index
 pub holds_there :
     {X : Type 0} (P : X → Type 0) (xs : List X) (i : ℕ) (x : X) → All P xs → slice_get xs i ≡ Some x → P x
 holds_there P xs i x all there =
     subst P (get_or_from_slice_get xs i x x there) (All-get_or P xs i x (slice_get_within xs i x there) all)
 
--- what holds of each part holds of all
+-- a property of all parts holds for the joined parts
 pub all_of_parts :
     {X A : Type 0} (Q : X → Type 0) (P : A → Type 0) (f : X → List A) → ((x : X) → Q x → All P (f x)) → (xs : List X)
     → All Q xs → All P (flat_map f xs)

@@ -1,9 +1,9 @@
--- A part of a list that is written anew.
+-- Replacing a part of a list.
 use Rattle.std.proofs.Common.{◌≡◌, ℕ, ◌+◌, ◌≤◌, List, ◌++◌, length, take, drop, arith, length-append}
 use Rattle.std.proofs.lemmas.List.{length-drop, length-take-le}
 use borrow.Rule.Slice.PartMut.{post_of, put_mid}
 
--- a part that keeps its length keeps that of the whole
+-- replacing a part by one of the same length keeps the length of the list
 pub length-put_mid : {X : Type 0} (a k : ℕ) (old new : List X) → a + k ≤ length old → length new ≡ k
     → length (put_mid a k old new) ≡ length old
 length-put_mid a k old new inside whole =

@@ -1,4 +1,4 @@
--- What stands in front of a list as long as a test passes.
+-- Prefixes of a list whose items all pass a test.
 use Rattle.std.specs.Prelude.{◌≡◌, ℕ, ◌+◌, Bool, true, false, List, [], ◌∷◌, ◌++◌, drop, take, refl}
 use Rattle.std.specs.List.{list_all, prefix_len, take_while}
 use Rattle.std.proofs.Common.{suc, ap, arith}

@@ -1,4 +1,4 @@
--- Two stretches, one behind the other: what each holds, both together hold.
+-- Two adjacent ranges together contain exactly the elements of both.
 use Rattle.std.specs.Prelude.{◌≡◌, ℕ, ◌+◌, ◌<◌, ◌≤◌, Bool, true, false, ◌&&◌, ◌||◌, nat_le, nat_lt, ℤ, pos, ◌+ℤ◌, if◌then◌else◌, refl}
 use Rattle.std.proofs.Common.{◌⊎◌, inl, inr, arith}
 use Rattle.std.proofs.Math.Bool.{or-false}
@@ -6,7 +6,7 @@ use Rattle.std.proofs.lemmas.Bool.{cases_lt}
 use Rattle.std.proofs.lemmas.Bool.Decides.{nat_tests}
 use Rattle.std.proofs.lemmas.Int.{ints}
 
--- of two stretches one adds what both together add there
+-- the sum over two adjacent ranges at t is the sum over the joined range
 module _ (s n m t : ℕ) (x y w : ℤ) (first : s ≤ t → t < s + n → x ≡ w) (second : s + n ≤ t → t < s + n + m → y ≡ w)
   where
     pub sums_joined : (a b : Bool)
@@ -45,7 +45,7 @@ module _ (s n m t : ℕ) (x y w : ℤ) (first : s ≤ t → t < s + n → x ≡ 
           let e : nat_lt t (s + n + m) ≡ false = grind (arith, nat_tests) in
           rw (a, b, c, d, e) refl
 
--- each place of both together is one of the first or of the second
+-- an index is in the joined range if it is in the first or in the second range
 pub either_joined : (a b c : Bool) (s n m k : ℕ)
     → ((a && (b && (c && (nat_le s k && nat_lt k (s + n)))))
     || (a && (b && (c && (nat_le (s + n) k && nat_lt k (s + n + m))))))

@@ -1,4 +1,4 @@
--- What tests and options say that are put together of others.
+-- Laws of compound Boolean tests and of options.
 use Rattle.std.specs.Prelude.{◌≡◌, ◌&&◌, ◌||◌, Bool, true, false, Option, None, Some, IsSome, is_some, MatchBool, if◌then◌else◌, refl}
 use Rattle.std.proofs.lemmas.Bool.{and_parts}
 
@@ -11,7 +11,7 @@ and_right a b h = (and_parts a b h).1
 pub and_both : (a b : Bool) → a ≡ true → b ≡ true → (a && b) ≡ true
 and_both a b h k = rw (h, k)
 
--- the second of three tests may come first
+-- the first two of three tests can be exchanged
 pub and_exchange : (a b c : Bool) → (a && (b && c)) ≡ (b && (a && c))
 and_exchange true true c = refl
 and_exchange true false c = refl
@@ -24,13 +24,13 @@ or_exchange true false c = refl
 or_exchange false true c = refl
 or_exchange false false c = refl
 
--- where the last of three tests fails
+-- if the last of three tests fails, the else branch is taken
 pub otherwise : {X : Type 0} (a b c : Bool) (x y : X) → c ≡ false → (if a && (b && c) then x else y) ≡ y
 otherwise true true c x y fails = rw fails refl
 otherwise true false c x y fails = refl
 otherwise false b c x y fails = refl
 
--- what holds anyway holds where a test wasn't passed
+-- a property that always holds also holds in the case of a failed test
 pub unless : (b : Bool) (P : Type 0) → P → MatchBool b (Unit {0}) P
 unless true P holds = tt
 unless false P holds = holds

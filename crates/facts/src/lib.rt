@@ -1,2 +1,2 @@
-//! Laws on the words of std alone: tests, lists, digits. It has no code.
+//! Laws about definitions of std only: Boolean tests, lists and digits. This crate has no code.
 #![tactic(auto)]
