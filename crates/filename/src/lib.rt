@@ -1,4 +1,4 @@
-//! The names that files right inside a folder can have.
+//! Names of files directly inside a folder.
 #![tactic(auto)]
 
 mod name;

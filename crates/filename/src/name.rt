@@ -1,4 +1,4 @@
-// Which names a file right inside a folder can have.
+// Names of files directly inside a folder.
 ghost use Rattle.std.specs.Prelude.{◌≡◌, ◌++◌, true, false, IfOk, OnOk, OnErr, codes, string_bytes};
 ghost use Rattle.filename.specs.FileName as spec;
 
@@ -6,7 +6,7 @@ use std::alloc::{AllocError, Global};
 use std::io;
 use std::io::{Error, ErrorKind};
 
-/// A name that a file right inside a folder can have.
+/// A valid name of a file directly inside a folder.
 #[derive(Clone, Copy)]
 pub struct FileName<'a> {
     pub text: &'a str,
@@ -14,7 +14,7 @@ pub struct FileName<'a> {
 }
 
 impl FileName<'_> {
-    /// The path of the file of this name in a folder.
+    /// Returns the path of this file in the given folder.
     pub fn path_in(&self, alloc: Global, folder: &str) -> Result<String, AllocError>
         ensures { IfOk result (λ path. string_bytes path ≡ folder.now ++ (codes "/" ++ self.now.text.now)) }
     {
@@ -23,14 +23,15 @@ impl FileName<'_> {
     }
 }
 
-/// Whether a file right inside a folder can have the name: it isn't empty, `.` or `..`, and has no slash and no NUL.
+/// Returns true if the name is valid for a file directly inside a folder: not empty, not `.` or `..`, and without slash
+/// and NUL.
 pub fn is_file_name(name: &str) -> bool
     ensures { result ≡ spec.is_file_name name.now }
 {
     !is_dots(name) && name.as_bytes().iter().all(|byte| is_file_name_byte(*byte))
 }
 
-/// The name. It fails where no file right inside a folder can have it.
+/// Checks the name. Returns `ErrorKind::InvalidFilename` if no file directly inside a folder can have it.
 pub fn require_file_name<'a>(name: &'a str) -> io::Result<FileName<'a>>
     ensures text { IfOk result (λ named. named.text.now ≡ name.entry.now) }
     ensures named { OnOk result (spec.is_file_name name.entry.now ≡ true) }
