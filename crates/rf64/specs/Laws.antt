@@ -1,4 +1,4 @@
--- The fields of a `ds64` that is written are read.
+-- Parsing the bytes of a `ds64` chunk gives its fields back.
 use Rattle.std.proofs.Common.{◌≡◌, ℕ, ◌^◌, ◌<◌, [], ◌++◌, length, refl, ap, ◌∙◌, arith, length-append, Some}
 use Rattle.std.proofs.lemmas.List.{append_assoc, append-nil, drop_at}
 use Rattle.byteorder.specs.Endian.{little_number}

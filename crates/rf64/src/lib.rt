@@ -1,4 +1,4 @@
-//! The chunk `ds64` of RF64 (EBU Tech 3306), which tells the sizes that 32 bits can't.
+//! The `ds64` chunk of RF64 (EBU Tech 3306), which holds the sizes that exceed 32 bits.
 #![tactic(auto)]
 
 ghost use Rattle.std.specs.Prelude.{◌≡◌, ◌+◌, ◌≤◌, length, Some};
@@ -8,15 +8,16 @@ ghost use Rattle.sound_terms.specs.Ds64.{ds64_of, ds64_bytes};
 use byteorder::{ByteOrder, LittleEndian};
 pub use sound_terms::Ds64;
 
-/// The bytes of the fields, in front of the table.
+/// The length of the fixed fields, before the table.
 const FIELDS: u64 = 28;
 
-/// The bytes of an entry of the table: the id of a chunk, and its size.
+/// The length of a table entry: a chunk id and its size.
 const ENTRY: u64 = 12;
 
-/// Reads the first 28 bytes of a `ds64` whose chunk has this size: the sizes of the form and of `data`, the count of
-/// frames, each 8 bytes, and the count of entries of the table, 4 bytes (EBU Tech 3306, 3.2). `None` where the chunk
-/// is too short for its table.
+/// Parses the first 28 bytes of a `ds64` chunk of the given size (EBU Tech 3306, 3.2): the form size, the `data` size
+/// and the number of sample frames, 8 bytes each, and the number of table entries, 4 bytes.
+///
+/// Returns `None` if the chunk is too short for its table.
 pub fn read_ds64(bytes: &[u8; 28], size: u32) -> Option<Ds64>
     ensures { result ≡ ds64_of bytes.now size }
 {
@@ -46,7 +47,8 @@ fn u64_at(bytes: &[u8], at: usize) -> u64
     LittleEndian::read_u64(&bytes[at..])
 }
 
-/// The 28 bytes of a `ds64` without a table: the sizes of the form and of `data`, and the count of frames.
+/// Returns the 28 bytes of a `ds64` chunk without table entries (EBU Tech 3306, 3.2): the form size, the `data` size
+/// and the number of sample frames.
 pub fn ds64_bytes(riff_size: u64, data_size: u64, samples: u64) -> [u8; 28]
     ensures bytes { result ≡ ds64_bytes riff_size data_size samples }
     ensures again { ds64_of result 28 ≡ Some (record {
