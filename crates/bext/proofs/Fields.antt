@@ -1,4 +1,4 @@
--- The fields of a `bext` that is written are read.
+-- Parsing the bytes of a `bext` chunk gives its fields back.
 use Rattle.std.proofs.Common.{◌≡◌, ◌^◌, ◌<◌, ◌++◌, length, take, true, nat_le, ap, ◌∙◌, arith, length-append, Some, le-leb}
 use Rattle.std.proofs.lemmas.List.{drop_at, take_at}
 use Rattle.byteorder.specs.Endian.{little_number}

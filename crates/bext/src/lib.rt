@@ -1,4 +1,4 @@
-//! The chunk `bext` of Broadcast Wave (EBU Tech 3285), its CodingHistory aside.
+//! The `bext` chunk of Broadcast Wave (EBU Tech 3285), without its CodingHistory.
 #![tactic(auto)]
 
 ghost use Rattle.std.specs.Prelude.{◌≡◌, ◌+◌, ◌≤◌, ◌++◌, length, take, drop, Some};
@@ -8,11 +8,12 @@ ghost use Rattle.sound_terms.specs.Waves.{u16_bytes, u64_bytes};
 use byteorder::{ByteOrder, LittleEndian};
 pub use sound_terms::Bext;
 
-/// The version of `bext` that is written.
+/// The `bext` version that is written.
 const VERSION: u16 = 1;
 
-/// Reads the five text fields and the time reference from the contents of a chunk (EBU Tech 3285, 2.3). `None` where
-/// these are fewer than 346 bytes. Bytes behind these aren't looked at.
+/// Parses the five text fields and the time reference of a `bext` chunk (EBU Tech 3285, 2.3). Later bytes are ignored.
+///
+/// Returns `None` if the contents have fewer than 346 bytes.
 pub fn read_bext(bytes: &[u8]) -> Option<Bext>
     ensures { result ≡ bext_of bytes.now }
 {
@@ -35,8 +36,8 @@ fn text_of(bytes: &[u8]) -> [u8; 338]
     text
 }
 
-/// The 602 bytes that stand in front of the CodingHistory: the text fields, the time reference, version 1, and zeros
-/// for the UMID and the reserved bytes (EBU Tech 3285, 2.3).
+/// Returns the 602 bytes before the CodingHistory (EBU Tech 3285, 2.3): the text fields, the time reference, version 1,
+/// and zeros for the UMID and the reserved bytes.
 pub fn bytes_of(bext: &Bext) -> [u8; 602]
     ensures bytes { result ≡ bext_bytes bext.now }
     ensures again { bext_of result ≡ Some bext.now }
@@ -49,7 +50,7 @@ pub fn bytes_of(bext: &Bext) -> [u8; 602]
     bytes
 }
 
-/// A number of 16 bits, the lowest byte first.
+/// Encodes a 16-bit number, little endian.
 #[tactic(auto, unfolding(sound_terms::specs::Waves::u16_bytes))]
 fn u16_field(number: u16) -> [u8; 2]
     ensures { result ≡ u16_bytes number }
@@ -59,7 +60,7 @@ fn u16_field(number: u16) -> [u8; 2]
     field
 }
 
-/// A number of 64 bits, the lowest byte first.
+/// Encodes a 64-bit number, little endian.
 #[tactic(auto, unfolding(sound_terms::specs::Waves::u64_bytes))]
 fn u64_field(number: u64) -> [u8; 8]
     ensures { result ≡ u64_bytes number }
@@ -69,7 +70,7 @@ fn u64_field(number: u64) -> [u8; 8]
     field
 }
 
-/// Puts `word` over the bytes from `at` on.
+/// Overwrites the bytes from `at` on with `word`.
 fn put(bytes: &mut [u8], at: usize, word: &[u8])
     requires { at + length word.now ≤ length bytes.old }
     ensures { bytes.new ≡ take at bytes.old ++ (word.now ++ drop (at + length word.now) bytes.old) }
