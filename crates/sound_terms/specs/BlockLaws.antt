@@ -1,5 +1,4 @@
--- Laws of the programs of blocks: what two parts do, one after the other, what adds a stretch, and what the additions
--- leave.
+-- Laws of block programs: executing them in parts, and the effect of instructions that add.
 use Rattle.std.specs.Prelude.{◌≡◌, ℕ, List, [], ◌∷◌, ◌++◌, Some, refl}
 use Rattle.std.specs.List.{All}
 use Rattle.std.proofs.lemmas.List.Elements.{All-head, All-tail}
@@ -17,7 +16,7 @@ pub executed_all-append :
 executed_all-append reading channels [] b s = refl
 executed_all-append reading channels (i ∷ a) b s = executed_all-append reading channels a b _
 
--- an instruction that adds a stretch under a shape adds just that
+-- the instruction that adds a stretch with a shape adds that stretch with that shape
 pub addition_of-adding : (s : Stretch) (shape : Shape) → addition_of (adding s shape) ≡ Some (s, shape)
 addition_of-adding s shape.Flat = refl
 addition_of-adding s (shape.Rise offset den) = refl
@@ -29,7 +28,7 @@ executed-adding reading channels s shape.Flat old = refl
 executed-adding reading channels s (shape.Rise offset den) old = refl
 executed-adding reading channels s (shape.Fall offset den) old = refl
 
--- what only adds leaves the frames of the block
+-- adding instructions do not change the number of sample frames of the block
 pub frames_kept : (reading : Reading) (frames channels : ℕ) (program : List Instruction) (s : BlockState)
     → All (IsFormed frames channels) program → (executed_all reading channels program s).frames ≡ s.frames
 frames_kept reading frames channels [] s all = refl

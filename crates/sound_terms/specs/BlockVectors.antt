@@ -1,4 +1,4 @@
--- Worked examples of blocks: the programs of pieces, and what they hand out.
+-- Worked examples of block programs: the instructions of pieces and their output.
 use Rattle.std.specs.Prelude.{◌≡◌, refl, ℕ, pos, negsuc, neg_ℤ, List, [], ◌∷◌}
 use Rattle.sound_terms.specs.declared.Depth.TheVariants.{Sixteen}
 use Rattle.sound_terms.specs.declared.block.Stretch.{Stretch}
@@ -10,7 +10,7 @@ use Rattle.sound_terms.specs.Mix.{Reading, full_scale}
 use Rattle.sound_terms.specs.Render.{Range}
 use Rattle.sound_terms.specs.Blocks.{BlockState, block_count, block_frames, executed_all, program_of}
 
--- a piece of the first channel of file 0, on the first channel
+-- a piece of channel 1 of file 0 on channel 1
 abbrev piece : (start length frame : ℕ) → Shape → Piece
 piece start length frame shape =
     record { start = start; length = length; frame = frame; file = 0; first = 1; dest = 1; width = 1; shape = shape }
@@ -18,7 +18,7 @@ piece start length frame shape =
 abbrev stretch : (at length frame : ℕ) → Stretch
 stretch at length frame = record { at = at; length = length; frame = frame; file = 0; first = 1; dest = 1; width = 1 }
 
--- one channel at 16 bits
+-- a range of one channel at 16 bits
 abbrev range : (from to : ℕ) → Range
 range from to = record { from = from; to = to; channels = 1; depth = Sixteen }
 
@@ -40,7 +40,7 @@ pub a_rise_is_rounded_once : (executed_all minus_one 1 (program_of rise (range 0
     ≡ pos 0 ∷ pos 0 ∷ negsuc 0 ∷ []
 a_rise_is_rounded_once = refl
 
--- a piece over the end of the first block
+-- a piece that crosses the end of the first block
 abbrev over_the_end : List Piece
 over_the_end = piece 4094 4 7 (shape.Rise 0 4) ∷ []
 
@@ -58,7 +58,7 @@ pub goes_on_in_the_next : program_of over_the_end (range 0 4100) 1
     ≡ Start 4 ∷ Rise (stretch 0 2 9) 2 4 ∷ Emit Sixteen ∷ []
 goes_on_in_the_next = refl
 
--- one piece over the end of another, and a fall on a channel that isn't rendered
+-- two overlapping pieces, and a fade-out on a channel that is not rendered
 abbrev layers : List Piece
 layers = piece 0 2 0 shape.Flat ∷ piece 1 2 5 shape.Flat ∷ record (piece 0 3 0 (shape.Fall 0 3)) { dest = 2 } ∷ []
 

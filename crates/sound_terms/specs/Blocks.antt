@@ -1,4 +1,4 @@
--- A block of a rendering: what its instructions do, and the instructions that render pieces.
+-- Blocks of a rendering: the effect of instructions, and the instructions that render pieces.
 use Rattle.std.specs.Prelude.{◌≡◌, ℕ, zero, suc, ◌+◌, ◌-◌, ◌*◌, ◌/◌, ◌^◌, ◌<◌, ◌≤◌, ◌&&◌, nat_lt, nat_le, min, max, Bool, ℤ, pos, neg_ℤ, ◌+ℤ◌, ◌≤ℤ◌, List, [], ◌∷◌, ◌++◌, All, Option, None, Some, IfSome, IsSomeAnd, if◌then◌else◌}
 use Rattle.std.specs.Int.{saturate_to_bits}
 use Rattle.std.specs.List.{flat_map}
@@ -18,24 +18,24 @@ use Rattle.sound_terms.specs.Render.{Range}
 use Rattle.sound_terms.specs.Sounds.{SoundFacts}
 use Rattle.sound_terms.specs.Media.{LiesInFile}
 
--- ---- what instructions do
+-- ---- effect of instructions
 
--- the frames of a block, the sum at each sample (from 0) and channel (from 1), and the samples that were handed out
+-- state of a block: its number of sample frames, the sum at each sample (from 0) and channel (from 1), and the output
 pub record BlockState : Type 0 where
   pub frames : ℕ
   pub sums : ℕ → ℕ → ℤ
   pub out : List ℤ
 
--- a sum is held inside 64 bits
+-- a sum saturated to 64 bits
 abbrev pub held : ℤ → ℤ
 held sum = saturate_to_bits 63 sum
 
--- the stretch sounds at this sample of the block on this channel
+-- the stretch plays at sample i of the block on this channel
 abbrev pub is_on : Stretch → ℕ → ℕ → Bool
 is_on s i channel =
     nat_le s.dest channel && (nat_lt channel (s.dest + s.width) && (nat_le s.at i && nat_lt i (s.at + s.length)))
 
--- what a stretch adds to a sum
+-- value that a stretch adds to a sum
 abbrev pub share_at : Reading → Stretch → Shape → ℕ → ℕ → ℤ
 share_at reading s shape i channel =
     share_of (reading s.file (s.first + (channel - s.dest)) (s.frame + (i - s.at))) (fraction_of shape (i - s.at))
@@ -44,19 +44,19 @@ abbrev pub sums_with : Reading → Stretch → Shape → (ℕ → ℕ → ℤ) �
 sums_with reading s shape sums i channel =
     if is_on s i channel then held (sums i channel +ℤ share_at reading s shape i channel) else sums i channel
 
--- the samples of sample i of a block at this depth: n channels, from this one on
+-- output of n channels from `channel` on at sample i, rounded and clipped to the depth
 abbrev pub frame_samples : ℕ → (ℕ → ℕ → ℤ) → (i channel n : ℕ) → List ℤ
 frame_samples depth sums i channel zero = []
 frame_samples depth sums i channel (suc n) =
     quantized depth (sums i channel) ∷ frame_samples depth sums i (suc channel) n
 
--- so n frames, from sample i on, frame by frame
+-- output of n sample frames from sample i on, interleaved
 abbrev pub block_samples : ℕ → (ℕ → ℕ → ℤ) → (channels i n : ℕ) → List ℤ
 block_samples depth sums channels i zero = []
 block_samples depth sums channels i (suc n) =
     frame_samples depth sums i 1 channels ++ block_samples depth sums channels (suc i) n
 
--- what an instruction does to a block of so many channels
+-- state of a block with the given number of channels after an instruction
 abbrev pub executed : Reading → ℕ → Instruction → BlockState → BlockState
 executed reading channels (Start frames) old = record old { frames = frames; sums = λ i channel. pos 0 }
 executed reading channels (Flat stretch) old = record old { sums = sums_with reading stretch shape.Flat old.sums }
@@ -72,20 +72,20 @@ executed_all reading channels [] state = state
 executed_all reading channels (instruction ∷ program) state =
     executed_all reading channels program (executed reading channels instruction state)
 
--- a program, and how many instructions it has room for
+-- a program: its capacity and its instructions
 pub record Programmed : Type 0 where
   pub room : ℕ
   pub lines : List Instruction
 
--- ---- the instructions of pieces
+-- ---- instructions of pieces
 
--- the instruction that adds a stretch under a shape
+-- instruction that adds a stretch with a shape
 abbrev pub adding : Stretch → Shape → Instruction
 adding stretch shape.Flat = Flat stretch
 adding stretch (shape.Rise offset den) = Rise stretch offset den
 adding stretch (shape.Fall offset den) = Fall stretch offset den
 
--- the stretch that an instruction adds, and its shape; none where it adds nothing
+-- stretch and shape that an instruction adds, or None if it adds nothing
 abbrev pub addition_of : Instruction → Option (Stretch × Shape)
 addition_of (Start frames) = None
 addition_of (Flat stretch) = Some (stretch, shape.Flat)
@@ -93,21 +93,21 @@ addition_of (Rise stretch offset den) = Some (stretch, shape.Rise offset den)
 addition_of (Fall stretch offset den) = Some (stretch, shape.Fall offset den)
 addition_of (Emit depth) = None
 
--- the frames of a block; the last one may have fewer
+-- number of sample frames of a block; the last block may be shorter
 abbrev pub block_length : ℕ
 block_length = 4096
 
 abbrev pub block_count : Range → ℕ
 block_count range = (((range.to - range.from) + block_length) - 1) / block_length
 
--- the time at which block k begins, and its frames
+-- start time of block k, and its number of sample frames
 abbrev pub block_start : Range → ℕ → ℕ
 block_start range k = range.from + k * block_length
 
 abbrev pub block_frames : Range → ℕ → ℕ
 block_frames range k = min block_length (range.to - block_start range k)
 
--- the part of a piece from one time up to another, in a block that begins at `from`, on channels up to this one
+-- part of a piece between two times, in a block that starts at `from`, limited to the given channels
 abbrev pub stretch_in : (from first last channels : ℕ) → Piece → Stretch
 stretch_in from first last channels p = record {
   at = first - from;
@@ -119,7 +119,7 @@ stretch_in from first last channels p = record {
   width = min p.width ((channels + 1) - p.dest);
 }
 
--- what of a piece sounds in the n samples from this time on, on so many channels; nothing where it doesn't
+-- instruction that adds the part of a piece in the n samples from `from` on; empty if it has none
 abbrev pub lines_of : (from n channels : ℕ) → Piece → List Instruction
 lines_of from n channels p =
     let first = max from p.start in
@@ -128,21 +128,21 @@ lines_of from n channels p =
     then adding (stretch_in from first last channels p) (shape_behind (first - p.start) p.shape) ∷ []
     else []
 
--- block k of a range, over pieces
+-- program of block k of a range, for the given pieces
 abbrev pub program_of : List Piece → Range → ℕ → List Instruction
 program_of pieces range k =
     Start (block_frames range k) ∷ (flat_map (lines_of (block_start range k) (block_frames range k) range.channels)
     pieces ++ Emit range.depth ∷ [])
 
--- the samples of block k by a mix
+-- output of block k of a range, for the given mix
 abbrev pub mixed_block : Range → (ℕ → ℕ → ℤ) → ℕ → List ℤ
 mixed_block range mix k =
     block_samples (bits_of range.depth) (λ i channel. mix channel (block_start range k + i)) range.channels 0
     (block_frames range k)
 
--- ---- which programs are formed
+-- ---- well-formed programs
 
--- a stretch lies inside a block of so many frames and channels
+-- the stretch is inside a block of the given numbers of sample frames and channels
 pub record FitsBlock (frames channels : ℕ) (s : Stretch) : Type 0 where
   pub some : 1 ≤ s.length
   pub inside : s.at + s.length ≤ frames
@@ -153,28 +153,28 @@ pub record FitsBlock (frames channels : ℕ) (s : Stretch) : Type 0 where
   pub dest_inside : s.dest + s.width ≤ channels + 1
   pub source_in_day : s.frame + s.length ≤ day
 
--- the instruction adds a stretch that does so, under a shape that is a ramp as long
+-- the instruction adds a stretch inside the block, with a shape that is a valid ramp of the same length
 abbrev pub IsFormed : (frames channels : ℕ) → Instruction → Type 0
 IsFormed frames channels instruction = IsSomeAnd (addition_of instruction)
     (λ added. FitsBlock frames channels added.0 × IsRamp added.1 added.0.length)
 
--- a block begins with its frames and ends when it hands them out; between, stretches that lie inside it are added
+-- a program starts the block, adds stretches inside it, and outputs it
 pub record IsBlockProgram (frames channels : ℕ) (depth : Depth) (program : List Instruction) : Type 0 where
   pub lines : List Instruction
   pub whole : program ≡ Start frames ∷ (lines ++ Emit depth ∷ [])
   pub formed : All (IsFormed frames channels) lines
 
--- what the instruction adds are frames and channels of an opened file
+-- the instruction plays existing sample frames and channels of an opened file
 abbrev pub LiesInFiles : List SoundFacts → Instruction → Type 0
 LiesInFiles sounds instruction = IfSome (addition_of instruction)
     (λ added. LiesInFile sounds added.0.file added.0.first added.0.width added.0.frame added.0.length)
 
--- no sample that the stretch plays lies outside full scale
+-- no sample of the stretch exceeds full scale
 abbrev pub IsFull : Reading → Stretch → Type 0
 IsFull reading s = (j i : ℕ) → j < s.width → i < s.length
     → (neg_ℤ (pos (2 ^ 47)) ≤ℤ reading s.file (s.first + j) (s.frame + i))
     × (reading s.file (s.first + j) (s.frame + i) ≤ℤ pos (2 ^ 47))
 
--- nor one that the instruction plays
+-- no sample that the instruction plays exceeds full scale
 abbrev pub PlaysFull : Reading → Instruction → Type 0
 PlaysFull reading instruction = IfSome (addition_of instruction) (λ added. IsFull reading added.0)

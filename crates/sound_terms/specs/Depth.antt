@@ -1,4 +1,4 @@
--- The bits of a sample.
+-- Bits per sample.
 use Rattle.std.specs.Prelude.{ℕ}
 use Rattle.sound_terms.specs.declared.Depth.{Depth}
 use Rattle.sound_terms.specs.declared.Depth.TheVariants.{Sixteen, TwentyFour, ThirtyTwo}

@@ -1,4 +1,4 @@
--- The entries of a list as groups of pieces, and groups as entries again.
+-- Entries of a list as groups of pieces, and groups as entries.
 use Rattle.std.specs.Prelude.{ℕ, ◌+◌, ◌-◌, ◌≤◌, nat_le, nat_lt, ◌&&◌, ℤ, pos, List, [], ◌∷◌, ◌++◌, Option, None, Some, if◌then◌else◌}
 use Rattle.std.specs.List.{flat_map, sum_by}
 use Rattle.sampletime.specs.TimeCode.{day}
@@ -12,7 +12,7 @@ use Rattle.sound_terms.specs.Mix.{Reading, fade_fraction, index_of, share_of}
 use Rattle.sound_terms.specs.Groups.{in_start_order}
 use Rattle.sound_terms.specs.Passes.{as_group}
 
--- n samples of an event, from its sample i on, in this shape; none where n is 0
+-- n samples of an event from its sample i on, with the given shape; empty if n is 0
 abbrev pub stretch_of : BoundIndex → Event → (i n : ℕ) → Shape → List Piece
 stretch_of index event i n shape = if nat_lt 0 n then record {
   start = event.dest_in + i;
@@ -25,7 +25,7 @@ stretch_of index event i n shape = if nat_lt 0 n then record {
   shape = shape;
 } ∷ [] else []
 
--- the in-fade, the middle and the out-fade of an event, the empty ones left out
+-- the fade-in, the middle and the fade-out of an event, without empty parts
 abbrev pub parts_of : BoundIndex → Event → List Piece
 parts_of index event =
     let rise = event.rise.length in
@@ -39,17 +39,17 @@ abbrev pub parts_by : Option BoundIndex → Event → List Piece
 parts_by None event = []
 parts_by (Some index) event = parts_of index event
 
--- the parts of each entry, in list order; an entry without a sample has none
+-- the parts of each entry as a group, in list order, without entries that have no samples
 abbrev pub groups_in_turn : List BoundIndex → List Event → List (List Piece)
 groups_in_turn indexes [] = []
 groups_in_turn indexes (event ∷ events) =
     as_group (parts_by (index_of indexes event.index) event) ++ groups_in_turn indexes events
 
--- by destination in, then in list order
+-- groups of all entries, ordered by destination in, then by list order
 abbrev pub groups_of_entries : List BoundIndex → List Event → List (List Piece)
 groups_of_entries indexes events = in_start_order (groups_in_turn indexes events)
 
--- an event that an accepted list may have over this index
+-- the event is possible in an accepted list, with this index
 pub record IsPlayable (index : BoundIndex) (event : Event) : Type 0 where
   pub in_order : event.dest_in ≤ event.dest_out
   pub in_day : event.dest_out ≤ day
@@ -61,11 +61,11 @@ pub record IsPlayable (index : BoundIndex) (event : Event) : Type 0 where
   pub source_to_64 : event.source.first + (event.dest.last - event.dest.first) ≤ 64
   pub source_in_day : (event.source_in - index.base) + (event.dest_out - event.dest_in) ≤ day
 
--- the length of a group's pieces together
+-- total length of the pieces of a group
 abbrev pub length_of_group : List Piece → ℕ
 length_of_group group = sum_by (λ p. p.length) group
 
--- how many samples of a piece rise, and how many fall
+-- number of samples of a piece in a fade-in, and in a fade-out
 abbrev pub rising_in : Piece → ℕ
 rising_in p = of_shape p.shape where
   of_shape : Shape → ℕ
@@ -80,7 +80,7 @@ falling_in p = of_shape p.shape where
   of_shape (Rise offset den) = 0
   of_shape (Fall offset den) = p.length
 
--- the event of a group, by its first piece
+-- event of a group that starts with piece p
 abbrev pub placed_by : Piece → List Piece → Placed
 placed_by p group = record {
   start = p.start;
@@ -102,7 +102,7 @@ event_of (p ∷ ps) = placed_by p (p ∷ ps) ∷ []
 abbrev pub placed_of : List (List Piece) → List Placed
 placed_of groups = flat_map event_of groups
 
--- what such an event adds to one channel at one time
+-- value that such an event adds to one channel at one time
 abbrev pub placed_part : Reading → Placed → ℕ → ℕ → ℤ
 placed_part reading e channel time =
     if nat_le e.dest channel && (nat_lt channel (e.dest + e.width)

@@ -1,4 +1,4 @@
--- Worked examples of groups and passes: entries as parts, what is silent, and what the standard passes give.
+-- Worked examples of groups and passes: parts of entries, silent pieces, and results of the standard passes.
 use Rattle.std.specs.Prelude.{◌≡◌, refl, ℕ, ◌==◌, ◌&&◌, ◌||◌, nat_lt, nat_le, true, false, pos, List, [], ◌∷◌, if◌then◌else◌}
 use Rattle.sound_terms.specs.declared.Event.{Event}
 use Rattle.sound_terms.specs.declared.BoundIndex.{BoundIndex}
@@ -12,7 +12,7 @@ use Rattle.sound_terms.specs.Entries.{groups_of_entries}
 abbrev midnight : BoundIndex
 midnight = record { number = 1; file = 0; base = 0; addressable = 100 }
 
--- an entry of index 1 on its first channels, so many, with both fades of this length
+-- an entry of index 1 on the first `width` channels, with both fades of the given length
 abbrev entry : (width source_in dest_in dest_out fade : ℕ) → Event
 entry width source_in dest_in dest_out fade = record {
   number = 1;
@@ -39,7 +39,7 @@ piece start length frame width shape =
       shape = shape;
     }
 
--- 12 stereo frames: the left is silent, the right sounds in the first four and the last four
+-- 12 stereo sample frames: the left channel is silent, the right one sounds in the first four and in the last four
 abbrev one_side : Reading
 one_side file channel frame =
     if file == 0 && (channel == 2 && (nat_lt frame 4 || (nat_le 8 frame && nat_lt frame 12))) then pos 100 else pos 0
@@ -58,7 +58,7 @@ pub the_middle_goes : standard_groups one_side whole_entry
     ≡ (piece 0 4 0 2 (Rise 0 4) ∷ []) ∷ (piece 8 4 8 2 (Fall 0 4) ∷ []) ∷ []
 the_middle_goes = refl
 
--- every frame sounds
+-- a file without silence
 abbrev all_sound : Reading
 all_sound file channel frame = pos 1
 

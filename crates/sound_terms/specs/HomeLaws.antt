@@ -1,4 +1,4 @@
--- Two files have two home indexes, and what is kept of a file can be addressed and ends in the day.
+-- Laws of home indexes: no two files share one, and kept sample frames are addressable and within the day.
 use Rattle.std.proofs.Common.{◌≡◌, ℕ, ◌+◌, ◌<◌, ◌≤◌, Bool, true, false, List, None, Some, Option, refl, arith}
 use Rattle.std.specs.Prelude.{◌==◌, nat_lt}
 use Rattle.std.specs.List.{slice_get}
@@ -8,7 +8,7 @@ use Rattle.sound_terms.specs.declared.piece.Home.{Home}
 use Rattle.sound_terms.specs.declared.piece.Piece.{Piece}
 use Rattle.sound_terms.specs.Homes.{AreHomes, addressable_by, base_by, kept_of, place_by}
 
--- a file that has a frame has a home
+-- a file with an addressable sample frame has a home
 home_of : (homes : List Home) (file frame : ℕ) → frame < addressable_by homes file
     → (home : Home) × (slice_get homes file ≡ Some home)
 home_of homes file frame below = by_option (slice_get homes file) refl below where
@@ -17,7 +17,7 @@ home_of homes file frame below = by_option (slice_get homes file) refl below whe
   by_option None e below = let nothing : frame < 0 = rw e at below in absurd (omega (arith, nothing))
   by_option (Some home) e below = (home, e)
 
--- two files have two places
+-- two files with addressable sample frames whose home indexes have the same position are the same file
 pub same_file : (homes : List Home) → AreHomes homes → (i j m n : ℕ) → m < addressable_by homes i
     → n < addressable_by homes j
     → place_by homes i ≡ place_by homes j → i ≡ j
@@ -30,7 +30,7 @@ same_file homes are i j m n here there same = by_test (i == j) refl where
       let places : a.0.position ≡ b.0.position = rw (a.1, b.1) at same in
       absurd (are.apart i j a.0 b.0 (λ (one : i ≡ j). grind (arith, nat_tests)) a.1 b.1 places)
 
--- the frames of a file that can be addressed end in the day
+-- the addressable sample frames of a file end within the day
 pub addressable_in_day : (homes : List Home) → AreHomes homes → (file frame : ℕ) → frame < addressable_by homes file
     → base_by homes file + addressable_by homes file ≤ day
 addressable_in_day homes are file frame below =
@@ -38,7 +38,7 @@ addressable_in_day homes are file frame below =
     let some : frame < home.0.addressable = rw home.1 at below in
     rw home.1 (are.in_day file home.0 home.1 (omega (arith, some)))
 
--- a kept frame can be addressed
+-- a kept sample frame is addressable
 pub kept_at_home : (groups : List (List Piece)) (homes : List Home) (handle file frame : ℕ)
     → kept_of groups homes handle file frame ≡ true → frame < addressable_by homes file
 kept_at_home groups homes handle file frame is = by_test (nat_lt frame (addressable_by homes file)) refl is where

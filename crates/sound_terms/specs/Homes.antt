@@ -1,4 +1,4 @@
--- The home index of each file, as a table by the file's number.
+-- Home index of each file, as a table by file number.
 use Rattle.std.specs.Prelude.{◌≡◌, ◌≢◌, ℕ, ◌+◌, ◌<◌, ◌≤◌, Bool, List, Contains, Some, slice_get, option_map, unwrap_or}
 use Rattle.sampletime.specs.TimeCode.{day}
 use Rattle.sound_terms.specs.declared.piece.Home.{Home}
@@ -7,19 +7,19 @@ use Rattle.sound_terms.specs.declared.piece.Piece.{Piece}
 use Rattle.sound_terms.specs.Kept.{is_kept, HasFrame}
 use Rattle.sound_terms.specs.Groups.{pieces_of}
 
--- the frames of a file that can be addressed, from the first on; none without a home
+-- number of addressable sample frames of a file, from the first on; 0 without a home
 abbrev pub addressable_by : List Home → ℕ → ℕ
 addressable_by homes file = unwrap_or (option_map (λ home. home.addressable) (slice_get homes file)) 0
 
--- the time of a file's first frame
+-- time of the first sample of a file
 abbrev pub base_by : List Home → ℕ → ℕ
 base_by homes file = unwrap_or (option_map (λ home. home.base) (slice_get homes file)) 0
 
--- where the home index stands among the bound indexes
+-- position of the home index among the bound indexes
 abbrev pub place_by : List Home → ℕ → ℕ
 place_by homes file = unwrap_or (option_map (λ home. home.position) (slice_get homes file)) 0
 
--- two files have two home indexes, and what can be addressed lies inside the day
+-- no two files share a home index, and the addressable samples are within the day
 pub record AreHomes (homes : List Home) : Type 0 where
   pub apart : (i j : ℕ) (a b : Home) → i ≢ j → slice_get homes i ≡ Some a → slice_get homes j ≡ Some b
       → a.position ≢ b.position
@@ -28,10 +28,10 @@ pub record AreHomes (homes : List Home) : Type 0 where
 abbrev pub kept_of : List (List Piece) → List Home → ℕ → ℕ → ℕ → Bool
 kept_of groups homes handle file frame = is_kept (pieces_of groups) (addressable_by homes) handle file frame
 
--- the piece plays frames that can be addressed
+-- the piece plays addressable sample frames
 abbrev pub LiesAtHome : List Home → Piece → Type 0
 LiesAtHome homes p = p.frame + p.length ≤ addressable_by homes p.file
 
--- a run has this frame of this file
+-- some run contains this sample frame of this file
 abbrev pub IsInRun : List Run → (file frame : ℕ) → Type 0
 IsInRun runs file frame = (run : Run) × Contains runs run × HasFrame file frame run

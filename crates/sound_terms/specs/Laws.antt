@@ -1,4 +1,4 @@
--- What is known of the fields of sound files: how long they are, and that they are read as they were written.
+-- Laws of the fields of sound files: lengths, and reading written fields back.
 use Rattle.std.proofs.Common.{◌≡◌, ℕ, ◌^◌, ◌<◌, ◌≤◌, List, ◌++◌, length, refl, arith, length-append}
 use Rattle.std.proofs.lemmas.List.{length-replicate}
 use Rattle.byteorder.specs.Endian.{little_number}
@@ -8,7 +8,7 @@ use Rattle.sound_terms.specs.declared.Depth.TheVariants.{Sixteen, TwentyFour, Th
 use Rattle.sound_terms.specs.Depth.{bits_of}
 use Rattle.sound_terms.specs.Waves.{u16_bytes, u32_bytes, u64_bytes, zeros, chunk_head}
 
--- a sample is of two to four bytes
+-- a sample has 16 to 32 bits
 pub bits_bounded : (depth : Depth) → (16 ≤ bits_of depth) × (bits_of depth ≤ 32)
 bits_bounded Sixteen = omega arith
 bits_bounded TwentyFour = omega arith

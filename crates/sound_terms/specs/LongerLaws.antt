@@ -1,4 +1,4 @@
--- A flat piece that is longer by one that goes on with it.
+-- Laws of a flat piece extended by another flat piece that continues it.
 use Rattle.std.specs.Prelude.{◌≡◌, ◌+◌, ◌&&◌, Bool, true, false, List, [], ◌∷◌, All, None, Some, if◌then◌else◌, refl}
 use Rattle.std.proofs.Common.{arith}
 use Rattle.std.proofs.lemmas.List.Elements.{All-cons, All-head, All-nil}
@@ -12,7 +12,7 @@ use Rattle.sound_terms.specs.Passes.{is_flat, lengthened}
 abbrev pub longer : Piece → Piece → Piece
 longer p later = record p { length = p.length + later.length }
 
--- a flat piece that a flat one goes on from
+-- two flat pieces, the second of which continues the first
 pub record BothFlat (p later : Piece) : Type 0 where
   pub flat : p.shape ≡ Flat
   pub flat_later : later.shape ≡ Flat
@@ -23,7 +23,7 @@ flat_is Flat e = refl
 flat_is (Rise offset den) e = cc
 flat_is (Fall offset den) e = cc
 
--- what is so of every longer piece is so of what a group is lengthened to
+-- a relation that holds for each extended piece holds for the extended group
 pub by_longer : (P : List Piece → List Piece → Type 0) (later : Piece)
     → ((p : Piece) → BothFlat p later → P (p ∷ []) (longer p later ∷ []))
     → (group joined : List Piece) → lengthened later group ≡ Some joined → P group joined

@@ -1,4 +1,4 @@
--- Laws of groups in order of start: they give together what they gave before, and what held of each holds of each.
+-- Laws of sorting groups by start time: totals do not change, and properties of each group are preserved.
 use Rattle.std.specs.Prelude.{◌≡◌, ℕ, Bool, true, false, ◌&&◌, ◌||◌, nat_le, ℤ, pos, ◌+ℤ◌, List, [], ◌∷◌, All, refl}
 use Rattle.std.specs.List.{list_all, list_any}
 use Rattle.std.proofs.Common.{ap, ◌∙◌, sym, arith}
@@ -10,7 +10,7 @@ use Rattle.sound_terms.specs.Mix.{Reading}
 use Rattle.sound_terms.specs.Groups.{are_whole, in_start_order, is_read, is_whole, mix_of, pieces_of, put_by_start, reads, start_of, sum_of}
 use Rattle.sound_terms.specs.GroupLaws.{sum_of-append}
 
--- what all groups give together
+-- total over all groups
 module _ {A : Type 0} (add : A → A → A) (none : A) (value : List Piece → A) where
   abbrev pub total : List (List Piece) → A
   total [] = none
@@ -32,7 +32,7 @@ module _ {A : Type 0} (add : A → A → A) (none : A) (value : List Piece → A
     total_in_order (group ∷ groups) =
         total_put group (in_start_order groups) ∙ ap (add (value group)) (total_in_order groups)
 
--- the exact sum of groups is the total of theirs
+-- the exact sum of groups is a total
 module _ (r : Reading) (channel time : ℕ) where
   abbrev pub sum_at : List Piece → ℤ
   sum_at group = sum_of r group channel time
@@ -51,7 +51,7 @@ module _ (r : Reading) (channel time : ℕ) where
       mix_total (in_start_order groups) ∙ total_in_order ◌+ℤ◌ (pos 0) sum_at sums_exchange groups
       ∙ sym (mix_total groups)
 
--- so is whether their ramps are whole
+-- having whole ramps is a total
 pub whole_total : (groups : List (List Piece))
     → are_whole groups ≡ total ◌&&◌ true (λ group. list_all is_whole group) groups
 whole_total [] = refl
@@ -63,7 +63,7 @@ whole_in_order groups =
     ∙ total_in_order ◌&&◌ true (λ group. list_all is_whole group) and_exchange groups
     ∙ sym (whole_total groups)
 
--- and whether one of them reads a frame
+-- reading a sample frame is a total
 module _ (file channel frame : ℕ) where
   abbrev pub read_by : List Piece → Bool
   read_by group = list_any (λ p. is_read p file channel frame) group
@@ -78,7 +78,7 @@ module _ (file channel frame : ℕ) where
       reads_total (in_start_order groups) ∙ total_in_order ◌||◌ false read_by or_exchange groups
       ∙ sym (reads_total groups)
 
--- what holds of each group
+-- properties of each group
 module _ (P : List Piece → Type 0) where
   all_put : (own : List Piece) (groups : List (List Piece)) → P own → All P groups → All P (put_by_start own groups)
   all_put own [] is all = All-cons P own [] is all

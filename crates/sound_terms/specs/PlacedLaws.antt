@@ -1,4 +1,4 @@
--- Laws of groups as events: a whole group adds what its event adds.
+-- Laws of groups as events: the event of a group with whole ramps adds the same values as the group.
 use Rattle.std.proofs.Common.{◌≡◌, ℕ, ◌+◌, ◌-◌, ◌<◌, ◌≤◌, Bool, true, false, List, [], ◌∷◌, refl, sym, ap, ◌∙◌, arith, All, IsTrue}
 use Rattle.std.specs.Prelude.{ℤ, pos, ◌+ℤ◌, ◌&&◌, if◌then◌else◌, nat_lt, nat_le, map}
 use Rattle.std.specs.List.{sum_by, list_all}
@@ -19,7 +19,7 @@ use Rattle.sound_terms.specs.Entries.{falling_in, length_of_group, placed_by, pl
 pub ranks_rise : (p q : Piece) → IsTrue (may_follow p q) → rank_of p.shape < rank_of q.shape
 ranks_rise p q follows = grind (arith, nat_tests)
 
--- a piece that may follow another goes on from it
+-- a piece that may follow another starts where the other ends
 pub follows_on : (p q : Piece) → IsTrue (may_follow p q) → GoesOn p q
 follows_on p q follows = goes_on p q (and_parts (continues p q) (nat_lt (rank_of p.shape) (rank_of q.shape)) follows).0
 
@@ -40,7 +40,7 @@ no_rise_of p Flat above = refl
 no_rise_of p (Rise offset den) above = absurd (omega (arith, above))
 no_rise_of p (Fall offset den) above = refl
 
--- nothing rises in a group that doesn't begin with a rise
+-- a group that does not begin with a rise has no fade-in
 no_rise : (p : Piece) (ps : List Piece) → IsGroup (p ∷ ps) → 1 ≤ rank_of p.shape → rising (p ∷ ps) ≡ 0
 no_rise p [] is above = rising_more p [] ∙ omega (arith, no_rise_of p p.shape above)
 no_rise p (q ∷ qs) is above =
@@ -52,7 +52,7 @@ fall_of q Flat above = absurd (omega (arith, above))
 fall_of q (Rise offset den) above = absurd (omega (arith, above))
 fall_of q (Fall offset den) above = refl
 
--- all that stands behind a flat piece falls
+-- all pieces after a flat piece are fade-outs
 all_fall : (p : Piece) (ps : List Piece) → IsGroup (p ∷ ps) → 1 ≤ rank_of p.shape → falling ps ≡ length_of_group ps
 all_fall p [] is above = refl
 all_fall p (q ∷ qs) is above =
@@ -64,7 +64,7 @@ all_fall p (q ∷ qs) is above =
       length_more q qs,
     )
 
--- nothing stands behind a fall
+-- no piece follows a fade-out
 no_more : (p : Piece) (ps : List Piece) → IsGroup (p ∷ ps) → 2 ≤ rank_of p.shape → ps ≡ []
 no_more p [] is above = refl
 no_more p (q ∷ qs) is above = absurd (omega (arith, above, ranks_rise p q is.0, last q.shape)) where
@@ -73,7 +73,7 @@ no_more p (q ∷ qs) is above = absurd (omega (arith, above, ranks_rise p q is.0
   last (Rise offset den) = omega arith
   last (Fall offset den) = omega arith
 
--- where pieces of an event stand: the rise is over or is their first piece, the fall is theirs, and they reach its end
+-- the pieces p and ps are the rest of an event from its sample `at` on
 record Stands (rise fall whole at : ℕ) (p : Piece) (ps : List Piece) : Type 0 where
   rises : (rank_of p.shape ≡ 0 → (at ≡ 0) × (rise ≡ rising (p ∷ ps))) × (1 ≤ rank_of p.shape → rise ≤ at)
   falls : fall ≡ falling (p ∷ ps)
@@ -82,7 +82,7 @@ record Stands (rise fall whole at : ℕ) (p : Piece) (ps : List Piece) : Type 0 
 pair : (a b c d : ℕ) → a ≡ c → b ≡ d → ◌≡◌ {A = ℕ × ℕ} (a, b) (c, d)
 pair a b c d first second = cc
 
--- the share of a piece is that of its event
+-- the gain of a piece equals the gain of its event
 fits : (rise fall whole at j : ℕ) (p : Piece) (ps : List Piece) → IsGroup (p ∷ ps) → IsTrue (is_whole p)
     → Stands rise fall whole at p ps → j < p.length
     → fraction_of p.shape j ≡ fade_fraction rise fall whole (at + j)
@@ -127,7 +127,7 @@ fits rise fall whole at j p ps is ramp stands below = by_shape p.shape is ramp s
       let within : nat_le (whole - fall) (at + j) ≡ true = grind (arith, nat_tests) in
       rw (past, within) (pair (den - (offset + j)) den (whole - (at + j)) fall (omega arith) (omega arith))
 
--- the next piece stands behind
+-- the rest of the event after its first piece
 stands_next : (rise fall whole at : ℕ) (p q : Piece) (qs : List Piece) → IsGroup (p ∷ q ∷ qs)
     → Stands rise fall whole at p (q ∷ qs)
     → Stands rise fall whole (at + p.length) q qs
@@ -174,7 +174,7 @@ same_under true true s n t x w same = by_tests (nat_le s t) (nat_lt t (s + n)) r
   by_tests true false e f = rw (e, f) refl
   by_tests false d e f = rw e refl
 
--- what so many samples of an event add, from its sample `at` on
+-- value that `long` samples of an event, from its sample `at` on, add
 module _ (r : Reading) (rise fall whole channel time : ℕ) where
   abbrev value : (file first dest width start frame long at : ℕ) → ℤ
   value file first dest width start frame long at =
@@ -223,7 +223,7 @@ module _ (r : Reading) (rise fall whole channel time : ℕ) where
       let whole_sum = joined_value p (length_of_group (q ∷ qs)) at in
       rw (length_more p (q ∷ qs), own, rest) whole_sum
 
--- a group adds what its event adds
+-- a group adds the same value as its event
 pub group_sum : (r : Reading) (p : Piece) (ps : List Piece) (channel time : ℕ) → IsGroup (p ∷ ps)
     → IsTrue (list_all is_whole (p ∷ ps))
     → placed_part r (placed_by p (p ∷ ps)) channel time ≡ sum_of r (p ∷ ps) channel time
@@ -238,7 +238,7 @@ group_sum r p ps channel time is ramps =
     channel time 0 p ps is ramps at_first
     ∙ (rw sample refl))
 
--- the events of groups add, one by one, what the groups add
+-- each group adds the same value as its event
 pub events_add : (r : Reading) (groups : List (List Piece)) (channel time : ℕ) → All IsGroup groups
     → IsTrue (are_whole groups)
     → map (λ e. placed_part r e channel time) (placed_of groups) ≡ map (λ group. sum_of r group channel time) groups

@@ -1,4 +1,4 @@
--- The file that a mix is rendered to, and what it reads back as.
+-- The file that a mix is rendered to, and the result of reading it back.
 use Rattle.std.specs.Prelude.{◌≡◌, ℕ, zero, suc, ◌+◌, ◌-◌, ◌<◌, ◌≤◌, ℤ, List, [], ◌++◌, Ok, Some}
 use Rattle.sound_terms.specs.declared.Depth.{Depth}
 use Rattle.sound_terms.specs.Depth.{bits_of}
@@ -7,26 +7,27 @@ use Rattle.sound_terms.specs.Waves.{SoundInfo, sample_bytes, sample_at, file_of,
 use Rattle.sound_terms.specs.Sounds.{SoundFacts}
 use Rattle.sound_terms.specs.SoundFiles.{sound_of}
 
--- what is rendered: the samples from `from` up to, and without, `to`, on channels from 1, at a depth
+-- part of the timeline to render: samples from `from` up to but not including `to`, the number of channels, and the
+-- depth
 pub record Range : Type 0 where
   pub from : ℕ
   pub to : ℕ
   pub channels : ℕ
   pub depth : Depth
 
--- the bytes of one frame: this time on each channel, the first of them given, n of them
+-- bytes of n channels from `channel` on at one time
 abbrev pub frame_of : ℕ → (ℕ → ℕ → ℤ) → ℕ → ℕ → ℕ → List ℕ
 frame_of depth mix time channel zero = []
 frame_of depth mix time channel (suc n) =
     sample_bytes depth (quantized depth (mix channel time)) ++ frame_of depth mix time (suc channel) n
 
--- the bytes of n frames, frame by frame
+-- bytes of n sample frames, interleaved
 abbrev pub frames_of : ℕ → (ℕ → ℕ → ℤ) → ℕ → ℕ → ℕ → List ℕ
 frames_of depth mix channels from zero = []
 frames_of depth mix channels from (suc n) =
     frame_of depth mix from 1 channels ++ frames_of depth mix channels (suc from) n
 
--- the rendered file tells its place on the timeline, and no texts
+-- header of the rendered file: its position on the timeline, and no texts
 abbrev pub render_info : Range → SoundInfo
 render_info range = record {
   channels = range.channels;
@@ -37,7 +38,7 @@ render_info range = record {
   history = [];
 }
 
--- the whole rendered file
+-- the complete rendered file
 unfoldable pub rendering_of : Range → (ℕ → ℕ → ℤ) → List ℕ
 rendering_of range mix =
     file_of (render_info range) (frames_of (bits_of range.depth) mix range.channels range.from (range.to - range.from))

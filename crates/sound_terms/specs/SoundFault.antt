@@ -1,9 +1,9 @@
--- The numbers of what is wrong with the bytes of a sound file.
+-- Numbers of the faults of sound files.
 use Rattle.std.specs.Prelude.{ℕ}
 use Rattle.sound_terms.specs.declared.SoundFault.{SoundFault}
 use Rattle.sound_terms.specs.declared.SoundFault.TheVariants.{NotWave, NoFormat, NoData, Truncated, BadFormat, BadDs64, WrongRate}
 
--- the number of the refusal
+-- number of the refusal
 abbrev pub number_of : SoundFault → ℕ
 number_of NotWave = 23
 number_of NoFormat = 24

@@ -1,4 +1,4 @@
--- What is known of a sound file as a whole: its format, its samples, and what its `bext` tells.
+-- Facts about a whole sound file: its format, the position of its samples, and the fields of its `bext` chunk.
 use Rattle.std.specs.Prelude.{ℕ, ◌+◌, ◌*◌, ◌/◌, ◌&&◌, nat_lt, nat_le, Bool, not, ℤ, pos, List, length, take, drop, slice_get, Option, None, Some, is_some, if◌then◌else◌}
 use Rattle.sound_terms.specs.declared.Depth.{Depth}
 use Rattle.sound_terms.specs.declared.Span.{Span}
@@ -10,8 +10,8 @@ use Rattle.sound_terms.specs.Mix.{Reading, full_scale}
 use Rattle.sound_terms.specs.Waves.{sample_at}
 use Rattle.work_terms.specs.Disk.{Files}
 
--- all that a sound file says: `offset` is where its samples begin; `text`, `time_reference` and `history` are of
--- its `bext`; `short_bext`, `history_cut` and `others` tell what of the file is not carried along
+-- all facts of a sound file. `offset` is the offset of its samples; `text`, `time_reference` and `history` are fields
+-- of its `bext` chunk; `short_bext`, `history_cut` and `others` say that something in the file is not copied.
 pub record SoundFacts : Type 0 where
   pub name : List ℕ
   pub channels : ℕ
@@ -25,16 +25,16 @@ pub record SoundFacts : Type 0 where
   pub history_cut : Bool
   pub others : Bool
 
--- the bytes of a stretch of a file
+-- bytes of a range of a file
 abbrev pub bytes_of_span : List ℕ → Span → List ℕ
 bytes_of_span file span = take span.length (drop span.at file)
 
--- the most of a CodingHistory that is carried
+-- maximum length of a CodingHistory that is copied
 abbrev pub history_limit : ℕ
 history_limit = 65536
 
--- the facts of a file with these chunks, this format, and the contents of its `bext`, empty where there is none
--- (EBU Tech 3285, 2.3: five texts, the time reference at byte 338, the CodingHistory from byte 602 on)
+-- facts of a file with these chunks, this format and these contents of its `bext` chunk, which are empty if there is
+-- none (EBU Tech 3285, 2.3: five text fields, TimeReference at offset 338, CodingHistory from offset 602 on)
 abbrev pub facts_with : List ℕ → Chunks → Format → List ℕ → SoundFacts
 facts_with name chunks format bext =
     let is_whole = nat_le 346 (length bext) in
@@ -52,7 +52,7 @@ facts_with name chunks format bext =
       others = chunks.others;
     }
 
--- the samples of opened files at full scale, by the file's place among them; zero outside their channels and frames
+-- contents of the opened files as samples at full scale, by file number; zero outside their channels and sample frames
 abbrev pub reading_by : Files → List SoundFacts → Reading
 reading_by files sounds file channel frame = of_sound (slice_get sounds file) where
   of_bytes : SoundFacts → Option (List ℕ) → ℤ

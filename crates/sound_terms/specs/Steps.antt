@@ -1,7 +1,7 @@
--- Reading in steps that may refuse.
+-- Sequencing of steps that may fail.
 use Rattle.std.specs.Prelude.{Result, Ok, Err}
 
--- the next step where this one found no fault
+-- continues with the next step if this one succeeded
 infixl 10 ◌>>=◌
 abbrev pub ◌>>=◌ : {A B E : Type 0} → Result A E → (A → Result B E) → Result B E
 Ok x >>= next = next x

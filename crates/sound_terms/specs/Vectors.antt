@@ -1,4 +1,4 @@
--- Worked examples. Each is computed from the definitions, so a definition that gives another value is refused here.
+-- Worked examples, computed from the definitions: a definition with another value does not check.
 use Rattle.std.specs.Prelude.{◌≡◌, refl, ℕ, ◌-◌, ◌==◌, ℤ, pos, negsuc, ◌+ℤ◌, List, [], ◌∷◌, ◌++◌, take, drop, map, replicate, true, false, if◌then◌else◌, codes}
 use Rattle.sound_terms.specs.declared.Depth.{Depth}
 use Rattle.sound_terms.specs.declared.Depth.TheVariants.{Sixteen, TwentyFour}
@@ -8,7 +8,7 @@ use Rattle.sound_terms.specs.Mix.{Reading, share_of, full_scale, mix_at, quantiz
 use Rattle.sound_terms.specs.Waves.{SoundInfo, file_length, data_place, bext_size, file_of, header_of, is_large, u16_bytes, u32_bytes, u64_bytes, zeros, chunk_head}
 use Rattle.sound_terms.specs.Render.{rendering_of}
 
--- an event of four samples from time 100 on, over a file that begins at time 0, with these fades
+-- an event of four samples at time 100, over a file that begins at time 0, with the given fades
 abbrev four_samples : ℕ → ℕ → Event
 four_samples rise fall = record {
   number = 1;
@@ -25,7 +25,7 @@ four_samples rise fall = record {
 abbrev one_index : List BoundIndex
 one_index = record { number = 1; file = 0; base = 0; addressable = 4 } ∷ []
 
--- a mono file of 16 bits with this one sample throughout
+-- a 16-bit mono file whose samples are all equal
 abbrev constant : ℤ → Reading
 constant sample file channel frame = full_scale 16 sample
 
@@ -39,7 +39,7 @@ in_fade_of_four = refl
 pub out_fade_of_four : heard (constant (pos 1000)) (four_samples 0 4 ∷ []) ≡ pos 1000 ∷ pos 750 ∷ pos 500 ∷ pos 250 ∷ []
 out_fade_of_four = refl
 
--- negative shares are rounded down, and rounded sums go to the nearest, halves up
+-- negative shares are rounded down; rounded sums go to the nearest, halves up
 pub shares_go_down : map (λ i. share_of (full_scale 16 (negsuc 0)) (i, 3)) (0 ∷ 1 ∷ 2 ∷ [])
     ≡ pos 0 ∷ negsuc 1431655765 ∷ negsuc 2863311530 ∷ []
 shares_go_down = refl
@@ -52,7 +52,7 @@ pub halves_go_up : map (λ v. quantized 16 (share_of (full_scale 16 v) (1, 2))) 
     ≡ pos 1 ∷ pos 0 ∷ []
 halves_go_up = refl
 
--- an out-fade of three under an in-fade of three on the same samples: the second sum is one below 5 * 2 ^ 32
+-- a crossfade of 3 samples of a constant sound; the second sum is 5 * 2 ^ 32 - 1
 pub crossfade_is_exact : map (λ i. quantized 16 (share_of (full_scale 16 (pos 5)) (3 - i, 3)
     +ℤ share_of (full_scale 16 (pos 5)) (i, 3))) (0 ∷ 1 ∷ 2 ∷ []) ≡ pos 5 ∷ pos 5 ∷ pos 5 ∷ []
 crossfade_is_exact = refl
@@ -70,12 +70,12 @@ pub twice_is_clipped : heard four_values (four_samples 0 0 ∷ four_samples 0 0 
     ≡ pos 2000 ∷ negsuc 1999 ∷ pos 32767 ∷ negsuc 32767 ∷ []
 twice_is_clipped = refl
 
--- 32767 + 32767 - 32768: no partial sum is clipped
+-- 32767 + 32767 - 32768: partial sums are not clipped
 pub sums_are_exact : quantized 16 (full_scale 16 (pos 32767)
     +ℤ (full_scale 16 (pos 32767) +ℤ full_scale 16 (negsuc 32767))) ≡ pos 32766
 sums_are_exact = refl
 
--- `out` isn't heard, and neither is the sample before `in`
+-- an event is silent at `out` and at the sample before `in`
 pub ends_are_silent : map (λ time. mix_at (constant (pos 1)) one_index (four_samples 0 0 ∷ []) 1 time) (99 ∷ 104 ∷ [])
     ≡ pos 0 ∷ pos 0 ∷ []
 ends_are_silent = refl
@@ -87,7 +87,7 @@ pub narrower_depth : map (λ v. quantized 16 (full_scale 24 v)) (pos 128 ∷ pos
     ≡ pos 1 ∷ pos 0 ∷ pos 0 ∷ []
 narrower_depth = refl
 
--- the sizes of written files
+-- sizes of written files
 abbrev mono : Depth → ℕ → List ℕ → SoundInfo
 mono depth frames history =
     record {
@@ -110,7 +110,7 @@ pub longest_of_riff : map (λ frames. is_large (mono Sixteen frames [])) (214748
     ≡ false ∷ true ∷ []
 longest_of_riff = refl
 
--- the rendered file of 1000, -1000, 32767, -32768 from one hour on: 698 bytes
+-- the rendered file of 1000, -1000, 32767, -32768, starting at one hour: 698 bytes
 abbrev pub rendered : List ℕ
 rendered = rendering_of (record { from = 172800000; to = 172800004; channels = 1; depth = Sixteen })
     (λ channel time. four_values 0 channel (time - 172800000))
@@ -124,7 +124,7 @@ pub rendered_whole : rendered ≡
 unfolding rendering_of file_of header_of u16_bytes u32_bytes u64_bytes zeros chunk_head
 rendered_whole = refl
 
--- one frame too many for RIFF: the first 80 bytes and the last 8 of the header
+-- one sample frame too many for RIFF: the first 80 and the last 8 bytes of the header
 pub rf64_header : take 80 (header_of (mono Sixteen 2147483307 []))
     ++ drop 682 (header_of (mono Sixteen 2147483307 [])) ≡
     codes "RF64" ++ (255 ∷ 255 ∷ 255 ∷ 255 ∷ []) ++ codes "WAVEds64" ++ (28 ∷ 0 ∷ 0 ∷ 0 ∷ [])

@@ -1,5 +1,5 @@
--- The bytes of a sound file that is written: RIFF WAVE with a Broadcast Wave `bext` chunk (EBU Tech 3285),
--- or RF64 (EBU Tech 3306) where it is too long for RIFF. Numbers are little endian.
+-- Bytes of a written sound file: RIFF WAVE with a Broadcast Wave `bext` chunk (EBU Tech 3285), or RF64 (EBU Tech 3306)
+-- if it is too long for RIFF. Numbers are little endian.
 use Rattle.std.specs.Prelude.{ℕ, ◌+◌, ◌-◌, ◌*◌, ◌/◌, ◌%◌, nat_lt, Bool, ℤ, List, ◌++◌, length, drop, replicate, if◌then◌else◌, codes}
 use Rattle.std.specs.Int.{w32}
 use Rattle.byteorder.specs.Endian.{little_bytes, little_number, low_bytes, twos_complement}
@@ -18,24 +18,24 @@ u64_bytes n = little_bytes 8 n
 unfoldable pub zeros : ℕ → List ℕ
 zeros n = replicate n 0
 
--- the four bytes of a chunk's id, then its size
+-- header of a chunk: its four-byte id and its size
 unfoldable pub chunk_head : List ℕ → ℕ → List ℕ
 chunk_head id size = id ++ u32_bytes size
 
--- a sample as depth / 8 bytes of two's complement
+-- a sample as depth / 8 bytes in two's complement
 abbrev pub sample_bytes : ℕ → ℤ → List ℕ
 sample_bytes depth sample = little_bytes (depth / 8) (low_bytes w32 (depth / 8) sample)
 
--- the sample that these bytes begin with
+-- the sample at the start of the bytes
 abbrev pub sample_of : ℕ → List ℕ → ℤ
 sample_of depth bytes = twos_complement (depth / 8) (little_number (depth / 8) bytes)
 
--- the sample of a frame (from 0) and a channel (from 1) where the samples begin at this place
+-- the sample of a sample frame (from 0) and a channel (from 1), if the samples start at offset `place`
 abbrev pub sample_at : List ℕ → ℕ → ℕ → ℕ → ℕ → ℕ → ℤ
 sample_at file place channels depth frame channel =
     sample_of depth (drop (place + (frame * channels + (channel - 1)) * (depth / 8)) file)
 
--- what is told of a sound file beside its samples; `text` is the 338 bytes of the five text fields of `bext`
+-- properties of a sound file without its samples; `text` is the 338 bytes of the five text fields of `bext`
 pub record SoundInfo : Type 0 where
   pub channels : ℕ
   pub depth : Depth
@@ -50,42 +50,42 @@ frame_bytes info = info.channels * (bits_of info.depth / 8)
 abbrev pub data_size : SoundInfo → ℕ
 data_size info = info.frames * frame_bytes info
 
--- the size of the `bext` chunk: 602 bytes and the CodingHistory
+-- size of the `bext` chunk: 602 bytes and the CodingHistory
 abbrev pub bext_size : SoundInfo → ℕ
 bext_size info = 602 + length info.history
 
--- where the samples begin
+-- offset of the samples
 abbrev pub data_place : SoundInfo → ℕ
 data_place info = 88 + (bext_size info + bext_size info % 2)
 
--- chunks are padded to even sizes
+-- length of the file; chunks are padded to even sizes
 abbrev pub file_length : SoundInfo → ℕ
 file_length info = data_place info + (data_size info + data_size info % 2)
 
--- its length can't be told by the RIFF size field
+-- the length exceeds the RIFF size field
 abbrev pub is_large : SoundInfo → Bool
 is_large info = nat_lt 4294967294 (file_length info - 8)
 
--- `ds64` of RF64, with no table (EBU Tech 3306, 3.2)
+-- `ds64` chunk of RF64 without table entries (EBU Tech 3306, 3.2)
 abbrev pub ds64_chunk : SoundInfo → List ℕ
 ds64_chunk info =
     chunk_head (codes "ds64") 28 ++ (u64_bytes (file_length info - 8)
     ++ (u64_bytes (data_size info) ++ (u64_bytes info.frames ++ zeros 4)))
 
--- the head of the file, and in RIFF a JUNK chunk in the place of `ds64`
+-- header of the file; RIFF has a JUNK chunk of the same size as `ds64`
 abbrev pub form_head : SoundInfo → List ℕ
 form_head info = if is_large info
     then chunk_head (codes "RF64") 4294967295 ++ (codes "WAVE" ++ ds64_chunk info)
     else chunk_head (codes "RIFF") (file_length info - 8)
     ++ (codes "WAVE" ++ (chunk_head (codes "JUNK") 28 ++ zeros 28))
 
--- the `bext` chunk, version 1 with no UMID (EBU Tech 3285, 2.3)
+-- `bext` chunk, version 1 without UMID (EBU Tech 3285, 2.3)
 abbrev pub bext_chunk : SoundInfo → List ℕ
 bext_chunk info =
     chunk_head (codes "bext") (bext_size info) ++ (info.text ++ (u64_bytes info.time_reference ++ (u16_bytes 1
     ++ (zeros 254 ++ (info.history ++ zeros (bext_size info % 2))))))
 
--- the `fmt ` chunk of PCM at 48000 samples a second
+-- `fmt ` chunk of PCM at 48,000 samples per second
 abbrev pub format_chunk : SoundInfo → List ℕ
 format_chunk info =
     chunk_head (codes "fmt ") 16 ++ (u16_bytes 1 ++ (u16_bytes info.channels ++ (u32_bytes 48000
@@ -94,10 +94,10 @@ format_chunk info =
 abbrev pub data_head : SoundInfo → List ℕ
 data_head info = chunk_head (codes "data") (if is_large info then 4294967295 else data_size info)
 
--- all that stands before the samples
+-- all bytes before the samples
 unfoldable pub header_of : SoundInfo → List ℕ
 header_of info = form_head info ++ (bext_chunk info ++ (format_chunk info ++ data_head info))
 
--- the whole file over these bytes of samples
+-- the complete file with these bytes of samples
 unfoldable pub file_of : SoundInfo → List ℕ → List ℕ
 file_of info samples = header_of info ++ (samples ++ zeros (length samples % 2))

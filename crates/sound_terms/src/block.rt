@@ -1,4 +1,4 @@
-// A block of a rendering: what is done to its sums, one instruction after the other.
+// A block of a rendering: the instructions that compute its sums.
 ghost use Rattle.std.specs.Prelude.{◌≡◌, ◌<◌, ◌∷◌, ◌++◌, [], length, IfOk};
 ghost use Rattle.sound_terms.specs.Blocks.{adding};
 
@@ -6,9 +6,9 @@ use crate::{Depth, Shape};
 use std::alloc::{AllocError, Global};
 use std::marker::Model;
 
-/// The samples of a block that play a file: `length` of them from sample `at` of the block on, from the file's frame
-/// `frame` on. `width` channels sound, those of the file from `first` on, on channels from `dest` on; both are counted
-/// from 1.
+/// Part of a file that plays in a block: `length` samples, from sample `at` of the block and sample frame `frame` of
+/// the file on. It plays `width` channels, the file's channels from `first` on, on channels from `dest` on; both are
+/// counted from 1.
 #[derive(Clone, Copy, Debug, PartialEq, Eq)]
 pub struct Stretch {
     pub at: u32,
@@ -20,37 +20,37 @@ pub struct Stretch {
     pub width: u8,
 }
 
-/// One step of a block.
+/// One instruction of a block.
 #[derive(Clone, Copy, Debug, PartialEq, Eq)]
 pub enum Instruction {
-    /// A block of so many frames begins: every sum is zero.
+    /// Starts a block of `frames` sample frames with all sums zero.
     Start {
         frames: u32,
     },
-    /// Adds a stretch of a file as it is.
+    /// Adds a stretch of a file without a fade.
     Flat {
         stretch: Stretch,
     },
-    /// Adds (offset + i) / den of each frame i of a stretch.
+    /// Adds (offset + i) / den of each sample i of a stretch.
     Rise {
         stretch: Stretch,
         offset: u64,
         den: u64,
     },
-    /// Adds (den - offset - i) / den of each frame i of a stretch.
+    /// Adds (den - offset - i) / den of each sample i of a stretch.
     Fall {
         stretch: Stretch,
         offset: u64,
         den: u64,
     },
-    /// Hands out all sums, frame by frame, rounded to this depth and clipped.
+    /// Outputs all sums, interleaved by sample frame, rounded and clipped to this depth.
     Emit {
         depth: Depth,
     },
 }
 
 impl Instruction {
-    /// The one that adds a stretch under a shape.
+    /// Returns the instruction that adds a stretch with the given fade shape.
     pub fn adding(stretch: Stretch, shape: Shape) -> Self
         ensures { result ≡ adding stretch shape }
     {
@@ -70,8 +70,8 @@ impl Instruction {
     }
 }
 
-/// The instructions of a block, in order, in room that was taken for so many. A clause sees the room and the
-/// instructions.
+/// The instructions of a block, in order, in a preallocated buffer. Contracts see the capacity (`room`) and the
+/// instructions (`lines`).
 #[derive(Drop)]
 pub struct Program {
     slots: Vec<Instruction>,
@@ -93,7 +93,7 @@ impl Model for Program {
 }
 
 impl Program {
-    /// No instruction yet, in room for so many.
+    /// Creates an empty program with capacity for `room` instructions. Returns an error if out of memory.
     pub fn with_room(alloc: Global, room: usize) -> Result<Self, AllocError>
         ensures { IfOk result (λ program. program ≡ record { room = room; lines = [] }) }
     {
@@ -102,21 +102,21 @@ impl Program {
         Ok(Program { slots, count: 0 })
     }
 
-    /// The instructions.
+    /// Returns the instructions.
     pub fn as_slice(&self) -> &[Instruction]
         ensures { result.now ≡ self.now.lines }
     {
         &self.slots.as_slice()[..self.count]
     }
 
-    /// Leaves no instruction; the room stays.
+    /// Removes all instructions and keeps the capacity.
     pub fn clear(&mut self)
         ensures { self.new ≡ record self.old { lines = [] } }
     {
         self.count = 0;
     }
 
-    /// One instruction more, where there is room for it.
+    /// Appends an instruction. There must be room for it.
     pub fn push(&mut self, line: Instruction)
         requires { length self.old.lines < self.old.room }
         ensures { self.new ≡ record self.old { lines = self.old.lines ++ line ∷ [] } }

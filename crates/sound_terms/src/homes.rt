@@ -1,12 +1,12 @@
-// The home index of each file.
+// Home indexes of the files.
 ghost use Rattle.std.specs.Prelude.{◌≡◌, slice_get};
 ghost use Rattle.sound_terms.specs.Homes.{AreHomes, base_by, place_by};
 
 use crate::Home;
 use std::marker::Model;
 
-/// The home of each file, by the file's number. Two files have two home indexes, and the frames that can be addressed
-/// end in the day. A clause sees the list of them.
+/// The home index of each file, by file number. No two files share a home index, and the addressable samples of each
+/// file end within the day. Contracts see the list of homes.
 #[derive(Drop)]
 pub struct Homes {
     homes: Vec<Home>,
@@ -25,7 +25,7 @@ impl Model for Homes {
 }
 
 impl Homes {
-    /// These homes, the first of which is that of file 0.
+    /// Creates the table from a list whose first item is the home of file 0.
     pub fn of(homes: Vec<Home>) -> Self
         requires { AreHomes homes.items }
         ensures { result ≡ homes.items }
@@ -33,7 +33,7 @@ impl Homes {
         Homes { homes }
     }
 
-    /// All of them.
+    /// Returns the homes of all files, by file number.
     pub fn as_slice(&self) -> &[Home]
         ensures lent { result.now ≡ self.now }
         ensures sound { AreHomes self.now }
@@ -41,7 +41,7 @@ impl Homes {
         self.homes.as_slice()
     }
 
-    /// The home of a file.
+    /// Returns the home of a file, or `None` if the file has none.
     pub fn get(&self, file: u32) -> Option<Home>
         ensures home { result ≡ slice_get self.now file }
         ensures sound { AreHomes self.now }
@@ -49,7 +49,7 @@ impl Homes {
         self.homes.get(file as usize).copied()
     }
 
-    /// The time of a file's first frame; 0 without a home.
+    /// Returns the time of a file's first sample, in samples since midnight; 0 for a file without a home.
     pub fn base(&self, file: u32) -> u64
         ensures { result ≡ base_by self.now file }
     {
@@ -59,7 +59,7 @@ impl Homes {
         }
     }
 
-    /// Where the home index of a file stands among the bound indexes; 0 without a home.
+    /// Returns the position of a file's home index among the bound indexes; 0 for a file without a home.
     pub fn position(&self, file: u32) -> u32
         ensures { result ≡ place_by self.now file }
     {

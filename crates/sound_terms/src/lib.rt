@@ -1,4 +1,4 @@
-//! The words of sound: events and depths, what a listener hears, and the bytes of sound files.
+//! Types and definitions for sound: events, depths, the mix a listener hears, and the bytes of sound files.
 #![tactic(auto)]
 
 ghost use Rattle.std.specs.Prelude.{◌≡◌};
@@ -14,7 +14,7 @@ pub use homes::Homes;
 pub use piece::{Home, Piece, Placed, Run, Shape};
 use sampletime::SampleTime;
 
-/// The bits of a sample.
+/// The number of bits per sample.
 #[derive(Clone, Copy, Debug, PartialEq, Eq)]
 pub enum Depth {
     Sixteen,
@@ -23,7 +23,7 @@ pub enum Depth {
 }
 
 impl Depth {
-    /// 16, 24 or 32.
+    /// Returns the number of bits per sample: 16, 24 or 32.
     pub fn bits(self) -> u8
         ensures { result ≡ bits_of self }
     {
@@ -35,27 +35,27 @@ impl Depth {
     }
 }
 
-/// Why the bytes of a file are no sound that is read.
+/// The reason why a file can't be read as sound.
 #[derive(Clone, Copy, Debug, PartialEq, Eq)]
 pub enum SoundFault {
-    /// The file doesn't begin as RIFF or RF64 of the form WAVE.
+    /// The file doesn't start with a RIFF or RF64 header of the form WAVE.
     NotWave,
-    /// It has no chunk `fmt `.
+    /// The file has no `fmt ` chunk.
     NoFormat,
-    /// It has no chunk `data`.
+    /// The file has no `data` chunk.
     NoData,
-    /// A chunk that counts passes the end of the file.
+    /// A required chunk extends past the end of the file.
     Truncated,
-    /// Its samples are no PCM of a depth and of channels that are read.
+    /// The samples aren't PCM of a supported depth and number of channels.
     BadFormat,
-    /// The chunk `ds64` of RF64 is missing or broken, or doesn't tell a size that it has to.
+    /// The `ds64` chunk of RF64 is missing or malformed, or lacks a required size.
     BadDs64,
-    /// Its samples don't run at 48000 a second.
+    /// The sample rate isn't 48,000 Hz.
     WrongRate,
 }
 
 impl SoundFault {
-    /// The number of the refusal: 23 to 29.
+    /// Returns the number of the refusal, 23 to 29.
     pub fn number(self) -> u8
         ensures { result ≡ number_of self }
     {
@@ -71,20 +71,20 @@ impl SoundFault {
     }
 }
 
-/// A run of channels, counted from 1; `last` is one of them.
+/// A range of channels, counted from 1; `last` is included.
 #[derive(Clone, Copy, Debug, PartialEq, Eq)]
 pub struct Channels {
     pub first: u8,
     pub last: u8,
 }
 
-/// A linear fade of so many samples; none where it is zero.
+/// A linear fade; a length of zero means no fade.
 #[derive(Clone, Copy, Debug, PartialEq, Eq)]
 pub struct Fade {
     pub length: SampleTime,
 }
 
-/// One entry of a list: a span of a source that sounds from `dest_in` up to, and without, `dest_out`.
+/// One entry of a list: part of a source that plays from `dest_in` up to but not including `dest_out`.
 #[derive(Clone, Copy, Debug, PartialEq, Eq)]
 pub struct Event {
     pub number: u32,
@@ -98,8 +98,9 @@ pub struct Event {
     pub fall: Fade,
 }
 
-/// A source index that is bound to a file: the place of the file among those opened, the time of its
-/// first frame, and how many frames from the first on can be addressed before the day ends.
+/// A source index that is bound to a file: its number, the number of the file among the opened files, the time of the
+/// first sample of the file in samples since midnight, and the number of samples, from the first on, that can be
+/// addressed before the day ends.
 #[derive(Clone, Copy, Debug, PartialEq, Eq)]
 pub struct BoundIndex {
     pub number: u32,
@@ -108,15 +109,15 @@ pub struct BoundIndex {
     pub addressable: u64,
 }
 
-/// A stretch of a file, in bytes.
+/// A range of a file, in bytes.
 #[derive(Clone, Copy, Debug, PartialEq, Eq)]
 pub struct Span {
     pub at: u64,
     pub length: u64,
 }
 
-/// Where the chunks that count stand in a sound file (EBU Tech 3285 and 3306), without their heads.
-/// `others` tells that the file has chunks that are not carried along.
+/// Positions of the contents (without headers) of the required chunks in a sound file (EBU Tech 3285, EBU Tech 3306).
+/// `others` is true if the file has chunks that aren't copied.
 #[derive(Clone, Copy, Debug, PartialEq, Eq)]
 pub struct Chunks {
     pub format: Span,
@@ -125,8 +126,8 @@ pub struct Chunks {
     pub others: bool,
 }
 
-/// The fields of the chunk `ds64` of RF64 (EBU Tech 3306): the sizes that 32 bits can't tell, in bytes; the
-/// count of frames; and how many chunks of other kinds have their size in the table behind these fields.
+/// The fields of the `ds64` chunk of RF64 (EBU Tech 3306, 3.2): the sizes in bytes that exceed 32 bits, the number of
+/// sample frames, and the number of entries in the table of further chunk sizes.
 #[derive(Clone, Copy, Debug, PartialEq, Eq)]
 pub struct Ds64 {
     pub riff_size: u64,
@@ -135,17 +136,17 @@ pub struct Ds64 {
     pub entries: u32,
 }
 
-/// What a Broadcast Wave file tells of itself in its chunk `bext` (EBU Tech 3285), its CodingHistory aside.
+/// The fields of the `bext` chunk of a Broadcast Wave file (EBU Tech 3285, 2.3), without its CodingHistory.
 #[derive(Clone, Copy, Debug)]
 pub struct Bext {
-    /// Description (256 bytes), Originator (32), OriginatorReference (32), OriginationDate (10) and
-    /// OriginationTime (8), each filled up with zeros.
+    /// Description (256 bytes), Originator (32), OriginatorReference (32), OriginationDate (10) and OriginationTime
+    /// (8), each padded with zeros.
     pub text: [u8; 338],
-    /// The time of the first frame, in samples since midnight.
+    /// The time of the first sample, in samples since midnight.
     pub time_reference: u64,
 }
 
-/// Linear PCM at 48000 samples a second: 1 to 64 channels, and the bits of a sample.
+/// Linear PCM at 48,000 samples per second: 1 to 64 channels, and the number of bits per sample.
 #[derive(Clone, Copy, Debug, PartialEq, Eq)]
 pub struct Format {
     pub channels: u8,

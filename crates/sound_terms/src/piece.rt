@@ -1,23 +1,23 @@
-// The sound as pieces of files, and what is kept of the files.
+// Pieces of files on the timeline, and the samples of the files that are kept.
 ghost use Rattle.std.specs.Prelude.{◌≡◌};
 ghost use Rattle.sound_terms.specs.Groups.{IsRamp};
 ghost use Rattle.sound_terms.specs.Passes.{shape_behind};
 
-/// How a piece fades at its sample i. A ramp that was cut keeps the length of the whole one, `den`, and begins at
+/// The fade shape of a piece: its gain at each sample i. A fade that was cut keeps its full length `den` and starts at
 /// `offset`.
 #[derive(Clone, Copy, Debug, Default, PartialEq, Eq)]
 pub enum Shape {
-    /// All samples as they are.
+    /// Gain 1 for all samples.
     #[default]
     Flat,
-    /// (offset + i) / den of each sample.
+    /// Gain (offset + i) / den.
     Rise { offset: u64, den: u64 },
-    /// (den - offset - i) / den of each sample.
+    /// Gain (den - offset - i) / den.
     Fall { offset: u64, den: u64 },
 }
 
 impl Shape {
-    /// The shape of what is left of a piece behind its first `count` samples.
+    /// Returns the shape of the rest of a piece after its first `count` samples.
     pub fn after(self, count: u64) -> Self
         requires { IsRamp self count }
         ensures { result ≡ shape_behind count self }
@@ -36,8 +36,8 @@ impl Shape {
     }
 }
 
-/// A part of a file on the timeline: `length` samples from `start` on, from the file's frame `frame` on. `width`
-/// channels sound, those of the file from `first` on, on channels from `dest` on; both are counted from 1.
+/// Part of a file on the timeline: `length` samples, from time `start` and sample frame `frame` of the file on. It
+/// plays `width` channels, the file's channels from `first` on, on channels from `dest` on; both are counted from 1.
 #[derive(Clone, Copy, Debug, Default, PartialEq, Eq)]
 pub struct Piece {
     pub start: u64,
@@ -50,7 +50,7 @@ pub struct Piece {
     pub shape: Shape,
 }
 
-/// The event of a group: its pieces as one, with the lengths of its fades.
+/// One event for a whole group of pieces: the joined piece and the lengths of its fades.
 #[derive(Clone, Copy, Debug, PartialEq, Eq)]
 pub struct Placed {
     pub start: u64,
@@ -64,7 +64,7 @@ pub struct Placed {
     pub fall: u64,
 }
 
-/// Frames of a file that are kept: `length` of them, from `first` on.
+/// A range of sample frames of a file that is kept: `length` of them, starting at `first`.
 #[derive(Clone, Copy, Debug, PartialEq, Eq)]
 pub struct Run {
     pub file: u32,
@@ -72,8 +72,8 @@ pub struct Run {
     pub length: u64,
 }
 
-/// What a file's home index tells, the bound index of that file with the least base: that base, how many frames from
-/// the first on can be addressed, and which of the bound indexes it is, from 0.
+/// The home index of a file, its bound index with the lowest base: that base, the number of addressable samples from
+/// the first on, and its position among the bound indexes, counted from 0.
 #[derive(Clone, Copy, Debug, PartialEq, Eq)]
 pub struct Home {
     pub base: u64,
