@@ -1,4 +1,4 @@
--- Samples added to sums, some of them more.
+-- Adding samples to sums.
 use Rattle.std.proofs.Common.{◌≡◌, ℕ, zero, suc, ◌+◌, ◌-◌, ◌*◌, ◌/◌, ◌<◌, ◌≤◌, List, [], ◌∷◌, ◌++◌, All, length, take, drop, set, get_or, refl, sym, ap, subst, ◌∙◌, arith}
 use Rattle.std.specs.Prelude.{ℤ, pos, ◌+ℤ◌}
 use Rattle.std.proofs.lemmas.Int.{ints, to_z-of_z}
@@ -13,12 +13,12 @@ use Rattle.pcm.specs.Samples.{samples_in, summed, FitsDepth}
 use Rattle.pcm.specs.Laws.{length-samples_in, get_or-samples_in, length-summed, get_or-summed, samples_in_more}
 use Rattle.pcm.proofs.Steps.{FitWords, all_four, narrow, next_inside, next_read, next_words, samples_in-take, words}
 
--- where no sums are left, nothing is added
+-- no samples add nothing
 pub summed_none : (sums : List ℤ) → summed sums [] ≡ sums
 summed_none [] = refl
 summed_none (sum ∷ sums) = refl
 
--- those that have no sample stay
+-- sums without a sample are unchanged
 pub summed_front : (n : ℕ) (sums samples : List ℤ) → length samples ≤ n
     → summed (take n sums) samples ++ drop n sums ≡ summed sums samples
 summed_front zero [] samples few = refl
@@ -31,7 +31,7 @@ summed_front (suc n) (sum ∷ sums) [] few =
 summed_front (suc n) (sum ∷ sums) (sample ∷ samples) few =
     ap (λ (l : List ℤ). (sum +ℤ sample) ∷ l) (summed_front n sums samples (omega arith))
 
--- samples behind others are added behind them
+-- adding more samples to the sums after those already added
 pub summed_behind : (n m : ℕ) (sums samples more : List ℤ) → length samples ≡ n → length more ≤ m → n + m ≤ length sums
     → put_mid n m (summed sums samples) (summed (take m (drop n (summed sums samples))) more)
     ≡ summed sums (samples ++ more)
@@ -43,7 +43,7 @@ summed_behind (suc n) m (sum ∷ sums) [] more whole few room = absurd (omega ar
 summed_behind (suc n) m (sum ∷ sums) (sample ∷ samples) more whole few room =
     ap (λ (l : List ℤ). (sum +ℤ sample) ∷ l) (summed_behind n m sums samples more (omega arith) few (omega arith))
 
--- one more
+-- adding one more sample
 pub summed_more : (n : ℕ) (sums samples : List ℤ) (sample : ℤ) → length samples ≡ n → n < length sums
     → set (summed sums samples) n (get_or (summed sums samples) n (pos 0) +ℤ sample) ≡ summed sums (samples ++ sample ∷ [])
 summed_more zero [] samples sample whole room = absurd (omega arith)
@@ -54,7 +54,7 @@ summed_more (suc n) (sum ∷ sums) [] sample whole room = absurd (omega arith)
 summed_more (suc n) (sum ∷ sums) (other ∷ samples) sample whole room =
     ap (λ (l : List ℤ). (sum +ℤ other) ∷ l) (summed_more n sums samples sample (omega arith) (omega arith))
 
--- behind the samples the sums are as they were
+-- a sum without a sample is unchanged
 pub get_or-summed_behind : (sums samples : List ℤ) (k : ℕ) (d : ℤ) → length samples ≤ k
     → get_or (summed sums samples) k d ≡ get_or sums k d
 get_or-summed_behind [] samples k d behind = refl
@@ -63,13 +63,13 @@ get_or-summed_behind (sum ∷ sums) (sample ∷ samples) zero d behind = absurd 
 get_or-summed_behind (sum ∷ sums) (sample ∷ samples) (suc k) d behind =
     get_or-summed_behind sums samples k d (omega arith)
 
--- four sums and their samples
+-- adding four samples to four sums
 pub four_summed : (sums : List ℤ) (a b c d : ℤ) → length sums ≡ 4
     → (get_or sums 0 (pos 0) +ℤ a) ∷ (get_or sums 1 (pos 0) +ℤ b) ∷ (get_or sums 2 (pos 0) +ℤ c)
     ∷ (get_or sums 3 (pos 0) +ℤ d) ∷ [] ≡ summed sums (a ∷ b ∷ c ∷ d ∷ [])
 four_summed sums a b c d long = ap (λ (l : List ℤ). summed l (a ∷ b ∷ c ∷ d ∷ [])) (all_four sums long)
 
--- each sum fits with its sample
+-- each sum with its sample fits 32 bits
 pub room_at : (sums samples : List ℤ) (k : ℕ) → All (FitsDepth 32) (summed sums samples) → k < length sums
     → k < length samples → SFits w32 (get_or sums k (pos 0) +ℤ get_or samples k (pos 0))
 room_at sums samples k room inside near =
@@ -77,7 +77,7 @@ room_at sums samples k room inside near =
     let same = get_or-summed sums samples k (pos 0) inside near in
     omega (arith, ints, subst (FitsDepth 32) same fits)
 
--- so do both as words of 32 bits
+-- each sum with its sample fits 32 bits, with both taken as 32-bit words
 pub words_fit : (sums samples : List ℤ) (k : ℕ) → All (FitsDepth 32) (summed sums samples)
     → SFits w32 (get_or sums k (pos 0)) → SFits w32 (get_or samples k (pos 0)) → k < length sums → k < length samples
     → SFits w32 (to_z w32 (of_z w32 (get_or sums k (pos 0))) +ℤ to_z w32 (of_z w32 (get_or samples k (pos 0))))
@@ -87,7 +87,7 @@ words_fit sums samples k room sum sample inside near =
 
 module _ (depth n : ℕ) (bytes : List ℕ) (sums : List ℤ)
     (room : All (FitsDepth 32) (summed sums (samples_in depth (length sums) bytes))) where
-  -- so it does where the first n have theirs
+  -- the next sum fits after the first n samples were added
   pub room_behind : (j : ℕ) (d : ℤ) → n ≤ j → j < length sums
       → FitsDepth 32 (get_or (summed sums (samples_in depth n bytes)) j d +ℤ sample_of depth (drop (j * (depth / 8)) bytes))
   room_behind j d later inside =
@@ -99,7 +99,7 @@ module _ (depth n : ℕ) (bytes : List ℕ) (sums : List ℤ)
       (subst (FitsDepth 32) (get_or-summed sums (samples_in depth (length sums) bytes) j d inside near)
       (room j d (rw (length-summed sums (samples_in depth (length sums) bytes)) inside)))
 
-  -- and so do the next four
+  -- the next four sums fit
   pub room_four : (four : List ℤ) → depth / 8 ≤ 4
       → four ≡ samples_in depth 4 (take 16 (drop (n * (depth / 8)) bytes)) → n + 4 ≤ length sums
       → All (FitsDepth 32) (summed (take 4 (drop n (summed sums (samples_in depth n bytes)))) four)
@@ -121,7 +121,7 @@ module _ (depth n : ℕ) (bytes : List ℕ) (sums : List ℤ)
       rw (get_or-summed part four k d (omega arith) (omega arith), sum, sample)
       (room_behind (n + k) d (omega arith) (omega arith))
 
-  -- the next one is added as a word of 32 bits
+  -- the next sample is added as a 32-bit word
   module _ (now : List ℤ) (sample : ℤ) (sum_fits : SFits w32 (get_or now n (pos 0))) (sample_fits : SFits w32 sample)
       (inside : n < length sums) (so_far : now ≡ summed sums (samples_in depth n bytes))
       (read : sample ≡ sample_of depth (drop (n * (depth / 8)) bytes)) where
@@ -144,7 +144,7 @@ module _ (depth n : ℕ) (bytes : List ℕ) (sums : List ℤ)
         (summed_more n sums (samples_in depth n bytes) (sample_of depth (drop (n * (depth / 8)) bytes))
         (length-samples_in depth n bytes) inside ∙ ap (summed sums) (sym (samples_in_more depth n bytes)))
 
--- the next four are added as words of 32 bits
+-- the next four samples are added as 32-bit words
 module _ (depth : Depth) (done width : ℕ) (bytes : List ℕ) (four : List ℤ) (wide : width ≡ bits_of depth / 8)
     (read : four ≡ samples_in (bits_of depth) 4 (take 16 (drop (done * width) bytes))) (fit : FitWords four)
     (sums now : List ℤ) (each : length bytes ≡ length sums * (bits_of depth / 8))

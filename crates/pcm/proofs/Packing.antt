@@ -1,4 +1,4 @@
--- Samples of 24 bits, packed out of the lower three bytes of lanes of 32 bits.
+-- Packing of 24-bit samples from the lower three bytes of 32-bit lanes.
 use Rattle.std.proofs.Common.{◌≡◌, ℕ, ◌+◌, ◌*◌, ◌/◌, ◌%◌, ◌^◌, ◌<◌, ◌≤◌, List, [], ◌∷◌, ◌++◌, length, map, take, drop, get_or, refl, sym, ap, ◌∙◌, arith, length-append}
 use Rattle.std.specs.Prelude.{ℤ, pos}
 use Rattle.std.specs.List.{flat_map}
@@ -14,11 +14,11 @@ use mir.Val.{SFits, of_z}
 use Rattle.byteorder.specs.Endian.{little_bytes}
 use Rattle.sound_terms.specs.Waves.{sample_bytes}
 
--- where each byte comes from
+-- source index of each packed byte
 abbrev pub places : List ℕ
 places = 0 ∷ 1 ∷ 2 ∷ 4 ∷ 5 ∷ 6 ∷ 8 ∷ 9 ∷ 10 ∷ 12 ∷ 13 ∷ 14 ∷ 128 ∷ 128 ∷ 128 ∷ 128 ∷ []
 
--- the bytes of the lowest lane, and what stands above it
+-- the bytes of the lowest lane do not depend on the lanes above
 first_byte : (a n : ℕ) → (a + 4294967296 * n) % 256 ≡ a % 16777216 % 256
 first_byte a n = omega arith
 
@@ -57,7 +57,7 @@ four_packed a b c d first second third =
       third_byte d 0,
     ) refl
 
--- four samples, stored over bytes
+-- four samples stored over bytes
 pub packed_bytes : (a b c d : ℤ) (bytes : List ℕ) → SFits w32 a → SFits w32 b → SFits w32 c → 16 ≤ length bytes
     → take 12 (put_chunk 0 bytes
     (swz_l w8 16 (digits_l 256 16 (number_l 4294967296 (map (of_z w32) (a ∷ b ∷ c ∷ d ∷ [])))) 0 places))
@@ -74,7 +74,7 @@ pub four_of : (samples : List ℤ) → 4 ≤ length samples
 four_of (a ∷ b ∷ c ∷ d ∷ rest) four = refl
 four_of samples four = absurd (omega arith)
 
--- four words more
+-- four more samples are written
 pub four_written : (i k : ℕ) (samples : List ℤ) (bytes new : List ℕ) → i * 3 ≤ length bytes → 12 ≤ length new
     → take 12 new ≡ flat_map (sample_bytes 24) (take 4 (drop i samples))
     → take (i * 3) bytes ≡ flat_map (sample_bytes 24) (take i samples)

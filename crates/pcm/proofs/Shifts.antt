@@ -1,4 +1,4 @@
--- Samples of 24 bits in the upper bytes of lanes of 32 bits.
+-- 24-bit samples in the upper bytes of 32-bit lanes.
 use Rattle.std.proofs.Common.{◌≡◌, ℕ, ◌+◌, ◌*◌, ◌/◌, ◌%◌, ◌^◌, ◌<◌, List, [], ◌∷◌, refl, ap, ◌∙◌, arith}
 use Rattle.std.specs.Prelude.{ℤ}
 use Rattle.std.specs.Int.Signed.{shr_z}
@@ -8,11 +8,11 @@ use mir.Syntax.{w32}
 use mir.Val.{of_z, to_z}
 use Rattle.byteorder.specs.Endian.{twos_complement}
 
--- a lane, shifted down by a byte
+-- a lane shifted right by one byte
 abbrev pub shifted : ℕ → ℤ
 shifted n = to_z w32 (of_z w32 (shr_z (to_z w32 n) 256))
 
--- the four lanes of a number
+-- the four shifted lanes of a 128-bit number
 abbrev pub four_shifted : ℕ → List ℤ
 four_shifted n = shifted (n % 4294967296) ∷ shifted (n / 4294967296 % 4294967296)
     ∷ shifted (n / 4294967296 / 4294967296 % 4294967296)
@@ -30,7 +30,7 @@ next_lane a n below = omega arith
 lane_is : (a n : ℕ) → a < 2 ^ 24 → shifted ((256 * a + 4294967296 * n) % 4294967296) ≡ twos_complement 3 a
 lane_is a n below = ap shifted (low_lane a n below) ∙ shifted_is a below
 
--- four samples, each in a lane
+-- four shifted lanes are four samples
 pub four_are : (a b c d : ℕ) → a < 2 ^ 24 → b < 2 ^ 24 → c < 2 ^ 24 → d < 2 ^ 24
     → four_shifted (256 * a + 4294967296 * (256 * b + 4294967296 * (256 * c + 4294967296 * (256 * d + 4294967296 * 0))))
     ≡ twos_complement 3 a ∷ twos_complement 3 b ∷ twos_complement 3 c ∷ twos_complement 3 d ∷ []

@@ -1,4 +1,4 @@
--- One sample more is read, or written.
+-- Reading or writing one more sample.
 use Rattle.std.proofs.Common.{◌≡◌, ◌⊎◌, inl, inr, ℕ, zero, suc, ◌+◌, ◌-◌, ◌*◌, ◌/◌, ◌^◌, ◌<◌, ◌≤◌, List, [], ◌∷◌, ◌++◌, All, length, take, drop, set, get_or, refl, sym, ap, ◌∙◌, arith, length-append}
 use Rattle.std.specs.Prelude.{ℤ, pos}
 use Rattle.std.specs.Int.{w16, w32, cast_signed}
@@ -19,7 +19,7 @@ use Rattle.sound_terms.specs.Waves.{sample_bytes, sample_of}
 use Rattle.pcm.specs.Samples.{samples_in, FitsDepth}
 use Rattle.pcm.specs.Laws.{AreBytes, all_fit, bytes_again, length-sample_bytes, sample_of-take, samples_again, samples_in_more}
 
--- the two ways to read 16 bits as a signed number
+-- two ways to read 16 bits as a signed number agree
 pub signed16 : (x : ℕ) → x < 256 ^ 2 → cast_signed w16 x ≡ twos_complement 2 x
 signed16 x below = grind (arith, ints, nat_tests)
 
@@ -30,7 +30,7 @@ pub one_read : (depth i : ℕ) (bytes : List ℕ) (samples : List ℤ) (sample :
 one_read depth i bytes samples sample below read before =
     rw (take_more_set samples i sample below, before, read, samples_in_more depth i bytes) refl
 
--- the samples behind the first n
+-- the first n + m samples are the first n and the next m
 samples_in-append : (depth n m : ℕ) (bytes : List ℕ)
     → samples_in depth (n + m) bytes ≡ samples_in depth n bytes ++ samples_in depth m (drop (n * (depth / 8)) bytes)
 samples_in-append depth zero m bytes =
@@ -47,7 +47,7 @@ samples_in-append depth (suc n) m bytes =
       further,
     ) refl
 
--- what stands behind them plays no part
+-- bytes after the samples do not affect them
 pub samples_in-take : (depth m k : ℕ) (bytes : List ℕ) → m * (depth / 8) ≤ k
     → samples_in depth m (take k bytes) ≡ samples_in depth m bytes
 samples_in-take depth zero k bytes room = refl
@@ -61,7 +61,7 @@ samples_in-take depth (suc m) k bytes room =
       samples_in-take depth m (k - w) (drop w bytes) (omega arith),
     ) refl
 
--- four samples, each in a word of 32 bits
+-- the first four samples as 32-bit words
 abbrev pub words : List ℤ → List ℤ
 words samples = to_z w32 (of_z w32 (get_or samples 0 (pos 0))) ∷ to_z w32 (of_z w32 (get_or samples 1 (pos 0)))
     ∷ to_z w32 (of_z w32 (get_or samples 2 (pos 0))) ∷ to_z w32 (of_z w32 (get_or samples 3 (pos 0))) ∷ []
@@ -70,7 +70,7 @@ abbrev pub FitWords : List ℤ → Type 0
 FitWords samples = SFits w32 (get_or samples 0 (pos 0)) × SFits w32 (get_or samples 1 (pos 0))
     × SFits w32 (get_or samples 2 (pos 0)) × SFits w32 (get_or samples 3 (pos 0))
 
--- a list of four
+-- the first four samples of a list
 abbrev pub first_four : List ℤ → List ℤ
 first_four samples = get_or samples 0 (pos 0) ∷ get_or samples 1 (pos 0) ∷ get_or samples 2 (pos 0)
     ∷ get_or samples 3 (pos 0) ∷ []
@@ -92,7 +92,7 @@ words_again samples fit =
       to_z-of_z w32 (get_or samples 3 (pos 0)) fit.3,
     ) refl
 
--- four samples more, of sixteen bytes that stand behind so many samples
+-- four more samples are read from the next sixteen bytes
 module _ (depth : Depth) (done width : ℕ) (bytes : List ℕ) (four : List ℤ) (wide : width ≡ bits_of depth / 8)
     (read : four ≡ samples_in (bits_of depth) 4 (take 16 (drop (done * width) bytes))) (fit : FitWords four) where
   pub narrow : bits_of depth / 8 ≤ 4
@@ -106,7 +106,7 @@ module _ (depth : Depth) (done width : ℕ) (bytes : List ℕ) (four : List ℤ)
       rw (next_words, samples_in-take (bits_of depth) 4 16 (drop (done * (bits_of depth / 8)) bytes) (omega (arith, narrow)))
       (sym (samples_in-append (bits_of depth) done 4 bytes))
 
-  -- where sixteen bytes are left, so are four samples
+  -- if sixteen bytes are left, four samples are left
   pub next_inside : (n : ℕ) → length bytes ≡ n * (bits_of depth / 8) → 16 ≤ length bytes - done * width → done + 4 ≤ n
   next_inside n whole left = by_count (cases_lt n (done + 4)) where
     by_count : (n < done + 4) ⊎ (done + 4 ≤ n) → done + 4 ≤ n
@@ -116,7 +116,7 @@ module _ (depth : Depth) (done width : ℕ) (bytes : List ℕ) (four : List ℤ)
         absurd (omega (arith, narrow, whole, rw wide at left, most))
     by_count (inr enough) = enough
 
--- the word is written over the bytes from its place on
+-- the sample is written at its position
 pub one_written : (depth i : ℕ) (samples : List ℤ) (bytes new : List ℕ) → SFits w32 (get_or samples i (pos 0))
     → i < length samples → i * (depth / 8) ≤ length bytes
     → new ≡ sample_bytes depth (to_z w32 (of_z w32 (get_or samples i (pos 0))))
@@ -149,7 +149,7 @@ one_written depth i samples bytes new wide below room written before =
       append-nil,
     ) refl
 
--- samples that were read one by one, all of them
+-- all samples were read one by one
 module _ (depth : Depth) (n : ℕ) (bytes : List ℕ) (samples : List ℤ) (small : AreBytes bytes) (all : length samples ≤ n)
     (read : take n samples ≡ samples_in (bits_of depth) n bytes) where
   whole : samples ≡ samples_in (bits_of depth) n bytes
@@ -161,7 +161,7 @@ module _ (depth : Depth) (n : ℕ) (bytes : List ℕ) (samples : List ℤ) (smal
   pub read_again : length bytes ≡ n * (bits_of depth / 8) → flat_map (sample_bytes (bits_of depth)) samples ≡ bytes
   read_again long = rw whole (bytes_again depth n bytes small long)
 
--- samples whose bytes were written are read again
+-- samples read back from their bytes
 pub written_again : (depth : Depth) (samples : List ℤ) (bytes : List ℕ)
     → bytes ≡ flat_map (sample_bytes (bits_of depth)) samples → All (FitsDepth (bits_of depth)) samples
     → samples_in (bits_of depth) (length samples) bytes ≡ samples

@@ -53,7 +53,7 @@ module _ (a b c d : ℤ) (first : SFits w32 a) (second : SFits w32 b) (third : S
   fits (suc (suc (suc zero))) below = fourth
   fits (suc (suc (suc (suc k)))) below = absurd (omega arith)
 
-  -- four lanes
+  -- four lanes are zero exactly if no comparison bit is set
   pub four_zero : (eqb (mask_l (map (top 31) (zip2 differs (map (of_z w32) (a ∷ b ∷ c ∷ d ∷ [])) (replicate 4 0)))
       % 2 ^ 64) 0 ≡ true) ↔ AreZero (a ∷ b ∷ c ∷ d ∷ [])
   four_zero =
@@ -62,7 +62,7 @@ module _ (a b c d : ℤ) (first : SFits w32 a) (second : SFits w32 b) (third : S
       let none = none_differ (a ∷ b ∷ c ∷ d ∷ []) fits in
       (λ t. none.0 (sym small ∙ eqb-true _ _ t), λ all. eq-eqb _ _ (small ∙ none.1 all))
 
--- four samples more
+-- four more samples are zero
 pub four_more : (samples : List ℤ) (n : ℕ) → n + 4 ≤ length samples → AreZero (take n samples)
     → get_or samples n (pos 0) ≡ pos 0 → get_or samples (n + 1) (pos 0) ≡ pos 0 → get_or samples (n + 2) (pos 0) ≡ pos 0
     → get_or samples (n + 3) (pos 0) ≡ pos 0 → AreZero (take (n + 4) samples)
@@ -77,7 +77,7 @@ four_more samples n inside before a b c d =
     let e4 : n + 3 + 1 ≡ n + 4 = omega arith in
     rw e4 at four
 
--- the rest decides
+-- if the first n samples are zero, the rest decides
 pub all_by_rest : (samples : List ℤ) (n : ℕ) → AreZero (take n samples)
     → AreZero (take (length samples - n) (drop n samples)) ↔ AreZero samples
 all_by_rest samples n front = rw (take_rest samples n) (

@@ -1,4 +1,4 @@
--- What is known of samples as bytes, for whoever reads or writes them.
+-- Laws of samples as bytes, for crates that read or write them.
 use Rattle.std.proofs.Common.{◌≡◌, ℕ, zero, suc, ◌+◌, ◌-◌, ◌*◌, ◌/◌, ◌%◌, ◌^◌, ◌<◌, ◌≤◌, List, [], ◌∷◌, ◌++◌, length, take, drop, get_or, slice_index, refl, ap, ◌∙◌, add-one, arith}
 use Rattle.std.specs.Prelude.{ℤ, pos, negsuc, ◌+ℤ◌}
 use Rattle.std.specs.Int.{saturate_to_bits, w32}
@@ -15,13 +15,13 @@ use Rattle.sound_terms.specs.Mix.{quantized}
 use Rattle.sound_terms.specs.Waves.{sample_bytes, sample_of, sample_at}
 use Rattle.pcm.specs.Samples.{samples_in, summed, FitsDepth}
 
--- ---- places
+-- ---- positions
 
 pub length-samples_in : (depth n : ℕ) (bytes : List ℕ) → length (samples_in depth n bytes) ≡ n
 length-samples_in depth zero bytes = refl
 length-samples_in depth (suc n) bytes = ap suc (length-samples_in depth n (drop (depth / 8) bytes))
 
--- the sample at a place stands so many words behind the first
+-- sample i starts i words after the first sample
 pub get_or-samples_in : (depth n i : ℕ) (bytes : List ℕ) (d : ℤ) → i < n
     → get_or (samples_in depth n bytes) i d ≡ sample_of depth (drop (i * (depth / 8)) bytes)
 get_or-samples_in depth zero i bytes d below = absurd (omega arith)
@@ -32,7 +32,7 @@ get_or-samples_in depth (suc n) (suc i) bytes d below =
     get_or-samples_in depth n i (drop (depth / 8) bytes) d (omega arith)
     ∙ ap (sample_of depth) (drop-drop (i * (depth / 8)) (depth / 8) bytes ∙ ap (λ k. drop k bytes) further)
 
--- one sample more
+-- the first n + 1 samples are the first n samples and the next one
 samples_in-suc : (depth n : ℕ) (bytes : List ℕ)
     → samples_in depth (suc n) bytes ≡ samples_in depth n bytes ++ sample_of depth (drop (n * (depth / 8)) bytes) ∷ []
 samples_in-suc depth zero bytes =
@@ -48,12 +48,12 @@ pub samples_in_more : (depth n : ℕ) (bytes : List ℕ)
     → samples_in depth (n + 1) bytes ≡ samples_in depth n bytes ++ sample_of depth (drop (n * (depth / 8)) bytes) ∷ []
 samples_in_more depth n bytes = ap (λ k. samples_in depth k bytes) (add-one n) ∙ samples_in-suc depth n bytes
 
--- what stands behind a sample plays no part in it
+-- bytes after a sample do not affect it
 pub sample_of-take : (depth n : ℕ) (bytes : List ℕ) → depth / 8 ≤ n → sample_of depth (take n bytes) ≡ sample_of depth bytes
 sample_of-take depth n bytes room =
     ap (twos_complement (depth / 8)) (little_from-take 0 (depth / 8) n bytes (omega arith))
 
--- the samples of a stretch of a file, at their places in the file
+-- samples read from part of a file, by their offset in the file
 pub get_or-samples_in_file : (depth n i place : ℕ) (file bytes : List ℕ) (d : ℤ)
     → bytes ≡ take (n * (depth / 8)) (drop place file) → i < n
     → get_or (samples_in depth n bytes) i d ≡ sample_of depth (drop (place + i * (depth / 8)) file)
@@ -69,7 +69,7 @@ get_or-samples_in_file depth n i place file bytes d stretch below =
     ∙ sample_of-take depth ((n - i) * w) (drop (i * w) (drop place file)) room
     ∙ ap (sample_of depth) (drop-drop (i * w) place file)
 
--- the same, of whole frames: by frame and channel
+-- samples of whole sample frames read from part of a file, by sample frame and channel
 pub get_or-samples_in_frames : (depth n frame channel channels place : ℕ) (file bytes : List ℕ) (d : ℤ)
     → bytes ≡ take (n * (depth / 8)) (drop place file) → frame * channels + (channel - 1) < n
     → get_or (samples_in depth n bytes) (frame * channels + (channel - 1)) d
@@ -84,7 +84,7 @@ length-summed [] samples = refl
 length-summed (sum ∷ sums) [] = refl
 length-summed (sum ∷ sums) (sample ∷ samples) = ap suc (length-summed sums samples)
 
--- the sum at a place
+-- the sum at an index is the old sum plus the sample
 pub get_or-summed : (sums samples : List ℤ) (k : ℕ) (d : ℤ) → k < length sums → k < length samples
     → get_or (summed sums samples) k d ≡ get_or sums k d +ℤ get_or samples k d
 get_or-summed [] samples k d inside near = absurd (omega arith)
@@ -93,9 +93,9 @@ get_or-summed (sum ∷ sums) (sample ∷ samples) zero d inside near = refl
 get_or-summed (sum ∷ sums) (sample ∷ samples) (suc k) d inside near =
     get_or-summed sums samples k d (omega arith) (omega arith)
 
--- ---- the round trip
+-- ---- round trip
 
--- each is below 256
+-- all numbers are below 256
 abbrev pub AreBytes : List ℕ → Type 0
 AreBytes bytes = (place : ℕ) → slice_index bytes place < 256
 
@@ -103,7 +103,7 @@ pub AreBytes-drop : (n : ℕ) (bytes : List ℕ) → AreBytes bytes → AreBytes
 AreBytes-drop n bytes small place = let e = get_or-drop n bytes place 0 in let h = small (n + place) in
     omega (arith, e, h)
 
--- as many bytes as the depth asks for
+-- a sample has depth / 8 bytes
 pub length-sample_bytes : (depth : ℕ) (sample : ℤ) → length (sample_bytes depth sample) ≡ depth / 8
 length-sample_bytes depth sample = length-bytes_low_first 0 (depth / 8) (low_bytes w32 (depth / 8) sample)
 
@@ -158,14 +158,14 @@ clipped32 : (z : ℤ) → FitsDepth 32 (saturate_to_bits 31 z)
 clipped32 (pos n) = grind (arith, ints)
 clipped32 (negsuc n) = grind (arith, ints)
 
--- a rounded sum fits its depth
+-- a rounded and clipped sum fits its depth
 pub fits_quantized : (depth : Depth) (sum : ℤ) → FitsDepth (bits_of depth) (quantized (bits_of depth) sum)
 fits_quantized Sixteen sum = clipped16 _
 fits_quantized TwentyFour sum = clipped24 _
 fits_quantized ThirtyTwo sum = clipped32 _
 
--- ---- bytes, of samples and again
--- the bytes of a sample give that sample, whatever follows them
+-- ---- samples to bytes and back
+-- the bytes of a sample read back as the sample, whatever follows them
 pub sample_of-sample_bytes : (depth : Depth) (sample : ℤ) (rest : List ℕ) → FitsDepth (bits_of depth) sample
     → sample_of (bits_of depth) (sample_bytes (bits_of depth) sample ++ rest) ≡ sample
 sample_of-sample_bytes Sixteen sample rest fits =
@@ -178,7 +178,7 @@ sample_of-sample_bytes ThirtyTwo sample rest fits =
     ap (twos_complement 4) (little_number-reads_back 4 (low_bytes w32 4 sample) rest (omega arith))
     ∙ twos-low32 sample fits
 
--- the bytes of a number that was read
+-- encoding a number read from bytes gives these bytes
 bytes_again2 : (bytes : List ℕ) → AreBytes bytes → 2 ≤ length bytes
     → little_bytes 2 (little_number 2 bytes) ≡ take 2 bytes
 bytes_again2 (a ∷ b ∷ rest) small room =
@@ -215,7 +215,7 @@ bytes_again4 (a ∷ b ∷ c ∷ d ∷ rest) small room =
     rw (low, next, middle, high) refl
 bytes_again4 bytes small room = absurd (omega arith)
 
--- the bytes of a sample that was read
+-- encoding a sample read from bytes gives these bytes
 pub sample_bytes-sample_of : (depth : Depth) (bytes : List ℕ) → AreBytes bytes → bits_of depth / 8 ≤ length bytes
     → sample_bytes (bits_of depth) (sample_of (bits_of depth) bytes) ≡ take (bits_of depth / 8) bytes
 sample_bytes-sample_of Sixteen bytes small room =
@@ -236,7 +236,7 @@ all_fit depth n bytes small k d below =
     rw (get_or-samples_in (bits_of depth) n k bytes d inside)
     (fits_sample_of depth (drop (k * (bits_of depth / 8)) bytes) (AreBytes-drop (k * (bits_of depth / 8)) bytes small))
 
--- the bytes of samples that were read
+-- encoding samples read from bytes gives these bytes
 pub bytes_again : (depth : Depth) (n : ℕ) (bytes : List ℕ) → AreBytes bytes → length bytes ≡ n * (bits_of depth / 8)
     → flat_map (sample_bytes (bits_of depth)) (samples_in (bits_of depth) n bytes) ≡ bytes
 bytes_again depth zero [] small whole = refl
@@ -248,7 +248,7 @@ bytes_again depth (suc n) bytes small whole =
     let rest = bytes_again depth n (drop w bytes) (AreBytes-drop w bytes small) left in
     rw (sample_bytes-sample_of depth bytes small (omega arith), rest) (take-append-drop w bytes)
 
--- the samples of bytes that were written, whatever follows them
+-- the bytes of samples read back as the samples, whatever follows them
 pub samples_again : (depth : Depth) (samples : List ℤ) (rest : List ℕ) → All (FitsDepth (bits_of depth)) samples
     → samples_in (bits_of depth) (length samples) (flat_map (sample_bytes (bits_of depth)) samples ++ rest) ≡ samples
 samples_again depth [] rest fit = refl

@@ -1,4 +1,5 @@
-// Samples four at a time, in the lanes of a vector.
+// Fast twin of `word`, four samples at a time: equal to [`sample_at`](crate::word::sample_at), `write_twenty_four` and
+// a comparison with zero, sample by sample.
 ghost use Rattle.std.specs.Prelude.{◌≡◌, ◌*◌, ◌/◌, ◌≤◌, ◌∷◌, [], ◌↔◌, pos, length, take, IsTrue};
 ghost use Rattle.std.specs.List.{All, flat_map};
 ghost use Rattle.sound_terms.specs.Depth.{bits_of};
@@ -8,18 +9,17 @@ ghost use Rattle.pcm.specs.Samples.{FitsDepth, samples_in, summed};
 use sound_terms::Depth;
 use std::simd::prelude::*;
 
-/// Where the bytes of four samples of 16 bits go: to the upper ends of lanes of 32 bits, with zeros (128) below them.
+/// Shuffle mask that moves four 16-bit samples to the upper halves of 32-bit lanes; index 128 yields zero.
 const SIXTEEN: [u8; 16] = [
     128, 128, 0, 1, 128, 128, 2, 3, 128, 128, 4, 5, 128, 128, 6, 7,
 ];
 
-/// The same at 24 bits.
+/// Shuffle mask that moves four 24-bit samples to the upper three bytes of 32-bit lanes; index 128 yields zero.
 const TWENTY_FOUR: [u8; 16] = [128, 0, 1, 2, 128, 3, 4, 5, 128, 6, 7, 8, 128, 9, 10, 11];
 
-/// Where the lower three bytes of four lanes of 32 bits go: one behind the other, with zeros (128) behind them.
+/// Shuffle mask that packs the lower three bytes of four 32-bit lanes; index 128 yields zero.
 const PACKED: [u8; 16] = [0, 1, 2, 4, 5, 6, 8, 9, 10, 12, 13, 14, 128, 128, 128, 128];
 
-/// The four samples of 16 bits that sixteen bytes begin with.
 #[inline(always)]
 fn four_sixteen(bytes: u8x16) -> [i32; 4]
     ensures { result ≡ samples_in 16 4 bytes }
@@ -28,7 +28,6 @@ fn four_sixteen(bytes: u8x16) -> [i32; 4]
     (lanes >> i32x4::splat(16)).to_array()
 }
 
-/// The same at 24 bits.
 #[inline(always)]
 fn four_twenty_four(bytes: u8x16) -> [i32; 4]
     ensures { result ≡ samples_in 24 4 bytes }
@@ -37,7 +36,6 @@ fn four_twenty_four(bytes: u8x16) -> [i32; 4]
     (lanes >> i32x4::splat(8)).to_array()
 }
 
-/// The same at 32 bits.
 #[inline(always)]
 fn four_thirty_two(bytes: u8x16) -> [i32; 4]
     ensures { result ≡ samples_in 32 4 bytes }
@@ -45,7 +43,7 @@ fn four_thirty_two(bytes: u8x16) -> [i32; 4]
     i32x4::from_le_bytes(bytes).to_array()
 }
 
-/// The same at any depth.
+/// Reads the first four samples of sixteen bytes.
 #[inline(always)]
 fn four_samples(depth: Depth, bytes: u8x16) -> [i32; 4]
     ensures { result ≡ samples_in (bits_of depth) 4 bytes }
@@ -57,7 +55,7 @@ fn four_samples(depth: Depth, bytes: u8x16) -> [i32; 4]
     }
 }
 
-/// Puts four samples where four are: one store, where a copy would first ask whether the two overlap.
+/// Overwrites four samples with one store; `copy_from_slice` would first check for overlap.
 #[inline(always)]
 fn put_four(a: i32, b: i32, c: i32, d: i32, samples: &mut [i32])
     requires { length samples.old ≡ 4 }
@@ -69,8 +67,7 @@ fn put_four(a: i32, b: i32, c: i32, d: i32, samples: &mut [i32])
     samples[3] = d;
 }
 
-/// Reads samples four at a time from the front of bytes that hold just these, as long as sixteen bytes are left, and
-/// says how many it read.
+/// Reads samples four at a time while at least sixteen bytes are left, and returns the number of samples read.
 #[inline(always)]
 pub fn unpack_lanes(depth: Depth, bytes: &[u8], samples: &mut [i32]) -> usize
     requires { length bytes.now ≡ length samples.old * (bits_of depth / 8) }
@@ -88,7 +85,7 @@ pub fn unpack_lanes(depth: Depth, bytes: &[u8], samples: &mut [i32]) -> usize
     done
 }
 
-/// Adds four samples to as many sums.
+/// Adds four samples to four sums.
 #[inline(always)]
 fn add_four(a: i32, b: i32, c: i32, d: i32, sums: &mut [i32])
     requires four { length sums.old ≡ 4 }
@@ -98,8 +95,7 @@ fn add_four(a: i32, b: i32, c: i32, d: i32, sums: &mut [i32])
     put_four(sums[0] + a, sums[1] + b, sums[2] + c, sums[3] + d, sums);
 }
 
-/// Adds samples four at a time from the front of bytes that hold one for each sum, as long as sixteen bytes are left, and
-/// says how many it added.
+/// Adds samples to sums four at a time while at least sixteen bytes are left, and returns the number of samples added.
 #[inline(always)]
 pub fn add_lanes(depth: Depth, bytes: &[u8], sums: &mut [i32]) -> usize
     requires each { length bytes.now ≡ length sums.old * (bits_of depth / 8) }
@@ -118,7 +114,7 @@ pub fn add_lanes(depth: Depth, bytes: &[u8], sums: &mut [i32]) -> usize
     done
 }
 
-/// Puts the first four samples, at 24 bits, over the first twelve bytes, and something over the next four, in one store.
+/// Writes four 24-bit samples to the first twelve bytes with one store, which also overwrites the next four bytes.
 #[inline(always)]
 fn write_four(samples: &[i32], bytes: &mut [u8])
     requires four { 4 ≤ length samples.now }
@@ -130,8 +126,8 @@ fn write_four(samples: &[i32], bytes: &mut [u8])
     packed.copy_to_slice(bytes);
 }
 
-/// Writes samples of 24 bits four at a time over the front of bytes that have room for just these, as long as sixteen
-/// bytes are left, and says how many it wrote.
+/// Writes 24-bit samples four at a time while at least sixteen bytes are left, and returns the number of samples
+/// written.
 #[inline(always)]
 pub fn pack_lanes(samples: &[i32], bytes: &mut [u8]) -> usize
     requires { length bytes.old ≡ length samples.now * 3 }
@@ -146,7 +142,7 @@ pub fn pack_lanes(samples: &[i32], bytes: &mut [u8]) -> usize
     done
 }
 
-/// Whether four samples are zero.
+/// Returns true if all four samples are zero.
 #[inline(always)]
 fn are_zero(a: i32, b: i32, c: i32, d: i32) -> bool
     ensures { IsTrue result ↔ All (λ sample. sample ≡ pos 0) (a ∷ b ∷ c ∷ d ∷ []) }
@@ -155,7 +151,7 @@ fn are_zero(a: i32, b: i32, c: i32, d: i32) -> bool
     lanes.simd_ne(i32x4::splat(0)).to_bitmask() == 0
 }
 
-/// How many samples from the front on are zero, four at a time.
+/// Counts zero samples from the start, four at a time, and returns a multiple of four.
 #[inline(always)]
 pub fn zero_lanes(samples: &[i32]) -> usize
     ensures some { result ≤ length samples.now }

@@ -1,4 +1,4 @@
-//! Samples of RIFF WAVE as numbers and as bytes: two's complement, the lowest byte first.
+//! Conversion between samples and bytes of RIFF WAVE PCM: two's complement, little endian.
 #![tactic(auto)]
 
 mod lanes;
@@ -14,8 +14,8 @@ use lanes::{add_lanes, pack_lanes, unpack_lanes, zero_lanes};
 pub use sound_terms::Depth;
 use word::{sample_at, write_sixteen, write_thirty_two, write_twenty_four};
 
-/// Reads `samples` from `bytes`, which hold one after the other and nothing else: 2, 3 or 4 bytes a sample at 16,
-/// 24 or 32 bits, of every channel in turn.
+/// Reads `samples` from `bytes`, which must hold exactly these samples: 2, 3 or 4 bytes per sample at 16, 24 or 32
+/// bits, with the channels interleaved.
 pub fn unpack(depth: Depth, bytes: &[u8], samples: &mut [i32])
     requires { length bytes.now ≡ length samples.old * (bits_of depth / 8) }
     ensures numbers { samples.new ≡ samples_in (bits_of depth) (length samples.old) bytes.now }
@@ -29,7 +29,7 @@ pub fn unpack(depth: Depth, bytes: &[u8], samples: &mut [i32])
     }
 }
 
-/// Adds the samples that `bytes` hold, as `unpack` reads them, to as many sums, none of which leaves 32 bits.
+/// Adds the samples in `bytes`, in the format read by [`unpack`], to the sums. No sum may exceed 32 bits.
 pub fn add_unpacked(depth: Depth, bytes: &[u8], sums: &mut [i32])
     requires each { length bytes.now ≡ length sums.old * (bits_of depth / 8) }
     requires room { All (FitsDepth 32) (summed sums.old (samples_in (bits_of depth) (length sums.old) bytes.now)) }
@@ -42,8 +42,8 @@ pub fn add_unpacked(depth: Depth, bytes: &[u8], sums: &mut [i32])
     }
 }
 
-/// Writes `samples` over `bytes`, which has room for just these: the lowest 2, 3 or 4 bytes of each at 16, 24 or 32
-/// bits. They are read again where each is within the range of the depth.
+/// Writes `samples` to `bytes`, which must have exactly the required length: the lowest 2, 3 or 4 bytes of each sample
+/// at 16, 24 or 32 bits. Samples within the range of the depth are read back unchanged by [`unpack`].
 pub fn pack(depth: Depth, samples: &[i32], bytes: &mut [u8])
     requires { length bytes.old ≡ length samples.now * (bits_of depth / 8) }
     ensures bytes { bytes.new ≡ flat_map (sample_bytes (bits_of depth)) samples.now }
@@ -57,7 +57,7 @@ pub fn pack(depth: Depth, samples: &[i32], bytes: &mut [u8])
     }
 }
 
-/// Whether every sample is zero, as where there are none.
+/// Returns true if all samples are zero or there are no samples.
 pub fn all_zero(samples: &[i32]) -> bool
     ensures { IsTrue result ↔ All (λ sample. sample ≡ pos 0) samples.now }
 {
@@ -65,14 +65,13 @@ pub fn all_zero(samples: &[i32]) -> bool
     all_zero_plain(&samples[done..])
 }
 
-/// The same, one by one.
 fn all_zero_plain(samples: &[i32]) -> bool
     ensures { IsTrue result ↔ All (λ sample. sample ≡ pos 0) samples.now }
 {
     samples.iter().all(|sample| *sample == 0)
 }
 
-/// The same, four samples at a time as far as that goes, and then one by one.
+/// Reads samples four at a time, then the rest one by one.
 #[inline(always)]
 fn unpack_at(depth: Depth, bytes: &[u8], samples: &mut [i32])
     requires { length bytes.now ≡ length samples.old * (bits_of depth / 8) }
@@ -86,7 +85,7 @@ fn unpack_at(depth: Depth, bytes: &[u8], samples: &mut [i32])
     }
 }
 
-/// Adds samples four at a time as far as that goes, and then one by one.
+/// Adds samples four at a time, then the rest one by one.
 #[inline(always)]
 fn add_at(depth: Depth, bytes: &[u8], sums: &mut [i32])
     requires each { length bytes.now ≡ length sums.old * (bits_of depth / 8) }

@@ -1,4 +1,4 @@
-// One sample at the front of bytes, at each depth.
+// Reading and writing of single samples at each depth.
 ghost use Rattle.std.specs.Prelude.{◌≡◌, ◌+◌, ◌*◌, ◌/◌, ◌≤◌, ◌++◌, length, drop};
 ghost use Rattle.sound_terms.specs.Depth.{bits_of};
 ghost use Rattle.sound_terms.specs.Waves.{sample_bytes, sample_of};
@@ -6,7 +6,6 @@ ghost use Rattle.sound_terms.specs.Waves.{sample_bytes, sample_of};
 use byteorder::{ByteOrder, LittleEndian};
 use sound_terms::Depth;
 
-/// The sample of 24 bits that the bytes begin with.
 #[inline(always)]
 fn read_twenty_four(bytes: &[u8]) -> i32
     requires { 3 ≤ length bytes.now }
@@ -15,7 +14,7 @@ fn read_twenty_four(bytes: &[u8]) -> i32
     LittleEndian::read_i24(bytes)
 }
 
-/// The sample of 24 bits that stands behind the first byte: four bytes are read at once, and the first is shifted out.
+/// Reads the 24-bit sample after the first byte: reads four bytes at once and shifts the first one out.
 #[inline(always)]
 fn read_behind(bytes: &[u8]) -> i32
     requires { 4 ≤ length bytes.now }
@@ -24,7 +23,6 @@ fn read_behind(bytes: &[u8]) -> i32
     LittleEndian::read_i32(bytes) >> 8
 }
 
-/// Sample i of these of 24 bits.
 #[inline(always)]
 fn twenty_four_at(bytes: &[u8], i: usize) -> i32
     requires { (i + 1) * 3 ≤ length bytes.now }
@@ -37,7 +35,7 @@ fn twenty_four_at(bytes: &[u8], i: usize) -> i32
     }
 }
 
-/// Sample i of these.
+/// Reads sample `i`.
 #[inline(always)]
 pub fn sample_at(depth: Depth, bytes: &[u8], i: usize) -> i32
     requires { (i + 1) * (bits_of depth / 8) ≤ length bytes.now }
@@ -50,7 +48,7 @@ pub fn sample_at(depth: Depth, bytes: &[u8], i: usize) -> i32
     }
 }
 
-/// Puts the lowest 16 bits of a sample over the first bytes.
+/// Writes the lowest 16 bits of a sample to the first two bytes.
 #[inline(always)]
 pub fn write_sixteen(bytes: &mut [u8], sample: i32)
     requires { 2 ≤ length bytes.old }
@@ -59,7 +57,7 @@ pub fn write_sixteen(bytes: &mut [u8], sample: i32)
     LittleEndian::write_u16(bytes, (sample.cast_unsigned() % 65_536) as u16);
 }
 
-/// Puts the lowest 24 bits of a sample over the first bytes.
+/// Writes the lowest 24 bits of a sample to the first three bytes.
 #[inline(always)]
 pub fn write_twenty_four(bytes: &mut [u8], sample: i32)
     requires { 3 ≤ length bytes.old }
@@ -68,7 +66,7 @@ pub fn write_twenty_four(bytes: &mut [u8], sample: i32)
     LittleEndian::write_u24(bytes, sample.cast_unsigned() % 16_777_216);
 }
 
-/// Puts a sample of 32 bits over the first bytes.
+/// Writes a 32-bit sample to the first four bytes.
 #[inline(always)]
 pub fn write_thirty_two(bytes: &mut [u8], sample: i32)
     requires { 4 ≤ length bytes.old }

@@ -3,7 +3,7 @@ use Rattle.std.specs.Prelude.{ℤ}
 use Rattle.pcm.proofs.Steps.{all_four, words_again}
 use Rattle.pcm.proofs.lanes.put_four.Goals as goal
 
--- a list of four, written through
+-- setting all four items of a list of four
 all_set : (l : List ℤ) (a b c d : ℤ) → length l ≡ 4 → set (set (set (set l 0 a) 1 b) 2 c) 3 d ≡ a ∷ b ∷ c ∷ d ∷ []
 all_set l a b c d long =
     subst (λ (l : List ℤ). set (set (set (set l 0 a) 1 b) 2 c) 3 d ≡ a ∷ b ∷ c ∷ d ∷ []) (all_four l long) refl
