@@ -1,4 +1,4 @@
--- An out-fade and an in-fade of one length over the same samples give the samples again.
+-- A fade-out and a fade-in of the same length over the same samples add up to the samples.
 use Rattle.std.proofs.Common.{◌≡◌, ℕ, suc, ◌+◌, ◌-◌, ◌*◌, ◌/◌, ◌%◌, ◌<◌, ◌≤◌, ◌^◌, true, false, refl, ap, ◌∙◌, arith}
 use Rattle.std.specs.Prelude.{ℤ, pos, negsuc, neg_ℤ, ◌+ℤ◌, ◌*ℤ◌, ◌≤ℤ◌, ◌<ℤ◌, nat_le, nat_lt}
 use Rattle.std.specs.Int.{int_div_euclid, saturate_to_bits}
@@ -13,13 +13,13 @@ use Rattle.sound_terms.specs.Depth.{bits_of}
 use Rattle.soundlaw.specs.Crossfade.{IsCrossfadeExact}
 use Rattle.soundlaw.specs.Laws.{floor_whole, kept_inside, share_below, share_up}
 
--- a sample, or one less: what both shares are together
+-- the two shares add up to the sample or to one less
 pub record IsNearly (sum sample : ℤ) : Type 0 where
   pub less : ℕ
   pub most : less ≤ 1
   pub is : sum +ℤ pos less ≡ sample
 
--- of two parts of a product, each rounded down
+-- sum of two parts of a product, each rounded down
 rounded_down : (m n x y a b r s : ℕ) → x + y ≡ n → n * a + r ≡ m * x → n * b + s ≡ m * y → r < n → s < n
     → (a + b ≤ m) × (m < a + b + 2)
 rounded_down m n x y a b r s whole first second less small =
@@ -69,7 +69,7 @@ nearly : (v : ℤ) (n i : ℕ) → i < n → IsNearly (share_of v (n - i, n) +�
 nearly (pos m) n i inside = both_up m n i inside
 nearly (negsuc k) n i inside = both_down k n i inside
 
--- the fractions of both fades at their i-th sample
+-- gains of both fades at their sample i
 out_fraction : (rise n before i : ℕ) → i < n → rise + n ≤ before
     → fade_fraction rise n before (before - n + i) ≡ (n - i, n)
 out_fraction rise n before i inside fits =
@@ -81,7 +81,7 @@ out_fraction rise n before i inside fits =
 in_fraction : (n fall behind i : ℕ) → i < n → fade_fraction n fall behind i ≡ (i, n)
 in_fraction n fall behind i inside = let rising : nat_lt i n ≡ true = grind (arith, nat_tests) in rw rising refl
 
--- a sum near a multiple of the step is rounded to it
+-- a sum near a multiple of the step is rounded to the multiple
 rounds : (h half step : ℕ) (sum v y : ℤ) → 1 ≤ half → half < step → IsNearly sum v → v ≡ y *ℤ pos step
     → neg_ℤ (pos (2 ^ h)) ≤ℤ y → y <ℤ pos (2 ^ h)
     → saturate_to_bits h (int_div_euclid (sum +ℤ pos half) (pos step)) ≡ y
@@ -91,7 +91,7 @@ rounds h half step sum v y some small near whole low high =
     ap (λ z. saturate_to_bits h (int_div_euclid z (pos step))) parts
     ∙ ap (saturate_to_bits h) (floor_whole y (half - near.less) step (omega (arith, small))) ∙ kept_inside h y low high
 
--- the same at a depth
+-- a sum near a sample of the depth is rounded to the sample
 rounds_at : (depth : Depth) (sum v y : ℤ) → IsNearly sum v → v ≡ y *ℤ pos (2 ^ (48 - bits_of depth))
     → neg_ℤ (pos (2 ^ (bits_of depth - 1))) ≤ℤ y → y <ℤ pos (2 ^ (bits_of depth - 1))
     → quantized (bits_of depth) sum ≡ y

@@ -6,7 +6,7 @@ use Rattle.std.proofs.Math.Nat.{lt_of_mul-lt-mul_left, mul-le-mul_left}
 use Rattle.sound_terms.specs.Mix.{share_of}
 use Rattle.soundlaw.specs.Laws.{no_larger, share_below, share_up}
 
--- a share is within what its sample is
+-- a share has the bounds of its sample
 pub share_within : (v : ℤ) (most num den : ℕ) → num ≤ den → 0 < den → neg_ℤ (pos most) ≤ℤ v → v ≤ℤ pos most
     → (neg_ℤ (pos most) ≤ℤ share_of v (num, den)) × (share_of v (num, den) ≤ℤ pos most)
 share_within (pos size) most num den le some low high =

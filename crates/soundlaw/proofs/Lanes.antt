@@ -1,4 +1,4 @@
--- Sums in lanes of 64 bits.
+-- Sums in 64-bit lanes.
 use Rattle.std.proofs.Common.{◌≡◌, ◌⊎◌, inl, inr, ℕ, suc, ◌+◌, ◌-◌, ◌%◌, ◌^◌, ◌<◌, ◌≤◌, sym, ap, ◌∙◌, arith}
 use Rattle.std.specs.Prelude.{ℤ, pos, negsuc, ◌+ℤ◌}
 use Rattle.std.proofs.lemmas.Bool.{cases_lt}
@@ -9,7 +9,7 @@ use Rattle.sound_terms.specs.Blocks.{held}
 use Rattle.soundlaw.specs.Sums.{IsWithin}
 use Rattle.soundlaw.specs.SumLaws.{held_few, within_add}
 
--- a number less another one, or the other way round
+-- difference of two numbers, by their order
 less : (n m : ℕ) → m ≤ n → negsuc n +ℤ pos m ≡ negsuc (n - m)
 less n m le = omega (arith, ints, le)
 
@@ -44,7 +44,7 @@ wrapped (pos n) (negsuc m) first second =
     ∙ mixed m n (omega (arith, ints, second)) (omega (arith, ints, first)) (either m n) ∙ ap (of_z w64) (sym turned)
 wrapped (negsuc n) (negsuc m) first second = omega (arith, ints, first, second)
 
--- a lane of two small sums
+-- a lane with the sum of a small sum and a sample
 pub lane_added : (a x : ℤ) → IsWithin 32766 a → IsWithin 1 x
     → to_z w64 ((of_z w64 a + of_z w64 x) % 18446744073709551616) ≡ held (a +ℤ x)
 lane_added a x first second =

@@ -1,4 +1,4 @@
--- The share of a sample of up to 24 bits, rounded to its depth, by parts of 2^39.
+-- Share of a sample of up to 24 bits, rounded to its depth, by a 39-bit approximation.
 use Rattle.std.proofs.Common.{◌≡◌, ℕ, zero, suc, ◌+◌, ◌*◌, ◌/◌, ◌%◌, ◌<◌, ◌≤◌, ◌^◌, sym, ap, ◌∙◌, subst, arith}
 use Rattle.std.specs.Prelude.{ℤ, pos, negsuc, neg_ℤ, ◌+ℤ◌, ◌*ℤ◌, ◌≤ℤ◌, ◌<ℤ◌}
 use Rattle.std.specs.Int.{int_div_euclid}
@@ -12,7 +12,7 @@ use Rattle.sound_terms.specs.Mix.{full_scale, quantized, share_of}
 use Rattle.pcm.specs.Samples.{FitsDepth}
 use Rattle.soundlaw.specs.Laws.{floor_below, full_share_below, kept_inside, rounded_share, share_at_or_above, share_fits}
 
--- where the quotient of a number by 2^39 lies
+-- bounds of a number by its quotient by 2^39
 record IsFloor (z q : ℤ) : Type 0 where
   low : (q *ℤ pos (2 ^ 39)) ≤ℤ z
   high : z <ℤ ((q *ℤ pos (2 ^ 39)) +ℤ pos (2 ^ 39))
@@ -31,7 +31,7 @@ floored (negsuc a) q is = rw is (record {
 module _ (num den parts half : ℕ) (some : 0 < den) (step : 0 < half) (low : parts * den ≤ num * 2 ^ 39)
     (high : num * 2 ^ 39 ≤ (parts + 1) * den)
   where
-    -- a sample's products by both parts lie round its product by the fraction, half a step further
+    -- the products with both approximations, plus half a step, enclose the product with the fraction
     nearest_up : (n k : ℕ) → k * 2 ^ 39 ≤ n * parts + 2 ^ 38 → n * parts + n + 2 ^ 38 < (k + 1) * 2 ^ 39
         → (n * (2 * half) * num / den + half) / (2 * half) ≡ k
     nearest_up n k from to =
@@ -52,7 +52,7 @@ module _ (num den parts half : ℕ) (some : 0 < den) (step : 0 < half) (low : pa
         div-eq_of_lt-le {k = k} (2 * half) {m = all / den + half} (omega (arith, at_least))
         (lt_of_mul-lt-mul_left den end)
 
-    -- below zero, of a share whose size was rounded up
+    -- the same bounds for a negative sample, whose share is rounded up in absolute value
     nearest_down : (m k c over : ℕ) → k * 2 ^ 39 < m * parts + 2 ^ 38 → m * parts + m ≤ k * 2 ^ 39 + 2 ^ 38
         → den * c ≡ m * (2 * half) * num + over → over < den
         → (c ≤ half + k * (2 * half)) × (k * (2 * half) < c + half)
@@ -70,7 +70,7 @@ module _ (num den parts half : ℕ) (some : 0 < den) (step : 0 < half) (low : pa
         let at_most = lt_of_mul-lt-mul_left den end in
         (omega (arith, at_most), lt_of_mul-lt-mul_left den begin)
 
-    -- a rounded share below zero is so many steps below it
+    -- a rounded share of a negative sample
     below_by : (n k : ℕ) → k * 2 ^ 39 < suc n * parts + 2 ^ 38 → suc n * parts + suc n ≤ k * 2 ^ 39 + 2 ^ 38
         → neg_ℤ (pos k) ≡ rounded_share half (negsuc n) (num, den)
     below_by n k from to =
@@ -91,7 +91,7 @@ module _ (num den parts half : ℕ) (some : 0 < den) (step : 0 < half) (low : pa
         let low = subst (λ (x : ℤ). x ≤ℤ (z +ℤ negsuc n)) (negsuc-*ℤ-pos k (2 ^ 39)) second.low in
         below_by n (suc k) (omega (arith, ints, product, high)) (omega (arith, ints, product, low))
 
-    -- a share that both parts round alike
+    -- both approximations round the share to the same value
     pub nearest_between : (x z q : ℤ) → z ≡ x *ℤ pos parts +ℤ pos (2 ^ 38) → q ≡ int_div_euclid z (pos (2 ^ 39))
         → q ≡ int_div_euclid (z +ℤ x) (pos (2 ^ 39)) → q ≡ rounded_share half x (num, den)
     nearest_between (pos n) z q product first second =
@@ -108,7 +108,7 @@ module _ (num den parts half : ℕ) (some : 0 < den) (step : 0 < half) (low : pa
         down n z q (product ∙ ap (λ y. y +ℤ pos (2 ^ 38)) (negsuc-*ℤ-pos n parts)) (floored z q first)
         (floored (z +ℤ negsuc n) q second)
 
--- so the parts tell the share of a sample of up to 24 bits, rounded to its depth
+-- the approximations give the rounded share of a sample of up to 24 bits
 pub nearest_at : (depth : Depth) (x z q : ℤ) (num den parts : ℕ) → bits_of depth ≤ 24 → FitsDepth (bits_of depth) x
     → num ≤ den → 0 < den → parts * den ≤ num * 2 ^ 39 → num * 2 ^ 39 ≤ (parts + 1) * den
     → z ≡ x *ℤ pos parts +ℤ pos (2 ^ 38) → q ≡ int_div_euclid z (pos (2 ^ 39))
@@ -124,7 +124,7 @@ nearest_at TwentyFour x z q num den parts shallow fits le some low high product 
     ∙ sym (kept_inside 23 _ within.0 within.1)
 nearest_at ThirtyTwo x z q num den parts shallow fits le some low high product first second = absurd (omega arith)
 
--- the parts of 2^39 by those of 2^62
+-- 39-bit approximation from a 62-bit one
 pub fewer_parts : (parts num den : ℕ) → parts * den ≤ num * 2 ^ 62 → num * 2 ^ 62 ≤ (parts + 1) * den
     → (parts / 2 ^ 23 * den ≤ num * 2 ^ 39) × (num * 2 ^ 39 ≤ (parts / 2 ^ 23 + 1) * den)
 fewer_parts parts num den low high =

@@ -1,4 +1,4 @@
--- Fractions between two neighbouring parts of 2^62, and shares that both parts round alike.
+-- Fractions between neighbouring multiples of 2^-62, and shares that both approximations round to the same value.
 use Rattle.std.proofs.Common.{◌≡◌, ℕ, zero, suc, ◌+◌, ◌-◌, ◌*◌, ◌/◌, ◌^◌, ◌<◌, ◌≤◌, refl, sym, ap, ◌∙◌, arith}
 use Rattle.std.specs.Prelude.{ℤ, pos, negsuc, neg_ℤ, ◌+ℤ◌, ◌-ℤ◌, ◌*ℤ◌, ◌≤ℤ◌, ◌<ℤ◌}
 use Rattle.std.specs.Int.{int_div_euclid}
@@ -8,12 +8,12 @@ use Rattle.std.proofs.Math.Nat.{div-eq_of_lt-le, lt_of_mul-lt-mul_left, mul-le-m
 use Rattle.sound_terms.specs.Mix.{share_of}
 use Rattle.soundlaw.specs.Laws.{floor_by, share_up}
 
--- the parts of less than one are less than all
+-- the approximation of a fraction below 1 is below 1
 pub fewer : (parts den num rest : ℕ) → parts * den + rest ≡ num * 2 ^ 62 → num < den → parts < 2 ^ 62
 fewer parts den num rest are less =
     let below : den * parts < den * 2 ^ 62 = omega (arith, are, less) in lt_of_mul-lt-mul_left den below
 
--- what is left to one lies between what is left of the parts
+-- bounds of 1 minus a fraction by its approximation
 left_between : (left parts den num rest : ℕ) → left + parts + 1 ≡ 2 ^ 62 → parts * den + rest ≡ num * 2 ^ 62
     → rest < den → num < den
     → (left * den ≤ (den - num) * 2 ^ 62) × ((den - num) * 2 ^ 62 ≤ (left + 1) * den)
@@ -21,7 +21,7 @@ left_between left parts den num rest whole are below less =
     let all : (left + parts + 1) * den ≡ 2 ^ 62 * den = ap (λ x. x * den) whole in
     (omega (arith, all, are, below, less), omega (arith, all, are, below, less))
 
--- so the parts that are left of all but one are those of what is left to one
+-- approximation of 1 minus a fraction
 pub left_of_parts : (parts den num rest : ℕ) → parts * den + rest ≡ num * 2 ^ 62 → rest < den → num < den
     → ((2 ^ 62 - 1 - parts) * den ≤ (den - num) * 2 ^ 62) × ((den - num) * 2 ^ 62 ≤ (2 ^ 62 - 1 - parts + 1) * den)
 left_of_parts parts den num rest are below less =
@@ -31,7 +31,7 @@ left_of_parts parts den num rest are below less =
 module _ (num den parts : ℕ) (some : 0 < den) (low : parts * den ≤ num * 2 ^ 62)
     (high : num * 2 ^ 62 ≤ (parts + 1) * den)
   where
-    -- a sample's products by both parts lie round its product by the fraction
+    -- the products with both approximations enclose the product with the fraction
     quotient_up : (n k : ℕ) → k * 2 ^ 62 ≤ n * parts → n * parts + n < (k + 1) * 2 ^ 62 → n * num / den ≡ k
     quotient_up n k from to =
         let first : k * 2 ^ 62 * den ≤ n * parts * den = mul-le-mul_right den from in
@@ -49,7 +49,7 @@ module _ (num den parts : ℕ) (some : 0 < den) (low : parts * den ≤ num * 2 ^
         let quotient = quotient_up n k (omega arith) (omega (arith, same)) in
         first ∙ ap pos (sym quotient) ∙ sym (share_up n num den)
 
-    -- below zero, the quotient of a size rounded up
+    -- quotient of a negative sample, rounded up in absolute value
     quotient_down : (m k : ℕ) → k * 2 ^ 62 < m * parts → m * parts + m ≤ (k + 1) * 2 ^ 62
         → (k * den < m * num) × (m * num ≤ (k + 1) * den)
     quotient_down m k from to =
@@ -79,7 +79,7 @@ module _ (num den parts : ℕ) (some : 0 < den) (low : parts * den ≤ num * 2 ^
         let size = quotient_down (suc n) k (omega (arith, same, product)) (omega (arith, product)) in
         second ∙ share_negative n k size.0 size.1
 
-    -- a share that both parts round alike
+    -- both approximations round the share to the same value
     pub share_between : (v s l q : ℤ) → s ≡ pos 4 *ℤ v → l ≡ s *ℤ pos parts → q ≡ int_div_euclid l (pos (2 ^ 64))
         → q ≡ int_div_euclid (l +ℤ s) (pos (2 ^ 64)) → q ≡ share_of v (num, den)
     share_between (pos n) s l q scaled product first second =

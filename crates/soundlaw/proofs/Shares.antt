@@ -1,4 +1,4 @@
--- A share by the parts of its sample.
+-- Share of a sample by quotient and remainder.
 use Rattle.std.proofs.Common.{◌≡◌, ◌≢◌, ℕ, zero, suc, ◌+◌, ◌*◌, ◌/◌, ◌%◌, ◌<◌, ◌≤◌, Bool, true, false, refl, sym, ap, ◌∙◌, arith}
 use lib.IntN.{nat_abs}
 use lib.Signed.{le_z}
@@ -10,7 +10,7 @@ use Rattle.std.proofs.Math.Nat.{div-add-mod, div-eq_of_lt-le, lt_of_mul-lt-mul_l
 use Rattle.std.proofs.Math.IntN.{negsuc-*ℤ-pos}
 use Rattle.sound_terms.specs.Mix.{share_of}
 
--- a product by the quotient and the rest of its first factor
+-- a product by the quotient and the remainder of its first factor
 product_by : (size num den : ℕ) → size * num ≡ size / den * num * den + size % den * num
 product_by size num den =
     let whole = ap (λ x. x * num) (div-add-mod size den) in
@@ -24,7 +24,7 @@ pub rest_by : (size num den : ℕ) → size % den * num % den ≡ size * num % d
 rest_by size num den =
     sym (ap (λ x. x % den) (product_by size num den) ∙ mul-add-mod_self_right (size / den * num) den (size % den * num))
 
--- what is rounded away makes it smaller
+-- a quotient that was rounded down is smaller than its size
 pub rounded_is_smaller : (size num den : ℕ) → num ≤ den → 0 < den → size * num % den ≢ 0 → size * num / den < size
 rounded_is_smaller size num den le some rest =
     let parts = div-add-mod (size * num) den in
@@ -56,7 +56,7 @@ next_down n den false some e =
     let high : n < (suc n / den + 1) * den = omega (arith, parts, less) in
     ap negsuc (div-eq_of_lt-le {k = suc n / den} den {m = n} low high)
 
--- below zero the next number down, where something is rounded away
+-- quotient of a negative number: the next lower number if it is inexact
 below : (product den : ℕ) → 0 < den → int_div_euclid (neg_ℤ (pos product)) (pos den)
     ≡ (if product % den == 0 then neg_ℤ (pos (product / den)) else negsuc (product / den))
 below zero den some =
@@ -69,7 +69,7 @@ pub share_down : (n num den : ℕ) → 0 < den → share_of (negsuc n) (num, den
     ≡ (if suc n * num % den == 0 then neg_ℤ (pos (suc n * num / den)) else negsuc (suc n * num / den))
 share_down n num den some = ap (λ z. int_div_euclid z (pos den)) (negsuc-*ℤ-pos n num) ∙ below (suc n * num) den some
 
--- the share of a sample below zero, by the quotient of its size
+-- share of a negative sample by the quotient of its absolute value
 pub share_below : (v r : ℤ) (size num den q : ℕ) (exact : Bool) → le_z (pos 0) v ≡ false → size ≡ nat_abs v
     → q ≡ size * num / den
     → exact ≡ (size * num % den == 0) → r ≡ (if exact then neg_ℤ (pos q) else negsuc q) → 0 < den

@@ -1,12 +1,12 @@
--- That a crossfade of one sound with itself is that sound.
+-- A crossfade of a sound with itself gives the sound unchanged.
 use Rattle.std.specs.Prelude.{◌≡◌, ℕ, ◌+◌, ◌-◌, ◌^◌, ◌<◌, ◌≤◌, ℤ, pos, ◌+ℤ◌, ◌*ℤ◌}
 use Rattle.sound_terms.specs.declared.Depth.{Depth}
 use Rattle.sound_terms.specs.Depth.{bits_of}
 use Rattle.sound_terms.specs.Mix.{fade_fraction, full_scale, quantized, share_of}
 use Rattle.pcm.specs.Samples.{FitsDepth}
 
--- Where an out-fade and an in-fade of one length n lie over the same samples, both shares of a sample together are, at
--- this depth, the sample: of a source that is no deeper. The entry that ends has `before` samples, the one that begins
+-- If a fade-out and a fade-in of the same length n overlap completely, the two shares of a sample add up, at this
+-- depth, to the sample of a source that is no deeper. The ending entry has `before` samples, the beginning one
 -- `behind`.
 abbrev pub IsCrossfadeExact : Depth → Type 0
 IsCrossfadeExact depth =

@@ -1,4 +1,4 @@
--- What is known of sums and shares that are rounded down, for whoever hands them out.
+-- Laws of rounded sums and shares.
 use Rattle.std.proofs.Common.{◌≡◌, ℕ, zero, suc, ◌+◌, ◌-◌, ◌*◌, ◌/◌, ◌%◌, ◌<◌, ◌≤◌, ◌^◌, ap, ◌∙◌, refl, arith}
 use Rattle.std.specs.Prelude.{ℤ, pos, negsuc, neg_ℤ, ◌+ℤ◌, ◌-ℤ◌, ◌*ℤ◌, ◌≤ℤ◌, ◌<ℤ◌}
 use Rattle.std.specs.Int.{int_div_euclid, saturate_to_bits}
@@ -12,7 +12,7 @@ use Rattle.sound_terms.specs.Depth.{bits_of}
 use Rattle.sound_terms.specs.Mix.{full_scale, share_of}
 use Rattle.pcm.specs.Samples.{FitsDepth}
 
--- the floor of a multiple and a rest
+-- floor of a multiple plus a remainder
 pub floor_whole : (y : ℤ) (r step : ℕ) → r < step → int_div_euclid (y *ℤ pos step +ℤ pos r) (pos step) ≡ y
 floor_whole (pos m) r step small = ap pos (div-mul-add m step r small)
 floor_whole (negsuc k) r step small =
@@ -20,7 +20,7 @@ floor_whole (negsuc k) r step small =
     let turned : negsuc k *ℤ pos step +ℤ pos r ≡ negsuc (k * step + (step - r - 1)) = omega (arith, ints, product) in
     ap (λ z. int_div_euclid z (pos step)) turned ∙ ap negsuc (div-mul-add k step (step - r - 1) (omega arith))
 
--- what is left of a product by a floor, and no less, is from 0 up to the divisor
+-- a quotient whose remainder is from 0 up to the divisor is the floor
 pub floor_by : (z q r : ℤ) (den : ℕ) → r ≡ z -ℤ (q *ℤ pos den) → pos 0 ≤ℤ r → r <ℤ pos den
     → int_div_euclid z (pos den) ≡ q
 floor_by z q (pos r) den rest low high =
@@ -28,21 +28,21 @@ floor_by z q (pos r) den rest low high =
     ap (λ x. int_div_euclid x (pos den)) parts ∙ floor_whole q r den (omega (arith, ints, high))
 floor_by z q (negsuc r) den rest low high = absurd (omega (arith, ints, low))
 
--- what fits is held as it is
+-- a number within the range is not changed by saturation
 pub kept_inside : (h : ℕ) (y : ℤ) → neg_ℤ (pos (2 ^ h)) ≤ℤ y → y <ℤ pos (2 ^ h) → saturate_to_bits h y ≡ y
 kept_inside h (pos n) low high = let below : n < 2 ^ h = omega (arith, ints, high) in ap pos (omega arith)
 kept_inside h (negsuc n) low high = let below : n + 1 ≤ 2 ^ h = omega (arith, ints, low) in ap negsuc (omega arith)
 
--- so many steps below zero
+-- the product of a negative number and a step
 neg_product : (k step : ℕ) → neg_ℤ (pos k) *ℤ pos step ≡ neg_ℤ (pos (k * step))
 neg_product zero step = let none : 0 * step ≡ 0 = omega arith in pos-*ℤ-pos 0 step ∙ rw none refl
 neg_product (suc k) step = negsuc-*ℤ-pos k step
 
--- the share of a sample that isn't below zero
+-- share of a non-negative sample
 pub share_up : (size num den : ℕ) → share_of (pos size) (num, den) ≡ pos (size * num / den)
 share_up size num den = ap (λ z. int_div_euclid z (pos den)) (pos-*ℤ-pos size num)
 
--- below zero the size of a share is rounded up
+-- share of a negative sample: its absolute value is rounded up
 pub record IsShareBelow (k num den : ℕ) : Type 0 where
   pub ceiling : ℕ
   pub over : ℕ
@@ -75,7 +75,7 @@ no_larger size num den le =
     let most : size * num ≤ size * den = mul-le-mul_left size le in
     div-le_of_le-mul den (omega (arith, most))
 
--- the share of a sample whose depth has this half step, rounded to the depth
+-- share of a sample whose depth has the given half step, rounded to the depth
 abbrev pub rounded_share : (half : ℕ) → ℤ → ℕ × ℕ → ℤ
 rounded_share half x fraction = int_div_euclid (share_of (x *ℤ pos (2 * half)) fraction +ℤ pos half) (pos (2 * half))
 
@@ -84,7 +84,7 @@ pub share_at_or_above : (n num den half : ℕ)
 share_at_or_above n num den half =
     ap (λ y. share_of y (num, den)) (pos-*ℤ-pos n (2 * half)) ∙ share_up (n * (2 * half)) num den
 
--- a size below zero, rounded
+-- rounding of a negative number
 pub floor_below : (c half k : ℕ) → c ≤ half + k * (2 * half) → k * (2 * half) < c + half
     → int_div_euclid (neg_ℤ (pos c) +ℤ pos half) (pos (2 * half)) ≡ neg_ℤ (pos k)
 floor_below c half k few many =
@@ -93,7 +93,7 @@ floor_below c half k few many =
     let rest : r ≡ z -ℤ (neg_ℤ (pos k) *ℤ pos (2 * half)) = rw (neg_product k (2 * half)) (omega (arith, ints, few)) in
     floor_by z (neg_ℤ (pos k)) r (2 * half) rest (omega (arith, ints)) (omega (arith, ints, few, many))
 
--- the share of a sample below zero, at full scale
+-- share of a negative sample at full scale
 pub record IsFullShareBelow (n num den half : ℕ) : Type 0 where
   pub ceiling : ℕ
   pub over : ℕ
@@ -115,7 +115,7 @@ full_share_below n num den half some step =
       small = share.small;
     }
 
--- a rounded share lies between zero and its sample
+-- a rounded share is between zero and its sample
 share_inside : (half bound num den : ℕ) (x : ℤ) → 0 < half → num ≤ den → 0 < den → neg_ℤ (pos bound) ≤ℤ x
     → x <ℤ pos bound
     → (neg_ℤ (pos bound) ≤ℤ rounded_share half x (num, den)) × (rounded_share half x (num, den) <ℤ pos bound)
@@ -147,7 +147,7 @@ share_inside half bound num den (negsuc n) step le some least most =
           let below : k < suc (suc n) = (div-lt_iff_lt-mul {k = 2 * half} (omega (arith, step))).1 room in
           rw is (omega (arith, ints, below, least), omega (arith, ints, most, least))
 
--- so it lies in its depth before it is clipped
+-- a rounded share fits its depth before clipping
 pub share_fits : (depth : Depth) (x : ℤ) (num den : ℕ) → FitsDepth (bits_of depth) x → num ≤ den → 0 < den
     → FitsDepth (bits_of depth) (int_div_euclid (share_of (full_scale (bits_of depth) x) (num, den)
     +ℤ pos (2 ^ (47 - bits_of depth))) (pos (2 ^ (48 - bits_of depth))))

@@ -1,4 +1,4 @@
--- What a stretch adds is no larger than full scale, so that sums of few stretches lie inside 64 bits.
+-- Sums of few samples fit 64 bits, since no addition exceeds full scale.
 use Rattle.std.proofs.Common.{◌≡◌, ℕ, zero, suc, ◌+◌, ◌-◌, ◌*◌, ◌/◌, ◌^◌, ◌<◌, ◌≤◌, min, sym, ap, subst, arith}
 use Rattle.std.specs.Prelude.{ℤ, pos, negsuc, neg_ℤ, ◌+ℤ◌}
 use Rattle.std.specs.Int.{int_div_euclid}
@@ -12,7 +12,7 @@ use Rattle.soundlaw.specs.Sums.{IsWithin}
 pub within_add : (m n : ℕ) (x y : ℤ) → IsWithin m x → IsWithin n y → IsWithin (m + n) (x +ℤ y)
 within_add m n x y first second = (omega (arith, ints, first, second), omega (arith, ints, first, second))
 
--- such a sum of few samples is held as it is
+-- a sum of at most 32767 samples is not changed by saturation
 pub held_few : (m : ℕ) (z : ℤ) → m ≤ 32767 → IsWithin m z → held z ≡ z
 held_few m (pos n) few within =
     let below : min n (2 ^ 63 - 1) ≡ n = omega (arith, ints, within) in ap pos below
@@ -40,7 +40,7 @@ share_within (negsuc n) num den within le some =
     subst (λ (z : ℤ). IsWithin 1 z) (sym is)
     (negative_share (suc n * num) den (suc n) some (mul-le-mul_left (suc n) le) (omega (arith, ints, within)))
 
--- what is held is no larger
+-- saturation does not increase the absolute value of a sum
 pub held_grow : (m : ℕ) (z : ℤ) → IsWithin m z → IsWithin m (held z)
 held_grow m (pos n) within = (omega (arith, ints, within), omega (arith, ints, within))
 held_grow m (negsuc n) within = (omega (arith, ints, within), omega (arith, ints, within))

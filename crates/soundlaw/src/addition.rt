@@ -1,12 +1,12 @@
-// A sum and one sample more.
+// Addition of one more sample to a sum.
 ghost use Rattle.std.specs.Prelude.{true, ◌≡◌, ◌∷◌, [], ◌+ℤ◌};
 ghost use Rattle.sound_terms.specs.Blocks.{held};
 ghost use Rattle.soundlaw.specs.Sums.{TakeShare};
 
 use std::simd::prelude::*;
 
-/// A sum and a sample at full scale more, or a share of one. What is small can't leave 64 bits; what isn't stays inside
-/// them.
+/// Adds a sample at full scale, or the share of one, to a sum. The result saturates at 64 bits; if `is_small` is true
+/// it can't overflow and saturation is skipped.
 #[inline(always)]
 pub fn added(sum: i64, share: i64, is_small: bool) -> i64
     requires { TakeShare is_small sum share }
@@ -19,7 +19,7 @@ pub fn added(sum: i64, share: i64, is_small: bool) -> i64
     }
 }
 
-/// Two small sums, each with a sample more.
+/// Adds a sample to each of two small sums.
 #[inline(always)]
 pub fn two_added(first: i64, second: i64, low: i64, high: i64) -> [i64; 2]
     requires first { TakeShare true first low }

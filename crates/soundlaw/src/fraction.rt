@@ -1,8 +1,8 @@
-// Fractions of a fade.
+// Gains of fades as fractions.
 ghost use Rattle.std.specs.Prelude.{◌<◌, ◌≤◌};
 ghost use Rattle.sampletime.specs.TimeCode.{day};
 
-/// A fraction `num` / `den` of at most one; `den` is at most the samples of a day.
+/// A fraction `num` / `den` of at most 1. `den` is at most the number of samples in a day.
 #[derive(Clone, Copy)]
 pub struct Fraction {
     pub num: u64,

@@ -1,4 +1,5 @@
-// The share of a sample under a fraction, by a product of 128 bits.
+// Shares of samples by multiplication with a 62-bit binary fraction. Fast twin of
+// [`contribution`](crate::contribution), which divides.
 ghost use Rattle.std.specs.Prelude.{◌≡◌, ◌+◌, ◌*◌, ◌^◌, ◌<◌, ◌≤◌, pos, neg_ℤ, ◌+ℤ◌, ◌*ℤ◌, ◌≤ℤ◌};
 ghost use Rattle.std.specs.Int.{int_div_euclid};
 ghost use Rattle.sampletime.specs.TimeCode.{day};
@@ -9,7 +10,7 @@ ghost use Rattle.pcm.specs.Samples.{FitsDepth};
 use crate::{Fraction, contribution, finish, widen};
 use pcm::Depth;
 
-/// A fraction, which lies between `parts` and the next parts of 2^62.
+/// A fraction with its binary approximation: it is between `parts` / 2^62 and (`parts` + 1) / 2^62.
 #[derive(Clone, Copy)]
 pub struct Gain {
     pub fraction: Fraction,
@@ -20,8 +21,8 @@ pub struct Gain {
 }
 
 impl Gain {
-    /// The share of a sample at full scale: this fraction of it, rounded down. Where both parts round it alike, no
-    /// division is needed.
+    /// Returns the share of a sample at full scale: the fraction of the sample, rounded down. Equal to
+    /// [`contribution`], which is only called if the lower and the upper approximation round differently.
     #[inline(always)]
     pub fn share(&self, v: i64) -> i64
         requires low { neg_ℤ (pos (2 ^ 47)) ≤ℤ v }
@@ -39,8 +40,8 @@ impl Gain {
         }
     }
 
-    /// The share of a sample of this depth, rounded to the depth: to the nearest, halves up. Up to 24 bits a product of
-    /// 64 bits tells it, where both parts of 2^39 round it alike.
+    /// Returns the share of a sample of this depth, rounded to the depth (to nearest, halves up). Up to 24 bits a
+    /// 64-bit product with 39-bit approximations is enough unless the two round differently.
     #[inline(always)]
     pub fn rounded_share(&self, sample: i32, depth: Depth) -> i32
         requires { FitsDepth (bits_of depth) sample }
@@ -55,7 +56,7 @@ impl Gain {
         }
     }
 
-    /// The same of a sample of up to 24 bits.
+    /// Rounds the share of a sample of up to 24 bits by 39-bit approximations.
     #[inline(always)]
     fn rounded_by_parts(&self, sample: i32, depth: Depth) -> i32
         requires shallow { bits_of depth ≤ 24 }
@@ -74,8 +75,8 @@ impl Gain {
     }
 }
 
-/// The share of a sample of this depth, rounded to the depth, made at full scale. It takes a fraction's numbers, not a
-/// `Gain`, which a loop over frames would have to store for it.
+/// Rounds the share at full scale. Takes the fraction's numbers, since a `Gain` argument would be stored to memory in
+/// each iteration of the caller's loop.
 #[cold]
 #[inline(never)]
 fn rounded_at_full_scale(sample: i32, depth: Depth, num: u64, den: u64) -> i32
@@ -88,7 +89,7 @@ fn rounded_at_full_scale(sample: i32, depth: Depth, num: u64, den: u64) -> i32
     finish(contribution(widen(sample, depth), num, den), depth)
 }
 
-/// So many parts of 2^39 of a sample of up to 24 bits, and half of them all, since what follows rounds down.
+/// Returns `parts` / 2^39 of a sample, scaled by 2^39, plus one half for rounding.
 #[inline(always)]
 fn parts_and_half(sample: i64, parts: u64) -> i64
     requires low { neg_ℤ (pos (2 ^ 23)) ≤ℤ sample }
@@ -100,7 +101,6 @@ fn parts_and_half(sample: i64, parts: u64) -> i64
     sample * parts as i64 + (1 << 38)
 }
 
-/// How often a product has all parts of 2^39, rounded down.
 #[inline(always)]
 fn whole_parts(product: i64) -> i64
     ensures { result ≡ int_div_euclid product (pos (2 ^ 39)) }
@@ -108,7 +108,6 @@ fn whole_parts(product: i64) -> i64
     product >> 39
 }
 
-/// So many parts of a sample.
 #[inline(always)]
 fn scaled_parts(v: i64, parts: u64) -> i128
     requires low { neg_ℤ (pos (2 ^ 49)) ≤ℤ v }
@@ -120,7 +119,6 @@ fn scaled_parts(v: i64, parts: u64) -> i128
     i128::from(v) * i128::from(parts as i64)
 }
 
-/// The upper half of a product.
 #[inline(always)]
 fn upper(product: i128) -> i64
     ensures { result ≡ int_div_euclid product (pos (2 ^ 64)) }

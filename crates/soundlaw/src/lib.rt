@@ -1,4 +1,4 @@
-//! The arithmetic of a mix. Samples of every depth meet at full scale, 48 bits; their exact sum is rounded once.
+//! Arithmetic of a mix. Samples of every depth are scaled to full scale, 48 bits, and their exact sum is rounded once.
 #![tactic(auto)]
 
 ghost use Rattle.std.specs.Prelude.{false, negsuc, if◌then◌else◌, ◌≡◌, ◌*◌, ◌/◌, ◌%◌, ◌==◌, ◌*ℤ◌, ◌^◌, ◌<◌, ◌≤◌, pos, neg_ℤ, ◌≤ℤ◌};
@@ -21,7 +21,7 @@ use pcm::Depth;
 pub use rise::Rise;
 pub use scale::Scale;
 
-/// A sample of this depth at full scale: from -2^47 to 2^47 where it lies within the range of the depth.
+/// Scales a sample of this depth to full scale: -2^47 to 2^47 if the sample is in the range of the depth.
 #[inline(always)]
 pub fn widen(x: i32, depth: Depth) -> i64
     ensures value { result ≡ full_scale (bits_of depth) x }
@@ -30,7 +30,7 @@ pub fn widen(x: i32, depth: Depth) -> i64
     Scale::of(depth).widen(x)
 }
 
-/// This fraction of a sample's size, rounded down, and whether nothing was rounded away.
+/// Returns the fraction of an absolute value, rounded down, and true if the result is exact.
 fn scaled(size: u64, fraction: Fraction) -> (u64, bool)
     requires { size ≤ 2 ^ 47 }
     ensures quotient { result.0 ≡ size * fraction.num / fraction.den }
@@ -43,7 +43,7 @@ fn scaled(size: u64, fraction: Fraction) -> (u64, bool)
     (whole + rest / fraction.den, rest % fraction.den == 0)
 }
 
-/// A size below zero: where something was rounded away, the next number down.
+/// Negates an absolute value; an inexact one is rounded down, away from zero.
 fn negated(size: u64, is_exact: bool) -> i64
     requires { size ≤ 2 ^ 47 }
     ensures { result ≡ (if is_exact then neg_ℤ (pos size) else negsuc size) }
@@ -52,8 +52,8 @@ fn negated(size: u64, is_exact: bool) -> i64
     if is_exact { -size } else { -size - 1 }
 }
 
-/// The share of a sample at full scale under a fade: `num` / `den` of it, rounded down. The fraction is at most one,
-/// and `den` at most the samples of a day. The share is no larger than full scale.
+/// Returns the share of a sample at full scale in a fade: `num` / `den` of it, rounded down. The fraction is at most 1,
+/// and `den` at most the number of samples in a day.
 #[cold]
 #[inline(never)]
 pub fn contribution(v: i64, num: u64, den: u64) -> i64
@@ -74,8 +74,7 @@ pub fn contribution(v: i64, num: u64, den: u64) -> i64
     }
 }
 
-/// A sum of samples at full scale as a sample of this depth: rounded to the nearest, halves up, and clipped to the
-/// depth's range.
+/// Rounds a sum of samples at full scale to this depth (to nearest, halves up) and clips it to the range of the depth.
 pub fn finish(sum: i64, depth: Depth) -> i32
     ensures rounded { result ≡ quantized (bits_of depth) sum }
     ensures fit { FitsDepth (bits_of depth) result }
@@ -88,10 +87,9 @@ pub fn finish(sum: i64, depth: Depth) -> i32
     }
 }
 
-// Half a step is added to what is clipped, since the shift rounds down, and full scale, since shifts of what isn't
-// below zero are the quick ones.
+// The clipped sum gets half a step added because the shift rounds down, and full scale added because shifts of
+// non-negative numbers are faster.
 
-/// Any sum as a sample of 16 bits.
 #[inline(always)]
 fn to_sixteen(sum: i64) -> i32
     ensures { result ≡ quantized 16 sum }
@@ -100,7 +98,6 @@ fn to_sixteen(sum: i64) -> i32
     (((clipped + ((1 << 47) + (1 << 31))) as u64 >> 32) as i64 - (1 << 15)) as i32
 }
 
-/// Any sum as a sample of 24 bits.
 #[inline(always)]
 fn to_twenty_four(sum: i64) -> i32
     ensures { result ≡ quantized 24 sum }
@@ -109,7 +106,6 @@ fn to_twenty_four(sum: i64) -> i32
     (((clipped + ((1 << 47) + (1 << 23))) as u64 >> 24) as i64 - (1 << 23)) as i32
 }
 
-/// Any sum as a sample of 32 bits.
 #[inline(always)]
 fn to_thirty_two(sum: i64) -> i32
     ensures { result ≡ quantized 32 sum }

@@ -1,10 +1,10 @@
-// A fraction that grows by as much with each sample, and its parts.
+// Fractions that grow by a constant with each sample, computed without division.
 ghost use Rattle.std.specs.Prelude.{◌≡◌, ◌+◌, ◌-◌, ◌*◌, ◌^◌, ◌<◌, ◌≤◌};
 
 use crate::{Fraction, Gain};
 
-/// A fraction that grows by `by` / `den` from sample to sample, with its parts of 2^62 rounded down, and what is left
-/// of them; `step` and `step_rest` are those that it grows by. So no division is needed but at its begin.
+/// A fraction that grows by `by` / `den` from sample to sample, with its 62-bit approximation (`parts`, remainder
+/// `rest`) and the approximation of the growth (`step`, remainder `step_rest`). Only the start needs a division.
 #[derive(Clone, Copy)]
 pub struct Rise {
     pub fraction: Fraction,
@@ -22,7 +22,7 @@ pub struct Rise {
 }
 
 impl Rise {
-    /// This fraction, growing by this much.
+    /// Creates a fraction that grows by `by` / `den` with each sample.
     pub fn of(fraction: Fraction, by: u64) -> Self
         requires { by ≤ fraction.den }
         ensures fraction { result.fraction ≡ fraction }
@@ -43,7 +43,7 @@ impl Rise {
         }
     }
 
-    /// That of the next sample.
+    /// Returns the fraction of the next sample.
     #[inline(always)]
     pub fn next(&self) -> Self
         requires { self.now.fraction.num + self.now.by ≤ self.now.fraction.den }
@@ -66,7 +66,7 @@ impl Rise {
         }
     }
 
-    /// The parts of the next sample, and what is left of them.
+    /// Returns the approximation of the next sample and its remainder.
     #[inline(always)]
     fn next_parts(&self) -> (u64, u64)
         ensures parts { result.0 * self.now.fraction.den + result.1
@@ -82,7 +82,7 @@ impl Rise {
         }
     }
 
-    /// As a gain.
+    /// Returns the fraction as a gain.
     #[inline(always)]
     pub fn gain(&self) -> Gain
         ensures { result.fraction ≡ self.now.fraction }
@@ -93,7 +93,7 @@ impl Rise {
         }
     }
 
-    /// What is left to one, as a gain.
+    /// Returns 1 minus the fraction as a gain.
     #[inline(always)]
     pub fn gain_left(&self) -> Gain
         requires { self.now.fraction.num < self.now.fraction.den }
@@ -111,7 +111,7 @@ impl Rise {
     }
 }
 
-/// A fraction in parts of 2^62, and what is left of them.
+/// Returns a fraction in units of 2^-62, rounded down, and the remainder.
 fn parts_of(fraction: Fraction) -> (u64, u64)
     ensures parts { result.0 * fraction.den + result.1 ≡ fraction.num * 2 ^ 62 }
     ensures below { result.1 < fraction.den }

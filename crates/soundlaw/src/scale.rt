@@ -1,4 +1,4 @@
-// Samples of a depth at full scale.
+// Scaling of samples to full scale.
 ghost use Rattle.std.specs.Prelude.{◌≡◌, ◌-◌, ◌^◌, pos, neg_ℤ, ◌≤ℤ◌};
 ghost use Rattle.sound_terms.specs.Depth.{bits_of};
 ghost use Rattle.sound_terms.specs.Mix.{full_scale};
@@ -6,7 +6,7 @@ ghost use Rattle.pcm.specs.Samples.{FitsDepth};
 
 use pcm::Depth;
 
-/// A depth, and what its samples are multiplied by at full scale. It is asked once for many samples.
+/// A depth with the factor that scales its samples to full scale, looked up once for many samples.
 #[derive(Clone, Copy)]
 pub struct Scale {
     pub depth: Depth,
@@ -15,7 +15,7 @@ pub struct Scale {
 }
 
 impl Scale {
-    /// That of a depth.
+    /// Returns the scale of a depth.
     #[inline(always)]
     pub fn of(depth: Depth) -> Self
         ensures { result.depth ≡ depth }
@@ -28,7 +28,7 @@ impl Scale {
         Scale { depth, factor }
     }
 
-    /// A sample at full scale: from -2^47 to 2^47 where it lies within the range of the depth.
+    /// Scales a sample to full scale: -2^47 to 2^47 if the sample is in the range of the depth.
     #[inline(always)]
     pub fn widen(&self, x: i32) -> i64
         ensures value { result ≡ full_scale (bits_of self.now.depth) x }
