@@ -1,4 +1,4 @@
--- Two lists of sums, one after the other: how many pass a test, which is the first, and the loudest.
+-- Tallies of two joined lists of sums: the number that pass a test, the first that passes, and the peak.
 use Rattle.std.specs.Prelude.{◌≡◌, ℕ, ◌+◌, ◌-◌, ◌^◌, ◌<◌, ◌≤◌, max, min, Bool, true, false, ℤ, unsigned_abs, List, [], ◌∷◌, ◌++◌, length, Option, None, Some, IfSome, if◌then◌else◌, refl}
 use Rattle.std.specs.List.{All, filter, position, position_from}
 use Rattle.std.specs.Option.{option_map, option_or}
@@ -44,7 +44,7 @@ module _ {X : Type 0} (p : X → Bool) where
       passed (p x) n _ _ _ (from_append (n + 1) xs ys
       ∙ ap (λ m. option_or (position_from p (n + 1) xs) (position_from p m ys)) (omega arith))
 
-  -- the first of the front, or else of the rest
+  -- the first match is in the first list, or else in the second
   pub position-append : (xs ys : List X)
       → position p (xs ++ ys) ≡ option_or (position p xs) (option_map (λ i. length xs + i) (position p ys))
   position-append xs ys =
@@ -54,7 +54,7 @@ module _ {X : Type 0} (p : X → Bool) where
       ∙ ap (λ o. option_or o (option_map (λ i. length xs + i) (position_from p 0 ys))) (sym (position_from-zero p xs))
       ∙ ap (λ o. option_or (position p xs) (option_map (λ i. length xs + i) o)) (sym (position_from-zero p ys))
 
-  -- where nothing passes
+  -- no item passes the test
   pub none_kept : (xs : List X) → All (λ x. p x ≡ false) xs → filter p xs ≡ []
   none_kept [] none = refl
   none_kept (x ∷ xs) none =
@@ -68,7 +68,7 @@ module _ {X : Type 0} (p : X → Bool) where
   pub none_first : (xs : List X) → All (λ x. p x ≡ false) xs → position p xs ≡ None
   none_first xs none = position_from-zero p xs ∙ none_from 0 xs none
 
-  -- the first of both lists, by the first of each
+  -- first match of joined lists from the first match of each
   pub first_found : (xs ys : List X) (before : ℕ) (first next result : Option ℕ) → X
       → IfSome first (λ index. result ≡ Some index)
       → (first ≡ None → result ≡ option_map (λ index. min (before + index) (2 ^ 64 - 1)) next)
@@ -87,7 +87,7 @@ module _ {X : Type 0} (p : X → Bool) where
       ∙ ap (λ o. option_or o (option_map (λ i. length xs + i) (position p ys))) (sym mine)
       ∙ ap (option_map (λ i. length xs + i)) (sym theirs))
 
-  -- the first with one more that passes
+  -- first match after adding an item that passes
   pub first_noted : (xs : List X) (x : X) (index : ℕ) (first : Option ℕ) → length xs ≡ index → p x ≡ true
       → first ≡ position p xs → option_or first (Some index) ≡ position p (xs ++ x ∷ [])
   first_noted xs x index first long passes mine =
@@ -96,7 +96,7 @@ module _ {X : Type 0} (p : X → Bool) where
       ∙ ap (λ n. option_or (position p xs) (Some n)) (omega (arith, long))
       ∙ sym (position-append xs (x ∷ []) ∙ ap (λ o. option_or (position p xs) (option_map (λ i. length xs + i) o)) here)
 
-  -- one more that doesn't
+  -- adding an item that fails does not change the count
   pub count_same : (xs : List X) (x : X) → p x ≡ false → length (filter p (xs ++ x ∷ [])) ≡ length (filter p xs)
   count_same xs x fails =
       let none : length (filter p (x ∷ [])) ≡ 0 = rw fails refl in

@@ -1,4 +1,4 @@
--- The channels on which a sum is clipped.
+-- Channels with clipped sums.
 use Rattle.std.specs.Prelude.{◌≡◌, ◌≢◌, ◌⊎◌, ◌↔◌, ℕ, suc, ◌+◌, ◌-◌, ◌*◌, ◌%◌, ◌^◌, ◌<◌, ◌≤◌, max, ◌==◌, Bool, true, false, IsTrue, ℤ, pos, List, [], ◌∷◌, ◌++◌, length, slice_index_or, refl}
 use Rattle.std.specs.Int.{IsBitSet, bit_at, w64}
 use Rattle.std.specs.Int.Bits.{bit_or}
@@ -19,7 +19,7 @@ set_when n k is = (bit_set_by_shift n k).0 (shr_and_one n k ∙ is)
 when_set : (n k : ℕ) → IsBitSet n k → bit_at n k ≡ 1
 when_set n k is = sym (shr_and_one n k) ∙ (bit_set_by_shift n k).1 is
 
--- a bit of two numbers together
+-- a bit of a bitwise or is set in one of the two numbers
 pub or_set : (a b k : ℕ) → IsBitSet (bit_or a b) k → IsBitSet a k ⊎ IsBitSet b k
 or_set a b k set = by_bit (cases_lt (bit_at a k) 1) where
   both : max (bit_at a k) (bit_at b k) ≡ 1
@@ -40,7 +40,7 @@ set_or_right a b k set =
 pub none_set : (k : ℕ) → IsBitSet 0 k → (P : Type 0) → P
 none_set k set P = absurd (omega (arith, when_set 0 k set, bit_at-zero k))
 
--- one bit more
+-- setting one more bit
 pub new_bit : (n k : ℕ) → k < 64 → IsBitSet (bit_or n (1 * 2 ^ k % 2 ^ 64)) k
 new_bit n k small = set_when _ k (bit_at_set_same w64 n k small)
 
@@ -51,7 +51,7 @@ old_bit n k i small other = (
 )
 
 module _ (depth channels : ℕ) where
-  -- the sums of the front come first
+  -- a clipped sum of the first list is one of the joined lists
   pub clipped_left : (xs ys : List ℤ) (channel : ℕ) → IsClippedOn depth channels xs channel
       → IsClippedOn depth channels (xs ++ ys) channel
   clipped_left xs ys channel is =
@@ -64,7 +64,7 @@ module _ (depth channels : ℕ) where
             (sym (get_or_append_left xs ys (pos 0) (is.frame * channels + channel) is.within)) is.clipped;
       }
 
-  -- what is clipped among the first is clipped of them alone
+  -- a clipped sum of the joined lists before the end of the first is one of the first
   clipped_front : (xs ys : List ℤ) (channel : ℕ) (is : IsClippedOn depth channels (xs ++ ys) channel)
       → is.frame * channels + channel < length xs → IsClippedOn depth channels xs channel
   clipped_front xs ys channel is early =
@@ -77,7 +77,7 @@ module _ (depth channels : ℕ) where
             (get_or_append_left xs ys (pos 0) (is.frame * channels + channel) early) is.clipped;
       }
 
-  -- those of the frames that come next, after them
+  -- a clipped sum of the second list is one of the joined lists
   pub clipped_right : (xs ys : List ℤ) (frames channel : ℕ) → length xs ≡ frames * channels
       → IsClippedOn depth channels ys channel → IsClippedOn depth channels (xs ++ ys) channel
   clipped_right xs ys frames channel long is =
@@ -93,7 +93,7 @@ module _ (depth channels : ℕ) where
             ∙ ap (λ k. slice_index_or ys k (pos 0)) rest)) is.clipped;
       }
 
-  -- a clipped sum is one of either
+  -- a clipped sum of the joined lists is one of either list
   pub clipped_either : (xs ys : List ℤ) (frames channel : ℕ) → length xs ≡ frames * channels
       → IsClippedOn depth channels (xs ++ ys) channel
       → IsClippedOn depth channels xs channel ⊎ IsClippedOn depth channels ys channel
@@ -124,7 +124,7 @@ module _ (depth channels : ℕ) where
                 ∙ ap (λ k. slice_index_or ys k (pos 0)) rest) is.clipped;
           })
 
-  -- one sum more: it is the last one, on its channel, or one of those before
+  -- a clipped sum after adding one is the added sum, on its channel, or an earlier one
   pub clipped_last : (xs : List ℤ) (sum : ℤ) (frame channel other : ℕ) → length xs ≡ frame * channels + channel
       → channel < channels → IsClippedOn depth channels (xs ++ sum ∷ []) other
       → IsClippedOn depth channels xs other ⊎ ((other ≡ channel) × IsTrue (is_clipped depth sum))
@@ -160,7 +160,7 @@ module _ (depth channels : ℕ) where
             ∙ ap (λ k. slice_index_or (sum ∷ []) k (pos 0)) rest)) clipped;
       }
 
-  -- where none is clipped
+  -- no channel has a clipped sum if no sum is clipped
   pub none_on : (sums : List ℤ) (channel : ℕ) → All (λ sum. is_clipped depth sum ≡ false) sums
       → IsClippedOn depth channels sums channel → (P : Type 0) → P
   none_on sums channel none is P =
@@ -169,7 +169,7 @@ module _ (depth channels : ℕ) where
       let there : is_clipped depth (slice_index_or sums (is.frame * channels + channel) (pos 0)) ≡ true = is.clipped in
       cc
 
-  -- one more that isn't clipped
+  -- adding a sum that is not clipped
   pub none_more : (xs : List ℤ) (sum : ℤ) (frame channel other : ℕ) → length xs ≡ frame * channels + channel
       → channel < channels → is_clipped depth sum ≡ false
       → IsClippedOn depth channels (xs ++ sum ∷ []) other → IsClippedOn depth channels xs other
@@ -182,7 +182,7 @@ module _ (depth channels : ℕ) where
             let passes : is_clipped depth sum ≡ true = last.1 in
             cc
 
-  -- one more that is clipped, and its channel's bit
+  -- adding a clipped sum, and setting the bit of its channel
   pub marked : (xs : List ℤ) (sum : ℤ) (frame channel other bits : ℕ) → length xs ≡ frame * channels + channel
       → channel < channels → channel < 64 → is_clipped depth sum ≡ true
       → IsBitSet bits other ↔ IsClippedOn depth channels xs other

@@ -1,4 +1,4 @@
--- Sums that are kept at a depth, one by one.
+-- Counting sums stored at a depth.
 use Rattle.std.specs.Prelude.{◌≡◌, ◌≢◌, ◌⊎◌, ◌↔◌, ℕ, suc, ◌+◌, ◌-◌, ◌*◌, ◌%◌, ◌==◌, ◌^◌, ◌<◌, ◌≤◌, max, Bool, true, false, IsTrue, ℤ, pos, List, [], ◌∷◌, ◌++◌, length, take, drop, slice_index_or, unsigned_abs, Option, None, Some, if◌then◌else◌, refl}
 use Rattle.std.specs.Int.{IsBitSet, w32}
 use Rattle.std.specs.Int.Bits.{bit_or}
@@ -22,25 +22,25 @@ use Rattle.clipping.proofs.Marked.{new_bit, old_bit}
 use Rattle.clipping.proofs.Counted.{count-le, count_more, count_same, first_noted, first_same, loud_more, loud_same, position-append}
 
 module _ (depth : ℕ) where
-  -- what a test finds of a sum in 32 bits is so of the sum
+  -- the test of a sum as a 32-bit word gives the result for the sum
   pub test_of : (sum : ℤ) (found known : Bool) → SFits w32 sum
       → found ≡ is_clipped depth (full_scale depth (to_z w32 (of_z w32 sum))) → found ≡ known
       → is_clipped depth (full_scale depth sum) ≡ known
   test_of sum found known fits is has =
       ap (λ z. is_clipped depth (full_scale depth z)) (sym (to_z-of_z w32 sum fits)) ∙ sym is ∙ has
 
-  -- one more at the end
+  -- one more sum at the end, at full scale
   one_more : (sums : List ℤ) (sum : ℤ)
       → at_full_scale depth (sums ++ sum ∷ []) ≡ at_full_scale depth sums ++ full_scale depth sum ∷ []
   one_more sums sum = map-append (full_scale depth) sums (sum ∷ [])
 
-  -- the first n and the next
+  -- the first n sums and the next one, at full scale
   pub next_taken : (sums : List ℤ) (n : ℕ) → n < length sums → at_full_scale depth (take (n + 1) sums)
       ≡ at_full_scale depth (take n sums) ++ full_scale depth (get_or sums n (pos 0)) ∷ []
   next_taken sums n inside =
       ap (at_full_scale depth) (take_more sums n (pos 0) inside) ∙ one_more (take n sums) (get_or sums n (pos 0))
 
-  -- one more that lies inside of the depth
+  -- adding a sum inside the range of the depth
   pub inside_more : (sums : List ℤ) (sum : ℤ) (count farthest : ℕ) → is_clipped depth (full_scale depth sum) ≡ false
       → AreOutside depth sums count farthest → AreOutside depth (sums ++ sum ∷ []) count farthest
   inside_more sums sum count farthest fails before =
@@ -55,7 +55,7 @@ module _ (depth : ℕ) where
             ∙ loud_same depth (at_full_scale depth sums) (full_scale depth sum) fails);
       }
 
-  -- no more than all
+  -- no more sums are outside the range than exist
   pub few_outside : (sums : List ℤ) (count farthest : ℕ) → AreOutside depth sums count farthest → count ≤ length sums
   few_outside sums count farthest are =
       omega (
@@ -65,7 +65,7 @@ module _ (depth : ℕ) where
         length-map sums (full_scale depth),
       )
 
-  -- the greater of two, both so many times
+  -- the maximum of two numbers multiplied by n
   max_times : (a b n : ℕ) → max a b * n ≡ max (a * n) (b * n)
   max_times a b n = by_order (cases_lt a b) where
     by_order : (a < b) ⊎ (b ≤ a) → max a b * n ≡ max (a * n) (b * n)
@@ -78,7 +78,7 @@ module _ (depth : ℕ) where
         let row : b * n ≤ a * n = mul-le-mul_right n more in
         ap (λ m. m * n) greater ∙ omega (arith, row)
 
-  -- one more that lies outside
+  -- adding a sum outside the range of the depth
   pub outside_more : (sums : List ℤ) (sum : ℤ) (count farthest : ℕ) → is_clipped depth (full_scale depth sum) ≡ true
       → AreOutside depth sums count farthest
       → AreOutside depth (sums ++ sum ∷ []) (count + 1) (max farthest (unsigned_abs sum))
@@ -96,7 +96,7 @@ module _ (depth : ℕ) where
             ∙ loud_more depth (at_full_scale depth sums) (full_scale depth sum) passes);
       }
 
-  -- where the first n lie inside and the next doesn't, that one is the first outside
+  -- the next sum is the first outside the range if the first n are inside
   pub first_after : (sums : List ℤ) (n : ℕ) → n < length sums
       → position (is_clipped depth) (at_full_scale depth (take n sums)) ≡ None
       → is_clipped depth (full_scale depth (get_or sums n (pos 0))) ≡ true
@@ -119,7 +119,7 @@ module _ (depth : ℕ) where
       ++ full_scale depth (get_or sums n (pos 0)) ∷ []) + i) (position p (at_full_scale depth (drop (n + 1) sums)))))
       (sym here))
 
-  -- where the first n lie inside, so does one more
+  -- the first n + 1 sums are inside the range if the first n and the next one are
   pub none_after : (sums : List ℤ) (n : ℕ) → n < length sums
       → position (is_clipped depth) (at_full_scale depth (take n sums)) ≡ None
       → is_clipped depth (full_scale depth (get_or sums n (pos 0))) ≡ false
@@ -129,19 +129,19 @@ module _ (depth : ℕ) where
       ∙ first_same (is_clipped depth) (at_full_scale depth (take n sums)) (full_scale depth (get_or sums n (pos 0))) fails
       ∙ none
 
-  -- a sum at full scale, of those that are kept
+  -- a stored sum at full scale
   kept_at : (sums : List ℤ) (k : ℕ) → k < length sums
       → slice_index_or (at_full_scale depth sums) k (pos 0) ≡ full_scale depth (get_or sums k (pos 0))
   kept_at sums k below = get_or-map (full_scale depth) sums k (pos 0) (pos 0) below
 
-  -- a frame's place
+  -- the index of a sample on a channel is within the interleaved sums
   frame_inside : (frames channels frame channel : ℕ) → frame < frames → channel < channels
       → frame * channels + channel < frames * channels
   frame_inside frames channels frame channel early small =
       let row : suc frame * channels ≤ frames * channels = mul-le-mul_right channels early in
       omega (arith, row, small)
 
-  -- one outside in a frame
+  -- a sum outside the range on this channel
   pub found_on : (sums : List ℤ) (frames channels frame channel : ℕ) → length sums ≡ frames * channels → frame < frames
       → channel < channels
       → is_clipped depth (full_scale depth (get_or sums (frame * channels + channel) (pos 0))) ≡ true
@@ -156,7 +156,7 @@ module _ (depth : ℕ) where
         clipped = subst IsTrue (sym (ap (is_clipped depth) (kept_at sums _ within) ∙ passes)) refl;
       }
 
-  -- none outside in any frame
+  -- no sum on this channel is outside the range
   pub none_found_on : (sums : List ℤ) (frames channels channel : ℕ) → length sums ≡ frames * channels
       → ((k : ℕ) → k < frames
       → is_clipped depth (full_scale depth (get_or sums (k * channels + channel) (pos 0))) ≡ false)
@@ -179,7 +179,7 @@ pub small_byte : (b : Bool) → bool_byte b ≤ 1
 small_byte true = omega arith
 small_byte false = omega arith
 
--- one more, by whether it lies outside
+-- adding one more sum, inside or outside the range
 pub outside_last : (depth : ℕ) (sums : List ℤ) (sum : ℤ) (count farthest distance : ℕ) (is_outside : Bool)
     → is_outside ≡ is_clipped depth (full_scale depth sum)
     → distance ≡ (if is_outside then unsigned_abs sum else 0) → AreOutside depth sums count farthest
@@ -194,7 +194,7 @@ outside_last depth sums sum count farthest distance false is size before =
     (subst (λ n. AreOutside depth (sums ++ sum ∷ []) count n) same_size
     (inside_more depth sums sum count farthest (sym is) before))
 
--- no sum lies outside where none is counted
+-- a count of zero means that no sum is outside the range
 module _ {X : Type 0} (p : X → Bool) where
   first_fails : (b : Bool) (x : X) (l : List X) → length (if b then x ∷ l else l) ≡ 0 → b ≡ false
   first_fails false x l none = refl
@@ -210,13 +210,13 @@ module _ {X : Type 0} (p : X → Bool) where
       All-cons (λ x. p x ≡ false) x xs (first_fails (p x) x (filter p xs) none)
       (none_passes xs (rest_fails (p x) x (filter p xs) none))
 
--- a distance at full scale
+-- a distance at full scale fits 64 bits
 pub far_fits : (depth : Depth) (distance : ℕ) → distance < 2 ^ 32 → distance * 2 ^ (48 - bits_of depth) < 2 ^ 64
 far_fits Sixteen distance small = omega (arith, small)
 far_fits TwentyFour distance small = omega (arith, small)
 far_fits ThirtyTwo distance small = omega (arith, small)
 
--- what holds of the first n and of the next
+-- a property of the numbers below n and of n holds below n + 1
 pub one_further : (P : ℕ → Type 0) (n : ℕ) → ((k : ℕ) → k < n → P k) → P n → (k : ℕ) → k < n + 1 → P k
 one_further P n before here k below = by_place (cases_lt k n) where
   by_place : (k < n) ⊎ (n ≤ k) → P k
@@ -229,7 +229,7 @@ other_below c n apart below = by_order (cases_lt c n) where
   by_order (inl early) = early
   by_order (inr late) = absurd (apart (omega (arith, below, late)))
 
--- the channels of which P holds have their bits, as far as they were looked at
+-- the bits of the channels checked so far are set exactly for those with property P
 module _ (P : ℕ → Type 0) (bits n : ℕ) (before : (c : ℕ) → IsBitSet bits c ↔ ((c < n) × P c)) where
   pub channel_marked : n < 64 → P n → (c : ℕ) → IsBitSet (bit_or bits (1 * 2 ^ n % 2 ^ 64)) c ↔ ((c < n + 1) × P c)
   channel_marked few holds c = by_place (c == n) refl where

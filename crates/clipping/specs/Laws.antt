@@ -1,4 +1,4 @@
--- Laws of sums that lie frame by frame.
+-- Laws of interleaved sums.
 use Rattle.std.specs.Prelude.{◌≡◌, ℕ, zero, suc, ◌+◌, ◌*◌, ◌<◌, ◌≤◌, ℤ, ◌++◌, length, refl, false, pos, List}
 use Rattle.std.specs.List.{All}
 use Rattle.std.proofs.Common.{sym, ap, ◌∙◌, arith, length-append}
@@ -10,7 +10,7 @@ use Rattle.sound_terms.specs.Depth.{bits_of}
 use Rattle.clipping.specs.Clips.{block_sums, frame_sums, is_clipped}
 
 module _ (sums : ℕ → ℕ → ℤ) where
-  -- first some frames, then more
+  -- sums of n + m sample frames are the sums of the first n and of the next m
   pub block_sums-append : (channels i n m : ℕ) → block_sums sums channels i (n + m)
       ≡ block_sums sums channels i n ++ block_sums sums channels (i + n) m
   block_sums-append channels i zero m =
@@ -36,7 +36,7 @@ module _ (sums : ℕ → ℕ → ℤ) where
         length-block_sums channels (suc i) n,
       )
 
--- sums that are the same from sample i on are the same one by one
+-- equal sums from sample i on are equal one by one
 module _ (a b : ℕ → ℕ → ℤ) (shift : ℕ) where
   frame_alike : (i channel n : ℕ) → ((c : ℕ) → channel ≤ c → c < channel + n → a i c ≡ b (shift + i) c)
       → frame_sums a i channel n ≡ frame_sums b (shift + i) channel n
@@ -47,7 +47,7 @@ module _ (a b : ℕ → ℕ → ℤ) (shift : ℕ) where
         frame_alike i (suc channel) n (λ c low high. same c (omega arith) (omega arith)),
       ) refl
 
-  -- the frames from i on of the first are those from `shift` more on of the second
+  -- the sums of `a` from i on equal the sums of `b` from shift + i on
   pub block_sums-alike : (channels i n : ℕ)
       → ((k c : ℕ) → i ≤ k → k < i + n → 1 ≤ c → c ≤ channels → a k c ≡ b (shift + k) c)
       → block_sums a channels i n ≡ block_sums b channels (shift + i) n
@@ -60,7 +60,7 @@ module _ (a b : ℕ → ℕ → ℤ) (shift : ℕ) where
         next,
       ) refl
 
--- a sum of zero isn't clipped
+-- a sum of zero is not clipped
 zero_at : (depth : Depth) → is_clipped (bits_of depth) (pos 0) ≡ false
 zero_at Sixteen = refl
 zero_at TwentyFour = refl
@@ -70,7 +70,7 @@ pub zero_unclipped : (depth : Depth) (sums : List ℤ) → All (λ sum. sum ≡ 
     → All (λ sum. is_clipped (bits_of depth) sum ≡ false) sums
 zero_unclipped depth sums zeros = λ k d below. ap (is_clipped (bits_of depth)) (zeros k d below) ∙ zero_at depth
 
--- what holds of each sum of a block holds of all of them
+-- a property of each sum of a block holds for all of them
 module _ (P : ℤ → Type 0) (sums : ℕ → ℕ → ℤ) where
   all_frame : (i channel n : ℕ) → ((c : ℕ) → channel ≤ c → c < channel + n → P (sums i c))
       → All P (frame_sums sums i channel n)

@@ -1,4 +1,5 @@
-// What is clipped of sums that are kept at a depth.
+// Fast twin of [`Clips::note`] for sums stored at a depth: the tally of a whole slice, equal to noting each sum at full
+// scale.
 ghost use Rattle.std.specs.Prelude.{◌≡◌, ◌↔◌, ◌-◌, ◌*◌, ◌/◌, ◌^◌, ◌<◌, ◌≤◌, ◌++◌, ◌∷◌, [], ℕ, ℤ, List, IsTrue, false, length};
 ghost use Rattle.std.specs.Int.{IsBitSet};
 ghost use Rattle.std.specs.List.{position};
@@ -10,7 +11,7 @@ ghost use Rattle.clipping.specs.Kept.{AreOutside, at_full_scale};
 use crate::Clips;
 use sound_terms::Depth;
 
-/// Sums that are kept at a depth, frame by frame, of so many channels.
+/// Interleaved sums stored as samples of a depth; they may exceed the range of the depth.
 #[derive(Clone, Copy)]
 pub struct Kept<'a> {
     pub sums: &'a [i32],
@@ -21,14 +22,13 @@ pub struct Kept<'a> {
     ghost whole: { length sums.now / channels * channels ≡ length sums.now },
 }
 
-/// How many sums lie outside of a depth, and how far from zero the farthest of these is.
+/// The number of sums outside the range of a depth, and the greatest distance of such a sum from zero.
 #[derive(Clone, Copy)]
 struct Outside {
     count: u64,
     farthest: u32,
 }
 
-/// Whether a sum that is kept at this depth lies outside of it.
 #[inline(always)]
 fn is_outside(sum: i32, depth: Depth) -> bool
     ensures { result ≡ is_clipped (bits_of depth) (full_scale (bits_of depth) sum) }
@@ -41,7 +41,7 @@ fn is_outside(sum: i32, depth: Depth) -> bool
 }
 
 impl Outside {
-    /// One sum more.
+    /// Counts one more sum.
     #[inline(always)]
     fn with(self, sum: i32, depth: Depth) -> Self
         ensures { (sums : List ℤ) → length sums < 2 ^ 63 → AreOutside (bits_of depth) sums self.count self.farthest
@@ -56,7 +56,7 @@ impl Outside {
     }
 }
 
-/// Whether one of these sums lies outside of the depth.
+/// Returns true if a sum is outside the range of the depth.
 #[inline(always)]
 fn is_one_outside(sums: &[i32], depth: Depth) -> bool
     ensures { result ≡ false → AreOutside (bits_of depth) sums.now 0 0 }
@@ -68,7 +68,7 @@ fn is_one_outside(sums: &[i32], depth: Depth) -> bool
     found
 }
 
-/// Which of these sums lie outside of the depth. Mostly none does: that is asked first, since it is quicker to say.
+/// Counts the sums outside the range of the depth. Most slices have none, which a faster loop checks first.
 #[inline(always)]
 fn outside_by(sums: &[i32], depth: Depth) -> Outside
     ensures { AreOutside (bits_of depth) sums.now result.count result.farthest }
@@ -86,7 +86,7 @@ fn outside_by(sums: &[i32], depth: Depth) -> Outside
     outside
 }
 
-/// The same. Each depth has a loop of its own.
+/// Calls `outside_by` with a constant depth, so that each depth has its own specialised loop.
 fn outside_of(sums: &[i32], depth: Depth) -> Outside
     ensures { AreOutside (bits_of depth) sums.now result.count result.farthest }
 {
@@ -97,7 +97,7 @@ fn outside_of(sums: &[i32], depth: Depth) -> Outside
     }
 }
 
-/// The first of these sums that lies outside of the depth.
+/// Returns the index of the first sum outside the range of the depth.
 fn first_outside(sums: &[i32], depth: Depth) -> Option<u64>
     ensures { result ≡ position (is_clipped (bits_of depth)) (at_full_scale (bits_of depth) sums.now) }
 {
@@ -110,7 +110,7 @@ fn first_outside(sums: &[i32], depth: Depth) -> Option<u64>
 }
 
 impl<'a> Kept<'a> {
-    /// Whether one of them lies outside of the depth on this channel, counted from 0.
+    /// Returns true if a sum on this channel, counted from 0, is outside the range of the depth.
     fn is_outside_on(&self, channel: usize) -> bool
         requires { channel < self.now.channels }
         ensures { IsTrue result ↔ IsClippedOn (bits_of self.now.depth) self.now.channels
@@ -124,7 +124,7 @@ impl<'a> Kept<'a> {
         false
     }
 
-    /// The channels on which one lies outside of the depth: bit c for channel c + 1.
+    /// Returns the channels with a sum outside the range of the depth: bit c for channel c + 1.
     fn channels_outside(&self) -> u64
         ensures { (channel : ℕ) → IsBitSet result channel ↔ IsClippedOn (bits_of self.now.depth) self.now.channels
             (at_full_scale (bits_of self.now.depth) self.now.sums.now) channel }
@@ -139,7 +139,7 @@ impl<'a> Kept<'a> {
     }
 }
 
-/// A distance from zero that is kept at this depth, at full scale.
+/// Scales a distance from zero to full scale.
 fn full_distance(distance: u32, depth: Depth) -> u64
     ensures { result ≡ distance * 2 ^ (48 - bits_of depth) }
 {
@@ -151,7 +151,7 @@ fn full_distance(distance: u32, depth: Depth) -> u64
 }
 
 impl Clips {
-    /// The tally of sums that are kept at a depth.
+    /// Counts the clipped sums of a slice.
     pub fn of_kept(kept: &Kept) -> Self
         ensures { IsClippingOf (bits_of kept.now.depth) kept.now.channels
             (at_full_scale (bits_of kept.now.depth) kept.now.sums.now) result }

@@ -1,9 +1,8 @@
-//! Which samples of a rendering are clipped: how many, which is the first, how loud the loudest is, and on which
-//! channels.
+//! Tallies of the clipped samples of a rendering: their number, the first one, the highest peak, and their channels.
 //!
-//! `is_clipped` says of a sum whether its rounded value lies outside of the depth. A tally, `Clips`, speaks of sums that
-//! lie frame by frame: `note` takes one sum more, `joined` the tally of the frames that come next, and `of_kept` all
-//! sums that are kept at a depth.
+//! [`is_clipped`] decides whether the rounded value of a sum is outside the range of the depth. [`Clips`] is a tally
+//! over interleaved sums: [`Clips::note`] adds one sum, [`Clips::joined`] combines the tallies of consecutive parts,
+//! and [`Clips::of_kept`] counts a slice of sums stored at a depth.
 #![tactic(auto)]
 
 mod kept;

@@ -1,4 +1,4 @@
-// Clipped sums, one by one and counted.
+// Tallies of clipped sums.
 ghost use Rattle.std.specs.Prelude.{◌≡◌, ◌+◌, ◌-◌, ◌*◌, ◌^◌, ◌<◌, ◌++◌, ◌∷◌, [], min, ℕ, ℤ, List, None, Some, IfSome, false, length};
 ghost use Rattle.std.specs.List.{All};
 ghost use Rattle.std.specs.Option.{option_map};
@@ -8,20 +8,20 @@ ghost use Rattle.clipping.specs.Clips.{IsClippingOf};
 
 use sound_terms::Depth;
 
-/// What is clipped of sums that lie frame by frame, of up to 64 channels.
+/// A tally of the clipped sums among interleaved sums of up to 64 channels.
 #[derive(Clone, Copy, Debug, PartialEq, Eq)]
 pub struct Clips {
-    /// How many sums are clipped.
+    /// The number of clipped sums.
     pub samples: u64,
-    /// The first of them, counted from 0 sample by sample: frame by frame, and in a frame channel by channel.
+    /// The index of the first clipped sum, counted from 0 over the interleaved sums.
     pub first: Option<u64>,
-    /// The greatest distance from zero of a clipped sum, at full scale, which is 2^47. 0 where none is clipped.
+    /// The greatest distance of a clipped sum from zero, on a scale with full scale at 2^47; 0 if no sum is clipped.
     pub peak: u64,
-    /// A set bit, counted from 0 and the lowest, for each channel on which one is clipped: bit c for channel c + 1.
+    /// A bit mask of the channels with clipped sums: bit c, counted from 0 at the lowest bit, for channel c + 1.
     pub channels: u64,
 }
 
-/// Whether a sum at full scale, rounded to this depth, lies outside of the depth.
+/// Returns true if a sum at full scale, rounded to this depth, is outside the range of the depth.
 pub fn is_clipped(sum: i64, depth: Depth) -> bool
     ensures { result ≡ clipping.is_clipped (bits_of depth) sum }
 {
@@ -32,7 +32,7 @@ pub fn is_clipped(sum: i64, depth: Depth) -> bool
     }
 }
 
-/// The first index there is: the one of these, `before` of them, else that of the ones that come next.
+/// Returns the first index, or the next index shifted by `before`.
 fn first_joined(first: Option<u64>, next: Option<u64>, before: u64) -> Option<u64>
     ensures kept { IfSome first (λ index. result ≡ Some index) }
     ensures shifted { first ≡ None → result ≡ option_map (λ index. min (before + index) (2 ^ 64 - 1)) next }
@@ -45,7 +45,7 @@ fn first_joined(first: Option<u64>, next: Option<u64>, before: u64) -> Option<u6
 }
 
 impl Clips {
-    /// The tally of sums of which none is clipped.
+    /// Creates the tally of sums without clipping.
     pub fn none() -> Self
         ensures { (depth channels : ℕ) (sums : List ℤ) → All (λ sum. clipping.is_clipped depth sum ≡ false) sums
             → IsClippingOf depth channels sums result }
@@ -58,7 +58,7 @@ impl Clips {
         }
     }
 
-    /// One sum more at the end: the one of this index, counted from 0, on this channel, counted from 0.
+    /// Adds the sum with this index on this channel, both counted from 0.
     pub fn note(&mut self, sum: i64, depth: Depth, index: u64, channel: u32)
         requires { channel < 64 }
         ensures { (channels frame : ℕ) (sums : List ℤ) → index ≡ frame * channels + channel → channel < channels
@@ -73,7 +73,7 @@ impl Clips {
         }
     }
 
-    /// The tally of the sums of this one, `before` of them, and of the frames that come next.
+    /// Combines this tally of `before` sums with the tally of the sums that follow them.
     pub fn joined(self, next: Clips, before: u64) -> Clips
         ensures { (depth channels frames : ℕ) (sums others : List ℤ) → before ≡ frames * channels
             → length sums ≡ before → length sums + length others < 2 ^ 64 → IsClippingOf depth channels sums self
