@@ -1,4 +1,4 @@
--- A format is told by the first forty bytes of its chunk.
+-- The format depends only on the first forty bytes of its chunk.
 use Rattle.std.proofs.Common.{◌≡◌, ℕ, ◌+◌, ◌-◌, ◌≤◌, Bool, true, false, nat_le, min, List, Option, None, Some, Result, Ok, Err, length, take, drop, refl, sym, ap, ◌∙◌, arith, length-take, lit≤}
 use Rattle.std.proofs.lemmas.Bool.Decides.{nat_tests}
 use Rattle.std.proofs.lemmas.List.{drop-take, take-take, take_all}
@@ -17,7 +17,7 @@ use Rattle.riff.specs.declared.fault.MediaFault.{MediaFault}
 use Rattle.riff.specs.declared.fault.MediaFault.TheVariants.{Device}
 use Rattle.riff.specs.Fault.{as_media, media_fault}
 
--- a field among them
+-- a number within the first forty bytes
 front_number : (n place : ℕ) (bytes : List ℕ) → place + n ≤ 40
     → number_at n place (take 40 bytes) ≡ number_at n place bytes
 front_number n place bytes inside =
@@ -53,7 +53,7 @@ format_of-take bytes =
       by_depth (Some depth) some bits sixteen tag forty extension sub channels frame rate =
           rw (bits, some, sixteen, tag, forty, extension, sub, channels, frame, rate) refl
 
--- the first bytes of the chunk, forty at most
+-- the format is read from at most forty bytes of the chunk
 pub format_read : (stored : Option (List ℕ)) (file : List ℕ) (span : Span) (buffer : List ℕ)
     → IsRange stored span.at buffer
     → stored ≡ Some file → length buffer ≡ min span.length 40 → format_of buffer ≡ format_of (bytes_of_span file span)
@@ -76,7 +76,7 @@ format_read stored file span buffer range there count =
           let most : min span.length 40 ≡ 40 = omega arith in
           ap (λ n. take n (drop span.at file)) most ∙ sym (take-take 40 span.length (drop span.at file) past)
 
--- no bytes tell an I/O error
+-- no fault of the bytes is a device fault
 never_device : (fault : SoundFault) → media_fault fault ≡ Device → ⊥
 never_device sound.NotWave same = cc
 never_device sound.NoFormat same = cc

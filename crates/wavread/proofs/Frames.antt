@@ -1,4 +1,4 @@
--- Samples that were read stand in the file.
+-- Samples that were read are the samples of the file.
 use Rattle.std.proofs.Common.{◌≡◌, ℕ, ◌+◌, ◌-◌, ◌*◌, ◌/◌, ◌<◌, ◌≤◌, min, Bool, true, false, nat_lt, List, ◌++◌, Option, Some, length, take, drop, get_or, refl, sym, ap, ◌∙◌, arith, length-append, length-take, length-drop}
 use Rattle.std.proofs.Math.Nat.{div-add-mod', mul-le-mul_right}
 use Rattle.std.proofs.lemmas.Bool.Decides.{nat_tests}
@@ -12,7 +12,7 @@ use Rattle.pcm.specs.Samples.{samples_in}
 use Rattle.pcm.specs.Laws.{length-samples_in, get_or-samples_in_file}
 use Rattle.wavread.specs.Facts.{AreFrames}
 
--- as many frames as a block holds
+-- the sample frames of a block fit its buffer
 pub fits_block : (count channels left : ℕ) → count ≡ min (1024 / channels) left → count * channels ≤ 1024
 fits_block count channels left most =
     let less : count ≤ 1024 / channels = omega arith in
@@ -20,7 +20,7 @@ fits_block count channels left most =
     let whole = div-add-mod' 1024 channels in
     omega (arith, rows, whole)
 
--- one stretch more behind those that were filled
+-- one more part after the samples already filled
 pub filled_more : (done count k : ℕ) (old new : List ℤ) (told : ℕ → ℤ) → done + count ≤ length old → length new ≡ count
     → ((i : ℕ) → i < done → get_or old i (pos 0) ≡ told i)
     → ((j : ℕ) → j < count → get_or new j (pos 0) ≡ told (done + j))
@@ -40,7 +40,7 @@ filled_more done count k old new told inside whole before after i below = by_pla
       ∙ get_or_append_left new (post_of done k old) (pos 0) (i - done) (omega arith)
       ∙ after (i - done) (omega arith) ∙ ap told same
 
--- a slice keeps its length
+-- replacing a part by one of the same length keeps the length
 pub length_kept : (done k : ℕ) (old new : List ℤ) → done + k ≤ length old → length new ≡ k
     → length (put_mid done k old new) ≡ length old
 length_kept done k old new inside whole =
@@ -51,7 +51,7 @@ length_kept done k old new inside whole =
     let e = length-drop done old in
     omega (arith, a, b, c, d, e)
 
--- the samples of bytes that were read
+-- the samples decoded from the bytes read
 pub frames_told : (stored : Option (List ℕ)) (file : List ℕ) (place bits n : ℕ) (bytes : List ℕ) (samples : List ℤ)
     → IsRange stored place bytes → stored ≡ Some file → length bytes ≡ n * (bits / 8)
     → samples ≡ samples_in bits n bytes
@@ -65,7 +65,7 @@ frames_told stored file place bits n bytes samples range there count read = λ k
     ap (λ (l : List ℤ). get_or l k (pos 0)) read
     ∙ get_or-samples_in_file bits n k place file bytes (pos 0) stretch (omega arith)
 
--- the sample of a frame and a channel, among frames that were read from a later frame on
+-- the sample of a sample frame and a channel, among sample frames read from a later one on
 pub sample_told : (file : List ℕ) (place channels depth from done j channel : ℕ) (frames : List ℤ) (count : ℕ)
     → AreFrames file (place + (from + done) * (channels * (depth / 8))) depth frames → length frames ≡ count * channels
     → j < count → 1 ≤ channel → channel ≤ channels

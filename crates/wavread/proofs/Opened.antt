@@ -1,4 +1,4 @@
--- What a file says, by its parts.
+-- Facts of a file from its parts.
 use Rattle.std.proofs.Common.{◌≡◌, ℕ, ◌*◌, ◌/◌, Bool, true, false, List, Option, None, Some, Result, Ok, Err, MatchBool, refl, ap, ◌∙◌}
 use Rattle.sound_terms.specs.declared.Chunks.{Chunks}
 use Rattle.sound_terms.specs.declared.Format.{Format}
@@ -18,8 +18,7 @@ use Rattle.wavread.specs.declared.told.Told.{Told}
 use Rattle.wavread.specs.Told.{TellsAll}
 use Rattle.wavread.specs.Facts.{sound_of_file, facts_told}
 
--- what holds anyway
--- where a step is at fault, all is
+-- if a step fails, the whole fails
 fault_passes : {X Y : Type 0} (read : Result X SoundFault) (next : X → Result Y SoundFault) (fault : MediaFault)
     → as_media read ≡ Err fault → as_media (read >>= next) ≡ Err fault
 fault_passes (Ok x) next fault told = cc
@@ -30,7 +29,7 @@ ok_passes : {X Y : Type 0} (read : Result X SoundFault) (next : X → Result Y S
 ok_passes (Ok y) next x told = let same : y ≡ x = cc in ap (λ z. as_media (next z)) same
 ok_passes (Err e) next x told = cc
 
--- the chunks of the file are at fault
+-- the chunks of the file are refused
 pub walk_refused : (name : List ℕ) (stored : Option (List ℕ)) (fault : MediaFault)
     → MatchBool (is_excused (number_of fault)) (Unit {0}) (walked_file stored ≡ Err fault)
     → MatchBool (is_excused (number_of fault)) (Unit {0}) (sound_of_file name stored ≡ Err fault)
@@ -44,7 +43,7 @@ walk_refused name stored fault told = by_kind (is_excused (number_of fault)) tol
   by_kind true read = tt
   by_kind false read = by_file stored read
 
--- the format of the file is at fault
+-- the format of the file is refused
 pub format_refused : (name file : List ℕ) (chunks : Chunks) (fault : MediaFault) → as_media (walked file) ≡ Ok chunks
     → MatchBool (is_excused (number_of fault)) (Unit {0})
     (as_media (format_of (bytes_of_span file chunks.format)) ≡ Err fault)
@@ -56,14 +55,14 @@ format_refused name file chunks fault found told = by_kind (is_excused (number_o
   by_kind false read =
       ok_passes (walked file) _ chunks found ∙ fault_passes (format_of (bytes_of_span file chunks.format)) _ fault read
 
--- all of it is read
+-- all parts of the file are read
 pub sound_told : (name file : List ℕ) (chunks : Chunks) (format : Format) → as_media (walked file) ≡ Ok chunks
     → as_media (format_of (bytes_of_span file chunks.format)) ≡ Ok format
     → as_media (sound_of name file) ≡ Ok (facts_with name chunks format (bext_in file chunks))
 sound_told name file chunks format found read =
     ok_passes (walked file) _ chunks found ∙ ok_passes (format_of (bytes_of_span file chunks.format)) _ format read
 
--- the same, of the file under a name
+-- the format of a file found by its name is refused
 pub format_refused_file : (name : List ℕ) (stored : Option (List ℕ)) (chunks : Chunks) (fault : MediaFault)
     → walked_file stored ≡ Ok chunks
     → ((file : List ℕ) → stored ≡ Some file
@@ -84,7 +83,7 @@ sound_told_file name None chunks format facts found read same = cc
 sound_told_file name (Some file) chunks format facts found read same =
     sound_told name file chunks format found (read file refl) ∙ ap Ok (same file refl)
 
--- the facts that were put together
+-- the record made from the parts is the facts of the file
 pub facts_same : (name : List ℕ) (chunks : Chunks) (format : Format) (contents : List ℕ) (told : Told)
     → TellsAll chunks.bext contents told
     → facts_with name chunks format contents

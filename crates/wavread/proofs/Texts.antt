@@ -1,4 +1,4 @@
--- What the bytes of a `bext` tell, of the part that is read.
+-- Fields of a `bext` chunk from the part that is read.
 use Rattle.std.proofs.Common.{◌≡◌, ℕ, ◌+◌, ◌-◌, ◌<◌, ◌≤◌, Bool, true, false, nat_le, nat_lt, List, [], None, Some, length, take, drop, refl, sym, ap, ◌∙◌, arith, le-leb, length-take, length-drop}
 use Rattle.std.proofs.lemmas.Bool.Decides.{nat_tests}
 use Rattle.std.proofs.lemmas.List.{drop-take, drop-drop, take-take, take_all, drop_all}
@@ -11,14 +11,14 @@ use Rattle.sound_terms.specs.Bext.{bext_of}
 use Rattle.wavread.specs.declared.told.Told.{Told}
 use Rattle.wavread.specs.Told.{TellsAll}
 
--- as many bytes as the chunk has
+-- the contents have the length of the chunk
 length-contents : (file : List ℕ) (span : Span) → span.at + span.length ≤ length file
     → length (bytes_of_span file span) ≡ span.length
 length-contents file span inside =
     let rest = length-drop span.at file in
     length-take span.length (drop span.at file) ∙ omega (arith, rest)
 
--- too short
+-- a chunk that is too short
 pub short_told : (file : List ℕ) (span : Span) (told : Told) → span.at + span.length ≤ length file → span.length < 346
     → told.bext ≡ None → told.history.items ≡ [] → told.short ≡ true → told.cut ≡ false
     → TellsAll (Some span) (bytes_of_span file span) told
@@ -35,7 +35,7 @@ short_told file span told inside few none empty short cut =
       cut = cut ∙ sym small;
     }
 
--- the fields of a whole chunk
+-- the fields of a chunk that is long enough
 fields_told : (file : List ℕ) (span : Span) → 346 ≤ span.length → span.at + span.length ≤ length file
     → bext_of (take 346 (drop span.at file))
     ≡ Some (record {
@@ -57,7 +57,7 @@ fields_told file span whole inside =
     ∙ little_from-take 0 8 (span.length - 338) (drop 338 rest) (omega arith) in
     rw (enough, text, front, there)
 
--- a whole chunk
+-- a chunk that is long enough
 pub whole_told : (file : List ℕ) (span : Span) (told : Told) → 346 ≤ span.length → span.at + span.length ≤ length file
     → told.bext ≡ bext_of (take 346 (drop span.at file))
     → told.history.items ≡ take history_limit (drop 602 (bytes_of_span file span))
@@ -76,7 +76,7 @@ whole_told file span told whole inside fields history short cut =
       cut = cut ∙ sym (ap (nat_lt (602 + history_limit)) long);
     }
 
--- the CodingHistory of the chunk: none, or the bytes that were read
+-- the CodingHistory of the chunk: empty, or the bytes read
 pub no_history : (file : List ℕ) (span : Span) → span.at + span.length ≤ length file → span.length ≤ 602
     → [] ≡ take history_limit (drop 602 (bytes_of_span file span))
 no_history file span inside few =
@@ -108,7 +108,7 @@ history_read file span count history long most all read =
           ap (λ n. take n (drop (span.at + 602) file)) (most past)
           ∙ sym (take-take 65536 (span.length - 602) (drop (span.at + 602) file) (omega arith))
 
--- a CodingHistory of more than its limit
+-- a CodingHistory longer than the limit
 pub cut_told : (n : ℕ) → 602 < n → nat_lt 65536 (n - 602) ≡ nat_lt (602 + history_limit) n
 cut_told n long = by_test (nat_lt 65536 (n - 602)) refl where
   by_test : (b : Bool) → nat_lt 65536 (n - 602) ≡ b → nat_lt 65536 (n - 602) ≡ nat_lt (602 + history_limit) n

@@ -1,4 +1,4 @@
-// What the `bext` of a file tells (EBU Tech 3285, 2.3).
+// Reading of the `bext` chunk (EBU Tech 3285, 2.3).
 ghost use Rattle.std.specs.Prelude.{◌≡◌, ◌≤◌, ◌<◌, ◌+◌, ◌^◌, ℕ, List, Some, IsTrue, IfOk, IfErr, IfSome, length, take, drop, vec_len};
 ghost use Rattle.sound_terms.specs.Bext.{bext_of};
 ghost use Rattle.devices.specs.Fault.{IsThere};
@@ -13,16 +13,16 @@ use riff::MediaFault;
 use sound_terms::{Bext, Span};
 use std::alloc::Global;
 
-/// The bytes of the texts and the time reference.
+/// The length of the text fields and the time reference.
 const FIELDS_LENGTH: u64 = 346;
 
-/// Where the CodingHistory begins.
+/// The offset of the CodingHistory.
 const HISTORY: u64 = 602;
 
-/// The most bytes of a CodingHistory that are kept.
+/// The maximum number of bytes of a CodingHistory that are kept.
 const HISTORY_LIMIT: u64 = 65_536;
 
-/// Reads the fields of a `bext` that begins at this place.
+/// Reads the fields of a `bext` chunk whose contents start at `at`.
 fn read_fields<S: Shelf>(shelf: &mut S, name: &str, at: u64) -> Result<Option<Bext>, ShelfFault>
     ensures fields { IsTrue (S.honest shelf.old) → (file : List ℕ) → S.stored shelf.old name.now ≡ Some file
         → IfOk result (λ bext. bext ≡ bext_of (take 346 (drop at file))) }
@@ -35,7 +35,7 @@ fn read_fields<S: Shelf>(shelf: &mut S, name: &str, at: u64) -> Result<Option<Be
     Ok(read_bext(&fields))
 }
 
-/// Reads so many bytes from this place on.
+/// Reads `count` bytes from `at` on.
 fn read_history<S: Shelf>(
     alloc: Global,
     shelf: &mut S,
@@ -57,7 +57,7 @@ fn read_history<S: Shelf>(
     Ok(history)
 }
 
-/// What a `bext` of these contents tells.
+/// Reads a `bext` chunk with these contents.
 fn read_whole<S: Shelf>(
     alloc: Global,
     shelf: &mut S,
@@ -100,7 +100,8 @@ fn read_whole<S: Shelf>(
     })
 }
 
-/// What the `bext` of a file tells, where it has one. `Device` where a read fails, `Memory` where no memory was left.
+/// Reads the `bext` chunk of a file; a file without one gives empty fields. Returns `Device` if a read fails, and
+/// `Memory` if out of memory.
 pub fn read_told<S: Shelf>(
     alloc: Global,
     shelf: &mut S,

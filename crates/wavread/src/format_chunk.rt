@@ -1,4 +1,4 @@
-// The format of a file.
+// Reading of the `fmt ` chunk.
 ghost use Rattle.std.specs.Prelude.{◌≡◌, ℕ, List, Some, IsTrue, IfOk, IsErrOf};
 ghost use Rattle.sound_terms.specs.Sounds.{bytes_of_span};
 ghost use Rattle.sound_terms.specs.Formats.{format_of};
@@ -11,10 +11,11 @@ use devices::Shelf;
 use riff::{Format, MediaFault, read_fmt};
 use sound_terms::Span;
 
-/// The most bytes of a `fmt ` chunk that are read: those of WAVE_FORMAT_EXTENSIBLE.
+/// The maximum number of bytes of a `fmt ` chunk that are read: the length of WAVE_FORMAT_EXTENSIBLE.
 const FORMAT_LENGTH: usize = 40;
 
-/// The format that a `fmt ` chunk with these contents tells.
+/// Reads the format from a `fmt ` chunk with these contents (RIFF WAVE). Returns `BadFormat` or `WrongRate` if the
+/// format isn't supported, and `Device` if the read fails.
 pub fn read_format<S: Shelf>(
     shelf: &mut S,
     name: &str,

@@ -1,4 +1,5 @@
-//! Whole sound files: what a file of RIFF WAVE, Broadcast Wave or RF64 says (EBU Tech 3285, 3306), and its samples.
+//! Reader for sound files: the facts that a RIFF WAVE, Broadcast Wave or RF64 file gives (EBU Tech 3285, EBU Tech
+//! 3306), and its samples.
 #![tactic(auto)]
 
 mod bext_chunk;

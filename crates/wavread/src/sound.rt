@@ -1,4 +1,4 @@
-// An opened sound file.
+// Opened sound files.
 ghost use Rattle.std.specs.Prelude.{◌≡◌, ◌≤◌, ◌<◌, ◌+◌, ◌-◌, ◌*◌, ◌/◌, ◌^◌, ℕ, List, Some, pos, get_or, length, option_map, string_bytes, IsTrue, IsSome, OnOk};
 ghost use Rattle.std.specs.List.{All};
 ghost use Rattle.sound_terms.specs.Depth.{bits_of};
@@ -17,14 +17,14 @@ use riff::{Format, Span};
 use sound_terms::{Bext, Depth};
 use std::marker::Model;
 
-/// How many samples are read at once, of all channels: some frames of every file.
+/// The maximum number of samples per read, over all channels; at least 16 sample frames.
 const BLOCK: usize = 1024;
 
-/// The bytes of so many samples, of 32 bits at most.
+/// The number of bytes of a block at 32 bits.
 const BLOCK_BYTES: usize = 4 * BLOCK;
 
-/// A sound file that was opened: its name and what it says of itself, with 1 to 64 channels and at most 65,536 bytes
-/// of CodingHistory.
+/// An opened sound file: its name, format, number of sample frames and `bext` fields. It has 1 to 64 channels and keeps
+/// at most 65,536 bytes of CodingHistory.
 #[derive(Drop)]
 pub struct Sound {
     name: String,
@@ -56,7 +56,7 @@ impl Model for Sound {
 impl Sound {
     ghost use Rattle.wavread.specs.Facts.{IsSound};
 
-    /// The file of these parts.
+    /// Creates the sound of a file from its parts. `sound` is the range of its `data` chunk.
     pub fn of(name: String, format: Format, sound: Span, texts: Told, others: bool) -> Self
         requires channels { (1 ≤ format.channels) × (format.channels ≤ 64) }
         requires ends { sound.at + sound.length < 2 ^ 64 }
@@ -79,21 +79,21 @@ impl Sound {
         }
     }
 
-    /// The name of the file.
+    /// Returns the name of the file.
     pub fn name(&self) -> &str
         ensures { result.now ≡ self.now.name }
     {
         self.name.as_str()
     }
 
-    /// Hands out the name of the file.
+    /// Returns the name of the file and drops the rest.
     pub fn into_name(self) -> String
         ensures { string_bytes result ≡ self.name }
     {
         self.name
     }
 
-    /// The channels, 1 to 64.
+    /// Returns the number of channels, 1 to 64.
     pub fn channels(&self) -> u8
         ensures channels { result ≡ self.now.channels }
         ensures within { IsSound self.now }
@@ -101,21 +101,22 @@ impl Sound {
         self.channels
     }
 
-    /// The bits of a sample.
+    /// Returns the number of bits per sample.
     pub fn depth(&self) -> Depth
         ensures { result ≡ self.now.depth }
     {
         self.depth
     }
 
-    /// The frames, each a sample of every channel.
+    /// Returns the number of sample frames, each with one sample per channel.
     pub fn frames(&self) -> u64
         ensures { result ≡ self.now.frames }
     {
         self.frames
     }
 
-    /// The texts and the time reference of its `bext`, where it has them.
+    /// Returns the text fields and the time reference of the `bext` chunk, or `None` if the file has none or it is too
+    /// short.
     pub fn bext(&self) -> &Option<Bext>
         ensures text { option_map (λ b. b.text) result.now ≡ self.now.text }
         ensures time_reference { option_map (λ b. b.time_reference) result.now ≡ self.now.time_reference }
@@ -123,7 +124,7 @@ impl Sound {
         &self.bext
     }
 
-    /// The CodingHistory, at most 65,536 bytes.
+    /// Returns the CodingHistory, at most 65,536 bytes (EBU Tech 3285, 2.3).
     pub fn history(&self) -> &[u8]
         ensures history { result.now ≡ self.now.history }
         ensures within { length result.now ≤ 65536 }
@@ -131,36 +132,36 @@ impl Sound {
         self.history.as_slice()
     }
 
-    /// Whether its `bext` is too short for its fields.
+    /// Returns true if the `bext` chunk is too short for its fields.
     pub fn short_bext(&self) -> bool
         ensures { result ≡ self.now.short_bext }
     {
         self.short_bext
     }
 
-    /// Whether the end of its CodingHistory isn't kept.
+    /// Returns true if the CodingHistory was longer than 65,536 bytes and has been truncated.
     pub fn history_cut(&self) -> bool
         ensures { result ≡ self.now.history_cut }
     {
         self.history_cut
     }
 
-    /// Whether it has chunks that are not carried along.
+    /// Returns true if the file has chunks that aren't copied.
     pub fn others(&self) -> bool
         ensures { result ≡ self.now.others }
     {
         self.others
     }
 
-    /// The bytes of a frame: 2 to 256.
+    /// Returns the number of bytes per sample frame: 2 to 256.
     fn frame_length(&self) -> u64
         ensures { result ≡ frame_length self.now }
     {
         u64::from(self.channels) * u64::from(self.depth.bits() / 8)
     }
 
-    /// Fills `bytes` with whole frames, from this one on: interleaved, as they stand in the file. `Device` where a
-    /// read fails; the bytes are then unspecified.
+    /// Reads whole sample frames as bytes, interleaved as in the file, starting at sample frame `from` and filling
+    /// `bytes`. Returns `Device` if the read fails; the contents of `bytes` are then unspecified.
     pub fn read_bytes<S: Shelf>(
         &self,
         shelf: &mut S,
@@ -180,8 +181,8 @@ impl Sound {
         shelf.read_at(self.name.as_str(), offset, bytes)
     }
 
-    /// Fills `samples` with those of a channel, counted from 1, from this frame on. `Device` where a read fails; the
-    /// samples are then unspecified.
+    /// Reads samples of one channel, counted from 1, starting at sample frame `from` and filling `samples`. Returns
+    /// `Device` if a read fails; the contents of `samples` are then unspecified.
     pub fn read<S: Shelf>(
         &self,
         shelf: &mut S,
@@ -218,8 +219,8 @@ impl Sound {
         Ok(())
     }
 
-    /// Fills `frames` with so many frames from this one on, a sample of every channel after the other. `buffer` has
-    /// room for their bytes, at least. `Device` where a read fails; the frames are then unspecified.
+    /// Reads `count` interleaved sample frames into `frames`, starting at sample frame `from`. `buffer` must have room
+    /// for their bytes. Returns `Device` if the read fails; the contents of `frames` are then unspecified.
     pub fn read_frames<S: Shelf>(
         &self,
         shelf: &mut S,
@@ -248,7 +249,7 @@ impl Sound {
     }
 }
 
-/// Takes one channel, counted from 1, out of frames of so many channels.
+/// Extracts one channel, counted from 1, from interleaved sample frames.
 fn pick(frames: &[i32], channels: usize, channel: usize, samples: &mut [i32])
     requires whole { length frames.now ≡ length samples.old * channels }
     requires channel { (1 ≤ channel) × (channel ≤ channels) }

@@ -1,4 +1,4 @@
-// Opening a sound file.
+// Opening of sound files.
 ghost use Rattle.std.specs.Prelude.{◌≡◌, IsTrue, IfOk, IfErr, string_bytes};
 ghost use Rattle.work_terms.specs.Refusals.{Gives};
 ghost use Rattle.devices.specs.Frame.{OnlyReads};
@@ -12,7 +12,6 @@ use devices::Shelf;
 use riff::{MediaFault, walk_indexed};
 use std::alloc::Global;
 
-/// The name, in memory of its own.
 fn copy_of(alloc: Global, name: &str) -> Result<String, MediaFault>
     ensures same { IfOk result (λ copy. string_bytes copy ≡ name.now) }
     ensures memory { IfErr result (λ fault. fault ≡ MediaFault.Memory) }
@@ -20,11 +19,11 @@ fn copy_of(alloc: Global, name: &str) -> Result<String, MediaFault>
     String::from_str(alloc, name).map_err(|_| MediaFault::Memory)
 }
 
-/// Reads what the file of this name says (EBU Tech 3285, 3306): its format, how many frames it has and where, and the
-/// fields and CodingHistory of its `bext`, of which 65,536 bytes are kept. Samples aren't read.
+/// Opens a sound file (EBU Tech 3285, EBU Tech 3306): reads its format, the position and number of its sample frames,
+/// its `bext` fields and up to 65,536 bytes of its CodingHistory. Samples aren't read.
 ///
-/// In turn the faults of [`riff::walk_indexed`], `BadFormat` and `WrongRate`. `Device` where a read fails, `Memory` where no
-/// memory was left.
+/// Returns the errors of [`riff::walk_indexed`], then `BadFormat` or `WrongRate` if the format isn't supported. Returns
+/// `Device` if a read fails, and `Memory` if out of memory.
 pub fn open<S: Shelf>(alloc: Global, shelf: &mut S, name: &str) -> Result<Sound, MediaFault>
     ensures exact { IsTrue (S.honest shelf.old)
         → Gives (λ sound. sound) (λ fault. fault) number_of result

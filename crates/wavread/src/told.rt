@@ -1,10 +1,10 @@
-// The fields and the CodingHistory of a `bext`, as they are kept.
+// Contents of a `bext` chunk as kept in memory.
 ghost use Rattle.std.specs.Prelude.{◌≤◌, vec_len};
 
 use sound_terms::Bext;
 
-/// The fields and the CodingHistory of a `bext`; whether it is too short for its fields, and whether the end of the
-/// CodingHistory isn't kept.
+/// The fields and the CodingHistory of a `bext` chunk. `short` is true if the chunk is too short for its fields, `cut`
+/// if the CodingHistory was truncated.
 #[derive(Drop)]
 pub struct Told {
     pub bext: Option<Bext>,
