@@ -1,4 +1,4 @@
--- The contents of the chunks that are written, and what they tell.
+-- Reading the contents of the written chunks.
 use Rattle.std.proofs.Common.{◌≡◌, ℕ, Bool, true, Option, Some, Ok, [], codes, if◌then◌else◌, ◌+◌, ◌-◌, ◌*◌, ◌/◌, ◌%◌, ◌^◌, ◌<◌, ◌≤◌, List, ◌++◌, length, take, drop, refl, ap, ◌∙◌, arith, length-append, false, le-leb, le-ltb, ltb-false}
 use Rattle.std.proofs.lemmas.List.{append_assoc, drop_at, take_at, take_all}
 use Rattle.std.proofs.lemmas.Bool.{ne_eqb}
@@ -18,45 +18,45 @@ use Rattle.wavwrite.proofs.FormatReads.{format_bytes, length-format_bytes}
 use Rattle.wavwrite.specs.Info.{facts_of}
 use Rattle.wavwrite.proofs.FileInfo.{IsInfo}
 
--- the contents of `bext`, without the padding
+-- contents of the `bext` chunk, without padding
 unfoldable pub bext_contents : SoundInfo → List ℕ
 bext_contents info = info.text ++ (u64_bytes info.time_reference ++ (u16_bytes 1 ++ (zeros 254 ++ info.history)))
 
--- the contents of `fmt `
+-- contents of the `fmt ` chunk
 abbrev pub format_contents : SoundInfo → List ℕ
 format_contents info =
     format_bytes 1 info.channels 48000 (48000 * frame_bytes info) (frame_bytes info) (bits_of info.depth)
 
--- the field of the size of `data`
+-- size field of the `data` chunk
 abbrev pub data_told : SoundInfo → ℕ
 data_told info = if is_large info then 4294967295 else data_size info
 
--- a file is its front and the three chunks
+-- a file is the header of its form followed by the three chunks
 pub file_is : (info : SoundInfo) (samples : List ℕ)
     → file_of info samples ≡ form_head info ++ wave_chunks (bext_size info) (data_told info)
     (bext_contents info ++ zeros (bext_size info % 2)) (format_contents info) (samples ++ zeros (length samples % 2))
 unfolding file_of header_of wave_chunks bext_contents format_bytes
 file_is info samples = simp append_assoc
 
--- 602 bytes and the CodingHistory
+-- the contents of `bext` have 602 bytes and the CodingHistory
 pub length-bext_contents : (info : SoundInfo) → length info.text ≡ 338 → length (bext_contents info) ≡ bext_size info
 unfolding bext_contents
 length-bext_contents info whole =
     simp (length-append, length-zeros, length-u16_bytes, length-u64_bytes) (omega arith)
 
--- of two lists of one length
+-- length of a choice between two lists of the same length
 length_either : (b : Bool) (xs ys : List ℕ) (n : ℕ) → length xs ≡ n → length ys ≡ n → length (if b then xs else ys) ≡ n
 length_either true xs ys n left right = left
 length_either false xs ys n left right = right
 
--- RIFF with JUNK is as long as RF64 with `ds64`
+-- the RIFF header with JUNK is as long as the RF64 header with `ds64`
 pub length-form_head : (info : SoundInfo) → length (form_head info) ≡ 48
 length-form_head info =
     length_either (is_large info) _ _ 48
     (simp (length-append, length-zeros, length-chunk_head, length-u64_bytes) (omega arith))
     (simp (length-append, length-zeros, length-chunk_head) (omega arith))
 
--- the chunks of this layout are whole
+-- the chunks of this layout match their size fields
 chunks_whole : (info : SoundInfo) (samples : List ℕ) (size_of : List ℕ → ℕ → Option ℕ) (told : ℕ) → IsInfo info
     → length samples ≡ data_size info → told < 4294967296
     → size_of (codes "bext") (bext_size info) ≡ Some (bext_size info)
@@ -79,18 +79,18 @@ chunks_whole info samples size_of told is counted below bext_means format_means 
       data_whole = simp (length-append, length-zeros) (rw counted refl);
     }
 
--- a frame has bytes
+-- a sample frame has at least one byte
 frame_some : (channels : ℕ) (depth : Depth) → 1 ≤ channels → 0 < channels * (bits_of depth / 8)
 frame_some channels depth some =
     let bounds = bits_bounded depth in
     let wide : 1 ≤ bits_of depth / 8 = omega (arith, bounds) in
     grind (arith, wide)
 
--- a frame is no shorter than a byte
+-- there are no more sample frames than bytes
 frames_bounded : (frames size : ℕ) → 0 < size → frames ≤ frames * size
 frames_bounded frames size some = grind arith
 
--- 64 bits can tell its sizes
+-- the sizes of the file fit 64 bits
 sizes_told : (info : SoundInfo) → IsInfo info → AreSizes (file_length info - 8) (data_size info) info.frames
 sizes_told info is =
     let fits = is.fits in
@@ -98,7 +98,7 @@ sizes_told info is =
     let few = frames_bounded info.frames (frame_bytes info) some in
     record { form_fits = omega (arith, fits); sound_fits = omega (arith, fits); frames_fit = omega (arith, fits, few) }
 
--- it is walked to its end, as RIFF or as RF64
+-- the chunk walk reaches the end of the file, as RIFF or as RF64
 pub file_walked : (info : SoundInfo) (samples : List ℕ) → IsInfo info → length samples ≡ data_size info
     → walked (form_head info ++ wave_chunks (bext_size info) (data_told info)
     (bext_contents info ++ zeros (bext_size info % 2)) (format_contents info) (samples ++ zeros (length samples % 2)))
@@ -129,7 +129,7 @@ file_walked info samples is counted = by_size (is_large info) refl where
       (rf64_front_is (file_length info - 8) (data_size info) info.frames)
       ∙ rf64_walked (file_length info - 8) (data_size info) info.frames (bext_size info) _ _ _ (sizes_told info is) whole
 
--- what `bext` tells
+-- the fields read from the `bext` chunk
 time_told : (info : SoundInfo) → length info.text ≡ 338 → info.time_reference < 2 ^ 64
     → number_at 8 338 (bext_contents info) ≡ info.time_reference
 unfolding bext_contents
@@ -154,7 +154,7 @@ history_told info whole fits =
     ap (λ (bytes : List ℕ). take history_limit (drop 602 bytes)) grouped
     ∙ ap (take history_limit) (drop_at front info.history 602 long) ∙ take_all 65536 info.history fits
 
--- the facts of these chunks
+-- the facts read from these chunks
 pub facts_found : (name : List ℕ) (info : SoundInfo) → IsInfo info
     → facts_with name (wave_found (bext_size info) (data_size info))
     (record { channels = info.channels; depth = info.depth }) (bext_contents info)

@@ -1,8 +1,8 @@
--- What a written file tells of itself, where it fits.
+-- Properties of a file whose length fits 64 bits.
 use Rattle.sound_terms.specs.Waves.{SoundInfo}
 use Rattle.wavwrite.specs.Info.{IsWithin, Fits}
 
--- what a file can tell of itself
+-- properties within their limits, and a length that fits 64 bits
 pub record IsInfo (info : SoundInfo) : Type 0 where
   pub within : IsWithin info
   pub fits : Fits info

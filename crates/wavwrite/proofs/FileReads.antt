@@ -1,4 +1,4 @@
--- A written file reads back: its facts, and its samples.
+-- Reading a written file back: its facts and its samples.
 use Rattle.std.proofs.Common.{◌≡◌, ℕ, ◌+◌, ◌-◌, ◌*◌, ◌/◌, ◌%◌, List, ◌++◌, length, take, drop, refl, sym, ap, ◌∙◌, arith, length-append, Ok}
 use Rattle.std.proofs.lemmas.List.{append_assoc, drop_at, take_at, drop-drop}
 use Rattle.sound_terms.specs.Depth.{bits_of}
@@ -12,7 +12,7 @@ use Rattle.wavwrite.specs.Info.{facts_of}
 use Rattle.wavwrite.proofs.FileInfo.{IsInfo}
 use Rattle.wavwrite.proofs.ContentReads.{bext_contents, data_told, facts_found, file_is, file_walked, format_contents, length-bext_contents, length-form_head}
 
--- the contents of `bext` and `fmt ` are found
+-- the walk finds the contents of `bext` and `fmt `
 bext_found : (info : SoundInfo) (format sound : List ℕ) → length info.text ≡ 338
     → take (bext_size info) (drop 56 (form_head info ++ wave_chunks (bext_size info) (data_told info)
     (bext_contents info ++ zeros (bext_size info % 2)) format sound))
@@ -34,7 +34,7 @@ format_found info bext format sound bext_whole format_whole =
     (length-form_head info) bext_whole in
     ap (take 16) behind.1 ∙ take_at format behind.0 16 format_whole
 
--- what is written is read: all facts of a file that fits
+-- reading a written file gives all its facts
 pub reads_back : (name : List ℕ) (info : SoundInfo) (samples : List ℕ) → IsInfo info → length samples ≡ data_size info
     → sound_of name (file_of info samples) ≡ Ok (facts_of name info)
 reads_back name info samples is counted =
@@ -53,9 +53,9 @@ reads_back name info samples is counted =
     rw (file_is info samples, walk, format_there, formed, bext_there)
     (ap Ok (facts_found name info is))
 
--- ---- where the samples stand
+-- ---- offset of the samples
 
--- all that stands before the samples is as long as their place
+-- the header ends at the offset of the samples
 pub length-header_of : (info : SoundInfo) → length info.text ≡ 338 → length (header_of info) ≡ data_place info
 unfolding header_of
 length-header_of info whole =
@@ -69,28 +69,28 @@ length-header_of info whole =
       length-u64_bytes,
     ) (omega arith)
 
--- the whole file, with the padding
+-- length of the whole file with its padding
 pub length-file_of : (info : SoundInfo) (samples : List ℕ) → length info.text ≡ 338 → length samples ≡ data_size info
     → length (file_of info samples) ≡ file_length info
 unfolding file_of
 length-file_of info samples whole counted =
     simp (length-append, length-zeros) (rw (counted, length-header_of info whole) refl)
 
--- from their place on the samples stand, and their padding
+-- the bytes after the header are the samples and their padding
 pub behind_header : (info : SoundInfo) (samples : List ℕ) → length info.text ≡ 338
     → drop (data_place info) (file_of info samples) ≡ samples ++ zeros (length samples % 2)
 unfolding file_of
 behind_header info samples whole =
     drop_at (header_of info) (samples ++ zeros (length samples % 2)) (data_place info) (length-header_of info whole)
 
--- the bytes of the samples stand at their place
+-- the bytes of the samples are at their offset
 pub samples_stand : (info : SoundInfo) (samples : List ℕ) → length info.text ≡ 338 → length samples ≡ data_size info
     → take (data_size info) (drop (data_place info) (file_of info samples)) ≡ samples
 samples_stand info samples whole counted =
     ap (take (data_size info)) (behind_header info samples whole)
     ∙ take_at samples (zeros (length samples % 2)) (data_size info) counted
 
--- a sample of the file is one of the bytes of its samples
+-- a sample of the file is read from the bytes of its samples
 pub sample_stands : (info : SoundInfo) (samples : List ℕ) (channels depth frame channel : ℕ) → length info.text ≡ 338
     → sample_at (file_of info samples) (data_place info) channels depth frame channel
     ≡ sample_of depth (drop ((frame * channels + (channel - 1)) * (depth / 8)) (samples ++ zeros (length samples % 2)))

@@ -1,4 +1,4 @@
--- The `fmt ` chunk of PCM is read as it was written.
+-- Reading the written `fmt ` chunk back.
 use Rattle.std.proofs.Common.{◌≡◌, ℕ, ◌*◌, ◌/◌, ◌<◌, ◌≤◌, Some, List, [], ◌++◌, length, refl, ap, ◌∙◌, arith, length-append, Ok, le-leb, eq-eqb}
 use Rattle.std.proofs.lemmas.List.{append_assoc, append-nil, drop_at}
 use Rattle.byteorder.specs.Endian.{little_number}
@@ -10,20 +10,20 @@ use Rattle.sound_terms.specs.Chunks.{number_at}
 use Rattle.sound_terms.specs.Formats.{depth_of, format_of}
 use Rattle.sound_terms.specs.Laws.{bits_bounded, length-u16_bytes, length-u32_bytes, u16-reads_back, u32-reads_back}
 
--- the six numbers of `fmt `: the tag, the channels, the rate, the bytes of a second, the bytes of a frame, the depth
+-- the six numbers of `fmt `: tag, channels, sample rate, bytes per second, bytes per sample frame, bits per sample
 unfoldable pub format_bytes : ℕ → ℕ → ℕ → ℕ → ℕ → ℕ → List ℕ
 format_bytes tag channels rate speed frame depth =
     u16_bytes tag ++ (u16_bytes channels ++ (u32_bytes rate
     ++ (u32_bytes speed ++ (u16_bytes frame ++ u16_bytes depth))))
 
--- sixteen bytes
+-- the chunk has sixteen bytes
 pub length-format_bytes : (tag channels rate speed frame depth : ℕ)
     → length (format_bytes tag channels rate speed frame depth) ≡ 16
 unfolding format_bytes
 length-format_bytes tag channels rate speed frame depth =
     simp (length-append, length-u16_bytes, length-u32_bytes) (omega arith)
 
--- each number is read
+-- each number reads back
 tag_told : (tag channels rate speed frame depth : ℕ) → tag < 65536
     → number_at 2 0 (format_bytes tag channels rate speed frame depth) ≡ tag
 unfolding format_bytes
@@ -31,7 +31,7 @@ tag_told tag channels rate speed frame depth below =
     u16-reads_back tag (u16_bytes channels ++ (u32_bytes rate
     ++ (u32_bytes speed ++ (u16_bytes frame ++ u16_bytes depth)))) below
 
--- a field behind these bytes is read
+-- a field after the bytes in `front` reads back
 field_told : (width at value : ℕ) (bytes front field rest : List ℕ) → length front ≡ at
     → bytes ≡ front ++ (field ++ rest) → little_number width (field ++ rest) ≡ value → number_at width at bytes ≡ value
 field_told width at value bytes front field rest long grouped read =
@@ -72,13 +72,13 @@ depth_told tag channels rate speed frame depth below =
     (u16_bytes depth) [] (simp (length-append, length-u16_bytes, length-u32_bytes) (omega arith))
     (simp (append_assoc, append-nil)) (u16-reads_back depth [] below)
 
--- a depth is known by its bits
+-- the depth is determined by its number of bits
 depth_named_again : (depth : Depth) → depth_of (bits_of depth) ≡ Some depth
 depth_named_again Sixteen = refl
 depth_named_again TwentyFour = refl
 depth_named_again ThirtyTwo = refl
 
--- PCM of 1 to 64 channels is read as it was written
+-- PCM of 1 to 64 channels reads back
 pub format_read : (channels speed : ℕ) (depth : Depth) → 1 ≤ channels → channels ≤ 64
     → format_of (format_bytes 1 channels 48000 speed (channels * (bits_of depth / 8)) (bits_of depth))
     ≡ Ok (record { channels = channels; depth = depth })

@@ -1,4 +1,4 @@
--- The samples of frames that were written, read where they stand.
+-- Reading written samples back at their offsets.
 use Rattle.std.proofs.Common.{◌≡◌, ℕ, zero, suc, ◌+◌, ◌-◌, ◌*◌, ◌/◌, ◌%◌, ◌<◌, ◌≤◌, List, ◌++◌, length, drop, sym, ap, ◌∙◌, arith, length-append}
 use Rattle.std.proofs.lemmas.List.{append_assoc, drop_at, drop-drop}
 use Rattle.std.specs.Prelude.{ℤ}
@@ -10,7 +10,7 @@ use Rattle.sound_terms.specs.Render.{frame_of, frames_of}
 use Rattle.pcm.specs.Laws.{fits_quantized, length-sample_bytes, sample_of-sample_bytes}
 use Rattle.wavwrite.proofs.FileReads.{sample_stands}
 
--- so many samples of so many bytes
+-- length of the samples of one time
 pub length-frame_of : (depth : ℕ) (mix : ℕ → ℕ → ℤ) (time channel n : ℕ)
     → length (frame_of depth mix time channel n) ≡ n * (depth / 8)
 length-frame_of depth mix time channel zero = omega arith
@@ -23,7 +23,7 @@ length-frame_of depth mix time channel (suc n) =
       length-frame_of depth mix time (suc channel) n,
     )
 
--- so many frames
+-- length of n sample frames
 pub length-frames_of : (depth : ℕ) (mix : ℕ → ℕ → ℤ) (channels from n : ℕ)
     → length (frames_of depth mix channels from n) ≡ n * (channels * (depth / 8))
 length-frames_of depth mix channels from zero = omega arith
@@ -31,11 +31,11 @@ length-frames_of depth mix channels from (suc n) =
     length-append (frame_of depth mix from 1 channels) (frames_of depth mix channels (suc from) n)
     ∙ omega (arith, length-frame_of depth mix from 1 channels, length-frames_of depth mix channels (suc from) n)
 
--- going past what has this length
+-- dropping past a list of known length
 past : (front rest : List ℕ) (n m : ℕ) → length front ≡ n → drop (n + m) (front ++ rest) ≡ drop m rest
 past front rest n m long = sym (drop-drop m n (front ++ rest)) ∙ ap (drop m) (drop_at front rest n long)
 
--- the samples of one frame
+-- the samples of one sample frame
 in_frame : (depth : Depth) (mix : ℕ → ℕ → ℤ) (time first n i : ℕ) (rest : List ℕ) → i < n
     → sample_of (bits_of depth) (drop (i * (bits_of depth / 8)) (frame_of (bits_of depth) mix time first n ++ rest))
     ≡ quantized (bits_of depth) (mix (first + i) time)
@@ -62,7 +62,7 @@ in_frame depth mix time first (suc n) (suc i) rest below =
     ∙ in_frame depth mix time (suc first) n i rest (omega arith)
     ∙ ap (λ (channel : ℕ). quantized bits (mix channel time)) there
 
--- one frame of many, and what stands behind it
+-- one of many sample frames, and the bytes after it
 in_frames : (depth : ℕ) (mix : ℕ → ℕ → ℤ) (channels from n frame : ℕ) (rest : List ℕ) → frame < n
     → (behind : List ℕ) × (drop (frame * (channels * (depth / 8))) (frames_of depth mix channels from n ++ rest)
     ≡ frame_of depth mix (from + frame) 1 channels ++ behind)
@@ -92,7 +92,7 @@ in_frames depth mix channels from (suc n) (suc frame) rest below =
           ∙ ap (λ (time : ℕ). frame_of depth mix time 1 channels ++ later.0) there,
     )
 
--- the sample of a frame and a channel of frames that were written
+-- the sample of a sample frame and a channel among written sample frames
 pub samples_of_frames : (depth : Depth) (mix : ℕ → ℕ → ℤ) (channels from n frame channel : ℕ) (rest : List ℕ)
     → frame < n → 1 ≤ channel → channel ≤ channels
     → sample_of (bits_of depth) (drop ((frame * channels + (channel - 1)) * (bits_of depth / 8))
@@ -112,7 +112,7 @@ samples_of_frames depth mix channels from n frame channel rest below first last 
     ∙ in_frame depth mix (from + frame) 1 channels (channel - 1) there.0 (omega arith)
     ∙ ap (λ (c : ℕ). quantized bits (mix c (from + frame))) counted
 
--- the samples of a file of frames that were written
+-- the samples of a file made of these sample frames
 pub frames_read : (info : SoundInfo) (mix : ℕ → ℕ → ℤ) (from frame channel : ℕ) → length info.text ≡ 338
     → frame < info.frames → 1 ≤ channel → channel ≤ info.channels
     → sample_at (file_of info (frames_of (bits_of info.depth) mix info.channels from info.frames)) (data_place info)

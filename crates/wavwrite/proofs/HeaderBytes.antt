@@ -1,4 +1,4 @@
--- The parts of a header, put one behind the other.
+-- Headers as the concatenation of their parts.
 use Rattle.std.proofs.Common.{◌≡◌, ℕ, zero, suc, ◌+◌, ◌-◌, ◌%◌, ◌≤◌, List, [], ◌∷◌, ◌++◌, length, take, replicate, codes, refl, ap, ◌∙◌, arith, true, false}
 use Rattle.std.proofs.lemmas.List.{append_assoc}
 use Rattle.sound_terms.specs.declared.Bext.{Bext}
@@ -6,7 +6,7 @@ use Rattle.sound_terms.specs.Bext.{bext_bytes}
 use Rattle.sound_terms.specs.Ds64.{ds64_bytes}
 use Rattle.sound_terms.specs.Waves.{SoundInfo, u32_bytes, zeros, chunk_head, data_size, file_length, is_large, form_head, bext_chunk, format_chunk, data_head, header_of}
 
--- the head of RIFF, and of RF64
+-- the header of RIFF and of RF64
 pub form_riff : (info : SoundInfo) (size : ℕ) → size ≡ file_length info - 8 → is_large info ≡ false
     → chunk_head (codes "RIFF") size ++ (codes "WAVE" ++ (chunk_head (codes "JUNK") 28 ++ replicate 28 0))
     ≡ form_head info
@@ -20,7 +20,7 @@ pub form_rf64 : (info : SoundInfo) (size : ℕ) → size ≡ file_length info - 
 unfolding zeros u32_bytes ds64_bytes
 form_rf64 info size told large = rw (large, told) refl
 
--- a pad of the bytes that there are, none or one
+-- a pad of one byte or none
 pub padding : (history : ℕ) → take (history % 2) (0 ∷ []) ≡ zeros ((602 + history) % 2)
 unfolding zeros
 padding history = of_rest (history % 2) (omega arith) ∙ ap zeros (omega arith) where

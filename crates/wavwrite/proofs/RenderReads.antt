@@ -1,4 +1,4 @@
--- A rendered file reads back.
+-- Reading a rendered file back.
 use Rattle.std.proofs.Common.{◌≡◌, ℕ, ◌-◌, [], length, refl, subst}
 use Rattle.std.specs.Prelude.{ℤ}
 use Rattle.sound_terms.specs.Depth.{bits_of}
@@ -10,13 +10,13 @@ use Rattle.wavwrite.proofs.FileInfo.{IsInfo}
 use Rattle.wavwrite.proofs.FileReads.{reads_back}
 use Rattle.wavwrite.proofs.FrameReads.{length-frames_of, frames_read}
 
--- as many bytes as the frames take
+-- length of the samples
 length-rendered : (range : Range) (mix : ℕ → ℕ → ℤ)
     → length (frames_of (bits_of range.depth) mix range.channels range.from (range.to - range.from))
     ≡ data_size (render_info range)
 length-rendered range mix = length-frames_of (bits_of range.depth) mix range.channels range.from (range.to - range.from)
 
--- the rendered file is read as what was rendered
+-- reading the rendered file gives the mix
 rendered_reads : (range : Range) (mix : ℕ → ℕ → ℤ) → IsInfo (render_info range)
     → ReadsBack range mix (rendering_of range mix)
 unfolding rendering_of

@@ -1,4 +1,4 @@
--- An RF64 file of the chunks that are written: `ds64` is read, and the chunks are found, without a fault.
+-- Reading a written RF64 file: `ds64` is read, and all chunks are found without a fault.
 use Rattle.std.proofs.Common.{◌≡◌, ℕ, suc, ◌+◌, ◌-◌, ◌%◌, ◌^◌, ◌<◌, ◌≤◌, Some, List, [], ◌++◌, length, take, drop, refl, ap, ◌∙◌, arith, codes, length-append, true, false, None, Ok, le-leb, le-ltb}
 use Rattle.std.proofs.lemmas.List.{append_assoc, drop_at, take_at}
 use Rattle.sound_terms.specs.Waves.{u32_bytes, u64_bytes, zeros, chunk_head}
@@ -11,7 +11,7 @@ use Rattle.rf64.specs.Laws.{ds64_again}
 use Rattle.wavwrite.proofs.WaveChunks.{AreWhole, wave_chunks, wave_heads, wave_read, length-wave_chunks, samples_inside}
 use Rattle.wavwrite.proofs.RiffReads.{wave_found}
 
--- the head of the form, and `ds64` with no table
+-- header of RF64, and `ds64` without table entries
 unfoldable pub rf64_front : ℕ → ℕ → ℕ → List ℕ
 rf64_front form sound frames = chunk_head (codes "RF64") 4294967295
     ++ (codes "WAVE" ++ (chunk_head (codes "ds64") 28 ++ ds64_bytes form sound frames))
@@ -31,7 +31,7 @@ pub rf64_front_is : (form sound frames : ℕ)
 unfolding rf64_front ds64_bytes u32_bytes zeros
 rf64_front_is form sound frames = refl
 
--- what its first twelve bytes tell, and the head of `ds64`
+-- properties of the first twelve bytes and of the header of `ds64`
 record TellsRf64 (bytes : List ℕ) : Type 0 where
   not_riff : stands_at (codes "RIFF") 0 bytes ≡ false
   rf64 : stands_at (codes "RF64") 0 bytes ≡ true
@@ -56,11 +56,11 @@ ds64_stands form sound frames rest =
     ∙ ap (take 28) (drop_at front (fields ++ rest) 20 long)
     ∙ take_at fields rest 28 (length-ds64_bytes form sound frames)
 
--- what they tell
+-- values of the fields
 abbrev told_by : ℕ → ℕ → ℕ → Ds64
 told_by form sound frames = record { riff_size = form; data_size = sound; samples = frames; entries = 0 }
 
--- the sizes that 32 bits can tell
+-- sizes that fit 64 bits
 pub record AreSizes (form sound frames : ℕ) : Type 0 where
   pub form_fits : form < 2 ^ 64
   pub sound_fits : sound < 2 ^ 64
@@ -77,7 +77,7 @@ ds64_found form sound frames rest sizes =
     rw (told.ds64, told.size, inside, ds64_stands form sound frames rest)
     (ds64_again form sound frames sizes.form_fits sizes.sound_fits sizes.frames_fit)
 
--- the file whose `ds64` tells these sizes
+-- an RF64 file with these sizes in `ds64`
 abbrev rf64_file : ℕ → ℕ → ℕ → ℕ → List ℕ → List ℕ → List ℕ → List ℕ
 rf64_file form data_size frames bext_size bext format sound =
     rf64_front form data_size frames ++ wave_chunks bext_size 4294967295 bext format sound
@@ -88,7 +88,7 @@ length-rf64_file : (form data_size frames bext_size : ℕ) (bext format sound : 
 length-rf64_file form data_size frames bext_size bext format sound =
     simp (length-append, length-rf64_front, length-wave_chunks) (omega arith)
 
--- the heads of its chunks
+-- headers of its chunks
 chunks_in-rf64 : (form data_size frames bext_size : ℕ) (bext format sound : List ℕ)
     → AreWhole (size_in data_size []) bext_size 4294967295 data_size bext format sound
     → chunks_in (rf64_file form data_size frames bext_size bext format sound)
@@ -105,7 +105,7 @@ chunks_in-rf64 form data_size frames bext_size bext format sound whole =
     ∙ ap (chunks_from (size_in data_size []) (suc (suc (suc (length file - 3)))) 48) behind
     ∙ wave_read (size_in data_size []) (length file - 3) bext_size 4294967295 data_size bext format sound whole)
 
--- none is at fault where the samples end in the file
+-- no chunk is faulty if the samples end within the file
 faultless : (end bext_size data_size : ℕ) → 88 + (bext_size + bext_size % 2) + data_size ≤ end
     → first_chunk_fault end [] (wave_heads bext_size data_size) ≡ None
 faultless end bext_size data_size inside =
@@ -114,7 +114,7 @@ faultless end bext_size data_size inside =
     let sound = le-ltb end (80 + (bext_size + bext_size % 2) + 8 + data_size) (omega arith) in
     rw (bext, format, sound) refl
 
--- it is walked to its end
+-- the walk reaches the end of the file
 pub rf64_walked : (form data_size frames bext_size : ℕ) (bext format sound : List ℕ)
     → AreSizes form data_size frames
     → AreWhole (size_in data_size []) bext_size 4294967295 data_size bext format sound

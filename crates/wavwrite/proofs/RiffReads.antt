@@ -1,4 +1,4 @@
--- A RIFF file of the chunks that are written: they are found, without a fault.
+-- Reading a written RIFF file: all chunks are found without a fault.
 use Rattle.std.proofs.Common.{◌≡◌, ℕ, suc, ◌+◌, ◌-◌, ◌%◌, ◌≤◌, Some, List, [], ◌∷◌, ◌++◌, length, drop, refl, ap, ◌∙◌, arith, codes, length-append, true, false, None, Ok, le-leb, le-ltb}
 use Rattle.sound_terms.specs.Waves.{u32_bytes, zeros, chunk_head}
 use Rattle.sound_terms.specs.Chunks.{Chunk, chunks_from, stands_at}
@@ -7,7 +7,7 @@ use Rattle.sound_terms.specs.Walks.{is_riff, as_it_stands, chunks_in, first_chun
 use Rattle.sound_terms.specs.Laws.{length-zeros, length-chunk_head}
 use Rattle.wavwrite.proofs.WaveChunks.{AreWhole, chunk_read, wave_chunks, wave_heads, wave_read, whole_chunk, length-wave_chunks, samples_inside}
 
--- the head of the form, and JUNK of 28 zero bytes
+-- header of RIFF, and JUNK of 28 zero bytes
 unfoldable pub riff_front : ℕ → List ℕ
 riff_front size = chunk_head (codes "RIFF") size ++ (codes "WAVE" ++ (chunk_head (codes "JUNK") 28 ++ zeros 28))
 
@@ -20,7 +20,7 @@ pub riff_front_is : (size : ℕ)
 unfolding riff_front
 riff_front_is size = refl
 
--- the file whose RIFF chunk tells this size
+-- a RIFF file with this size in its header
 abbrev riff_file : ℕ → ℕ → ℕ → List ℕ → List ℕ → List ℕ → List ℕ
 riff_file size bext_size told bext format sound = riff_front size ++ wave_chunks bext_size told bext format sound
 
@@ -29,7 +29,7 @@ length-riff_file : (size bext_size told : ℕ) (bext format sound : List ℕ)
 length-riff_file size bext_size told bext format sound =
     simp (length-append, length-riff_front, length-wave_chunks) (omega arith)
 
--- its first twelve bytes
+-- the file starts with the RIFF header
 begins_riff : (size : ℕ) (rest : List ℕ) → stands_at (codes "RIFF") 0 (riff_front size ++ rest) ≡ true
 unfolding riff_front chunk_head u32_bytes
 begins_riff size rest = refl
@@ -38,7 +38,7 @@ tells_wave : (size : ℕ) (rest : List ℕ) → stands_at (codes "WAVE") 8 (riff
 unfolding riff_front chunk_head u32_bytes
 tells_wave size rest = refl
 
--- it is RIFF WAVE
+-- the file is RIFF WAVE
 riff_is_riff : (size bext_size told : ℕ) (bext format sound : List ℕ)
     → is_riff (riff_file size bext_size told bext format sound) ≡ true
 riff_is_riff size bext_size told bext format sound =
@@ -47,13 +47,13 @@ riff_is_riff size bext_size told bext format sound =
     let long = le-leb 12 (length file) (omega (arith, length-riff_file size bext_size told bext format sound)) in
     rw (long, begins_riff size rest, tells_wave size rest) refl
 
--- what stands behind them
+-- bytes after the header of the form
 behind_head : (size : ℕ) (rest : List ℕ)
     → drop 12 (riff_front size ++ rest) ≡ chunk_head (codes "JUNK") 28 ++ (zeros 28 ++ rest)
 unfolding riff_front chunk_head u32_bytes zeros
 behind_head size rest = refl
 
--- the heads of its chunks
+-- headers of its chunks
 abbrev riff_heads : ℕ → ℕ → List Chunk
 riff_heads bext_size data_size = whole_chunk (codes "JUNK") 12 28 ∷ wave_heads bext_size data_size
 
@@ -72,7 +72,7 @@ chunks_in-riff size bext_size data_size bext format sound whole =
     ∙ ap (λ (chunks : List Chunk). whole_chunk (codes "JUNK") 12 28 ∷ chunks)
     (wave_read as_it_stands (length file - 4) bext_size data_size data_size bext format sound whole)
 
--- none is at fault where the samples end in the file
+-- no chunk is faulty if the samples end within the file
 faultless : (end bext_size data_size : ℕ) → 88 + (bext_size + bext_size % 2) + data_size ≤ end
     → first_chunk_fault end [] (riff_heads bext_size data_size) ≡ None
 faultless end bext_size data_size inside =
@@ -82,7 +82,7 @@ faultless end bext_size data_size inside =
     let sound = le-ltb end (80 + (bext_size + bext_size % 2) + 8 + data_size) (omega arith) in
     rw (junk, bext, format, sound) refl
 
--- what is found
+-- chunks found by the walk
 abbrev pub wave_found : ℕ → ℕ → Chunks
 wave_found bext_size data_size = record {
   format = record { at = 64 + (bext_size + bext_size % 2); length = 16 };
@@ -91,7 +91,7 @@ wave_found bext_size data_size = record {
   others = false;
 }
 
--- it is walked to its end
+-- the walk reaches the end of the file
 pub riff_walked : (size bext_size data_size : ℕ) (bext format sound : List ℕ)
     → AreWhole as_it_stands bext_size data_size data_size bext format sound
     → walked (riff_front size ++ wave_chunks bext_size data_size bext format sound)

@@ -1,4 +1,4 @@
--- A file of a first chunk, `bext`, `fmt ` and `data`, over plain contents: the heads are read where they stand.
+-- A file of a first chunk, `bext`, `fmt ` and `data` with arbitrary contents: reading the chunk headers.
 use Rattle.std.proofs.Common.{◌≡◌, ℕ, Some, zero, suc, ◌+◌, ◌%◌, ◌<◌, ◌≤◌, List, [], ◌∷◌, ◌++◌, Option, length, drop, refl, sym, ap, ◌∙◌, arith, codes, length-append}
 use Rattle.std.proofs.lemmas.List.{append-nil, append_assoc, drop_at}
 use Rattle.sound_terms.specs.Waves.{u32_bytes, chunk_head}
@@ -10,7 +10,7 @@ use Rattle.byteorder.specs.Numbers.{little_number-reads_back}
 abbrev pub whole_chunk : List ℕ → ℕ → ℕ → Chunk
 whole_chunk id place size = record { id = id; at = place + 8; size = Some size }
 
--- one chunk is read, whose field tells its size or stands for it
+-- one chunk is read; its size field has its size or refers to `ds64`
 pub chunk_read : (size_of : List ℕ → ℕ → Option ℕ) (a b c d told size n place : ℕ) (contents rest : List ℕ)
     → told < 4294967296 → size_of (a ∷ b ∷ c ∷ d ∷ []) told ≡ Some size → length contents ≡ size + size % 2
     → chunks_from size_of (suc n) place (chunk_head (a ∷ b ∷ c ∷ d ∷ []) told ++ (contents ++ rest))
@@ -21,13 +21,13 @@ chunk_read size_of a b c d told size n place contents rest below means whole =
     let past = drop_at contents rest (size + size % 2) whole in
     rw (number, means, past) refl
 
--- `bext`, `fmt ` and `data` of these contents, each with its padding; `told` is the field of the size of `data`
+-- `bext`, `fmt ` and `data` with these contents and their padding; `told` is the size field of `data`
 unfoldable pub wave_chunks : ℕ → ℕ → List ℕ → List ℕ → List ℕ → List ℕ
 wave_chunks bext_size told bext format sound =
     chunk_head (codes "bext") bext_size
     ++ (bext ++ (chunk_head (codes "fmt ") 16 ++ (format ++ (chunk_head (codes "data") told ++ sound))))
 
--- the sizes are of these contents; the field of `data` tells its size or stands for it
+-- the sizes match these contents; the size field of `data` has its size or refers to `ds64`
 pub record AreWhole (size_of : List ℕ → ℕ → Option ℕ) (bext_size told data_size : ℕ) (bext format sound : List ℕ)
     : Type 0 where
   pub bext_fits : bext_size < 4294967296
@@ -39,13 +39,13 @@ pub record AreWhole (size_of : List ℕ → ℕ → Option ℕ) (bext_size told 
   pub format_whole : length format ≡ 16
   pub data_whole : length sound ≡ data_size + data_size % 2
 
--- the heads of the three chunks
+-- headers of the three chunks
 abbrev pub wave_heads : ℕ → ℕ → List Chunk
 wave_heads bext_size data_size =
     whole_chunk (codes "bext") 48 bext_size ∷ whole_chunk (codes "fmt ") (56 + (bext_size + bext_size % 2)) 16
     ∷ whole_chunk (codes "data") (80 + (bext_size + bext_size % 2)) data_size ∷ []
 
--- where no bytes are left no chunk is
+-- no bytes left means no chunk
 none_left : (size_of : List ℕ → ℕ → Option ℕ) (n place : ℕ) → chunks_from size_of n place [] ≡ []
 none_left size_of zero place = refl
 none_left size_of (suc n) place = refl
@@ -62,7 +62,7 @@ last_read size_of n place told size contents below means whole =
     ∙ ap (λ (chunks : List Chunk). whole_chunk (codes "data") place size ∷ chunks)
     (none_left size_of n (place + 8 + (size + size % 2)))
 
--- all three heads are read
+-- all three headers are read
 pub wave_read : (size_of : List ℕ → ℕ → Option ℕ) (n bext_size told data_size : ℕ) (bext format sound : List ℕ)
     → AreWhole size_of bext_size told data_size bext format sound
     → chunks_from size_of (suc (suc (suc n))) 48 (wave_chunks bext_size told bext format sound)
@@ -85,13 +85,13 @@ wave_read size_of n bext_size told data_size bext format sound whole =
     ∙ last_read size_of n (80 + (bext_size + bext_size % 2)) told data_size sound whole.told_fits whole.data_told
     whole.data_whole))
 
--- how long they are
+-- length of the chunks
 pub length-wave_chunks : (bext_size told : ℕ) (bext format sound : List ℕ)
     → length (wave_chunks bext_size told bext format sound) ≡ 24 + (length bext + (length format + length sound))
 unfolding wave_chunks
 length-wave_chunks bext_size told bext format sound = simp (length-append, length-chunk_head) (omega arith)
 
--- the samples end where the file does, or before
+-- the samples end within the file
 pub samples_inside : (size_of : List ℕ → ℕ → Option ℕ) (bext_size told data_size : ℕ) (bext format sound : List ℕ)
     → AreWhole size_of bext_size told data_size bext format sound
     → (end : ℕ) → end ≡ 72 + (length bext + (length format + length sound))
@@ -99,7 +99,7 @@ pub samples_inside : (size_of : List ℕ → ℕ → Option ℕ) (bext_size told
 samples_inside size_of bext_size told data_size bext format sound whole end long =
     omega (arith, long, whole.bext_whole, whole.format_whole, whole.data_whole)
 
--- the contents of `bext`, and what stands behind them
+-- contents of `bext`, followed by other bytes
 pub behind_bext : (first : List ℕ) (bext_size told : ℕ) (bext format sound : List ℕ) → length first ≡ 48
     → (rest : List ℕ) × (drop 56 (first ++ wave_chunks bext_size told bext format sound) ≡ bext ++ rest)
 unfolding wave_chunks
@@ -110,7 +110,7 @@ behind_bext first bext_size told bext format sound begins =
     let grouped : first ++ wave_chunks bext_size told bext format sound ≡ front ++ (bext ++ rest) = simp append_assoc in
     (rest, ap (drop 56) grouped ∙ drop_at front (bext ++ rest) 56 long)
 
--- the same of `fmt `
+-- contents of `fmt `, followed by other bytes
 pub behind_format : (first : List ℕ) (bext_size told : ℕ) (bext format sound : List ℕ) → length first ≡ 48
     → length bext ≡ bext_size + bext_size % 2
     → (rest : List ℕ) × (drop (64 + (bext_size + bext_size % 2)) (first ++ wave_chunks bext_size told bext format sound)

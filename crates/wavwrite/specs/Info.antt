@@ -1,4 +1,4 @@
--- What a written file tells of itself, within the limits of its fields, and what is read of it.
+-- Properties of a file to write, their limits, and the facts read back from the file.
 use Rattle.std.specs.Prelude.{◌≡◌, ℕ, ◌-◌, ◌^◌, ◌<◌, ◌≤◌, List, length, take, drop, Some, Ok, false}
 use Rattle.sound_terms.specs.declared.Depth.{Depth}
 use Rattle.sound_terms.specs.declared.Bext.{Bext}
@@ -6,7 +6,7 @@ use Rattle.sound_terms.specs.Waves.{SoundInfo, data_place, data_size, file_lengt
 use Rattle.sound_terms.specs.Sounds.{SoundFacts}
 use Rattle.sound_terms.specs.SoundFiles.{sound_of}
 
--- so many channels, a depth, so many frames, a `bext` and its CodingHistory
+-- properties with these values
 abbrev pub info_of : ℕ → Depth → ℕ → Bext → List ℕ → SoundInfo
 info_of channels depth frames bext history = record {
   channels = channels;
@@ -17,7 +17,7 @@ info_of channels depth frames bext history = record {
   history = history;
 }
 
--- what the fields can hold
+-- limits of the fields
 pub record IsWithin (info : SoundInfo) : Type 0 where
   pub some_channels : 1 ≤ info.channels
   pub few_channels : info.channels ≤ 64
@@ -25,15 +25,15 @@ pub record IsWithin (info : SoundInfo) : Type 0 where
   pub time_fits : info.time_reference < 2 ^ 64
   pub history_fits : length info.history ≤ 65536
 
--- the size field of RIFF can tell the length
+-- the length of the file fits the size field of RIFF
 abbrev pub FitsRiff : SoundInfo → Type 0
 FitsRiff info = file_length info - 8 ≤ 4294967294
 
--- 64 bits can tell the length
+-- the length of the file fits 64 bits
 abbrev pub Fits : SoundInfo → Type 0
 Fits info = file_length info < 2 ^ 64
 
--- what is read of a written file of this name
+-- facts read from a written file with this name
 abbrev pub facts_of : List ℕ → SoundInfo → SoundFacts
 facts_of name info = record {
   name = name;
@@ -49,12 +49,12 @@ facts_of name info = record {
   others = false;
 }
 
--- a written file is read back
+-- reading a written file gives its properties back
 abbrev pub IsReadBack : SoundInfo → Type 0
 IsReadBack info = (name samples : List ℕ) → Fits info → length samples ≡ data_size info
     → sound_of name (file_of info samples) ≡ Ok (facts_of name info)
 
--- its samples stand in it
+-- the written file has its samples at their offset
 abbrev pub HoldsSamples : SoundInfo → Type 0
 HoldsSamples info = (samples : List ℕ) → length samples ≡ data_size info
     → take (data_size info) (drop (data_place info) (file_of info samples)) ≡ samples

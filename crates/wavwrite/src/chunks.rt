@@ -1,4 +1,4 @@
-// The chunks that stand before the samples.
+// Chunks before the samples.
 ghost use Rattle.std.specs.Prelude.{◌≡◌, ◌≤◌, ◌+◌, ◌*◌, ◌/◌, ◌%◌, ◌++◌, codes, length, take};
 ghost use Rattle.sound_terms.specs.Depth.{bits_of};
 ghost use Rattle.sound_terms.specs.Waves.{u16_bytes, u32_bytes, chunk_head, form_head, frame_bytes, bext_size, bext_chunk, format_chunk, data_head};
@@ -9,22 +9,22 @@ use crate::fields::{chunk_head, put, u16_bytes, u32_bytes};
 use bext::bytes_of;
 use rf64::ds64_bytes;
 
-/// The bytes of a `bext` without its CodingHistory.
+/// The length of a `bext` chunk without its CodingHistory.
 const BEXT_LENGTH: u32 = 602;
 
-/// Samples a second.
+/// The number of samples per second.
 const SAMPLE_RATE: u32 = 48_000;
 
-/// The bytes of a `ds64`, for which the JUNK chunk keeps room.
+/// The length of a `ds64` chunk, which is also reserved by the JUNK chunk.
 const DS64_LENGTH: u32 = 28;
 
-/// The tag of linear PCM.
+/// The format tag of linear PCM.
 const PCM: u16 = 1;
 
-/// The size that stands for one that `ds64` tells.
+/// The size field that refers to `ds64`.
 const IN_DS64: u32 = 0xffff_ffff;
 
-/// The head of a form, and a first chunk of 28 bytes.
+/// Returns the header of a form and a first chunk of 28 bytes.
 fn form_of(form: &[u8; 4], size: u32, chunk: &[u8; 4], contents: &[u8; 28]) -> [u8; 48]
     ensures { result ≡ chunk_head form.now size ++ (codes "WAVE" ++ (chunk_head chunk.now 28 ++ contents.now)) }
 {
@@ -38,8 +38,8 @@ fn form_of(form: &[u8; 4], size: u32, chunk: &[u8; 4], contents: &[u8; 28]) -> [
     out
 }
 
-/// The head of the form: RF64 with its `ds64` where RIFF can't tell the size, else RIFF with a JUNK chunk in its place
-/// (EBU Tech 3306, 3.5).
+/// Returns the header of the form: RF64 with its `ds64` if the size exceeds RIFF, otherwise RIFF with a JUNK chunk of
+/// the same size (EBU Tech 3306, 3.5).
 pub fn form_head(info: &SoundInfoRef) -> [u8; 48]
     requires { Fits info.now }
     ensures { result ≡ form_head info.now }
@@ -52,7 +52,8 @@ pub fn form_head(info: &SoundInfoRef) -> [u8; 48]
     form_of(b"RIFF", size as u32, b"JUNK", &[0; 28])
 }
 
-/// Puts the `bext` chunk with its CodingHistory, and a pad where that is odd (EBU Tech 3285, 2.3).
+/// Writes the `bext` chunk with its CodingHistory and a pad byte if its length is odd (EBU Tech 3285, 2.3). Returns the
+/// end.
 pub fn put_bext(out: &mut [u8], at: usize, info: &SoundInfoRef) -> usize
     requires { at + (8 + (bext_size info.now + bext_size info.now % 2)) ≤ length out.old }
     ensures put { take result out.new ≡ take at out.old ++ bext_chunk info.now }
@@ -67,7 +68,7 @@ pub fn put_bext(out: &mut [u8], at: usize, info: &SoundInfoRef) -> usize
     put(out, at, pad)
 }
 
-/// The bytes of a second and of a frame, and the bits of a sample.
+/// Returns the bytes per second, the bytes per sample frame and the bits per sample.
 fn rates_of(info: &SoundInfoRef) -> [u8; 8]
     ensures { result ≡ u32_bytes (48000 * frame_bytes info.now) ++ (u16_bytes (frame_bytes info.now)
         ++ u16_bytes (bits_of info.now.depth)) }
@@ -84,7 +85,7 @@ fn rates_of(info: &SoundInfoRef) -> [u8; 8]
     out
 }
 
-/// The `fmt ` chunk of PCM at 48000 samples a second (RIFF WAVE).
+/// Returns the `fmt ` chunk of PCM at 48,000 samples per second (RIFF WAVE).
 pub fn format_chunk(info: &SoundInfoRef) -> [u8; 24]
     ensures { result ≡ format_chunk info.now }
 {
@@ -102,7 +103,7 @@ pub fn format_chunk(info: &SoundInfoRef) -> [u8; 24]
     out
 }
 
-/// The head of the `data` chunk.
+/// Returns the header of the `data` chunk.
 pub fn data_head(info: &SoundInfoRef) -> [u8; 8]
     requires { Fits info.now }
     ensures { result ≡ data_head info.now }

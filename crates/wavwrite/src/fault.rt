@@ -1,4 +1,4 @@
-// Why no header was made.
+// Errors of making a header.
 ghost use Rattle.std.specs.Prelude.{◌≡◌};
 ghost use Rattle.wavwrite.specs.Fault.{number_of};
 ghost use Rattle.wavwrite.specs.declared.fault.HeaderFault.TheVariants.{Memory};
@@ -6,19 +6,19 @@ ghost use Rattle.wavwrite.specs.declared.fault.HeaderFault.TheVariants.{Memory};
 use std::alloc::AllocError;
 use thiserror::Error;
 
-/// Why no header was made.
+/// The reason why no header was made.
 #[derive(Clone, Copy, Debug, PartialEq, Eq, Error)]
 pub enum HeaderFault {
-    /// The file would be longer than its size field can tell.
+    /// The file would be longer than a 64-bit size can represent.
     #[error("the file is too long")]
     TooLong,
-    /// No memory was left.
+    /// Out of memory.
     #[error("out of memory")]
     Memory,
 }
 
 impl HeaderFault {
-    /// The number of the refusal: 61 or 63.
+    /// Returns the number of the refusal: 61 or 63.
     pub fn number(&self) -> u8
         ensures { result ≡ number_of self.now }
     {

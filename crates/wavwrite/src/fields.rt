@@ -1,10 +1,10 @@
-// Fields of a file, each put after the bytes before it: little endian numbers, and the head of a chunk.
+// Header fields, each written after the previous one: little-endian numbers and chunk headers.
 ghost use Rattle.std.specs.Prelude.{◌≡◌, ◌≤◌, ◌+◌, ◌++◌, length, take};
 ghost use Rattle.sound_terms.specs.Waves.{u16_bytes, u32_bytes, chunk_head};
 
 use byteorder::{ByteOrder, LittleEndian};
 
-/// Puts a word behind the first `at` bytes, and answers where it ends.
+/// Writes a word at offset `at` and returns its end.
 pub fn put(out: &mut [u8], at: usize, word: &[u8]) -> usize
     requires { at + length word.now ≤ length out.old }
     ensures put { take result out.new ≡ take at out.old ++ word.now }
@@ -15,7 +15,7 @@ pub fn put(out: &mut [u8], at: usize, word: &[u8]) -> usize
     end
 }
 
-/// The bytes of a number of 16 bits, little endian.
+/// Encodes a 16-bit number, little endian.
 #[tactic(auto, unfolding(sound_terms::specs::Waves::u16_bytes))]
 pub fn u16_bytes(number: u16) -> [u8; 2]
     ensures { result ≡ u16_bytes number }
@@ -25,7 +25,7 @@ pub fn u16_bytes(number: u16) -> [u8; 2]
     bytes
 }
 
-/// The bytes of a number of 32 bits, little endian.
+/// Encodes a 32-bit number, little endian.
 #[tactic(auto, unfolding(sound_terms::specs::Waves::u32_bytes))]
 pub fn u32_bytes(number: u32) -> [u8; 4]
     ensures { result ≡ u32_bytes number }
@@ -35,7 +35,7 @@ pub fn u32_bytes(number: u32) -> [u8; 4]
     bytes
 }
 
-/// The head of a chunk: its id, and the size of its contents.
+/// Returns the header of a chunk: its id and the size of its contents.
 #[tactic(auto, unfolding(sound_terms::specs::Waves::chunk_head))]
 pub fn chunk_head(id: &[u8; 4], size: u32) -> [u8; 8]
     ensures { result ≡ chunk_head id.now size }

@@ -1,4 +1,4 @@
-// What a written file tells of itself.
+// Properties of a file to write.
 ghost use Rattle.std.specs.Prelude.{◌≡◌, ◌≤◌, length, SomeIff};
 ghost use Rattle.wavwrite.specs.Info.{info_of};
 
@@ -6,14 +6,14 @@ use crate::SoundInfoRef;
 use sound_terms::{Bext, Depth};
 use std::marker::Model;
 
-/// The most bytes of a CodingHistory (EBU Tech 3285, 2.3) that are carried.
+/// The maximum length of a CodingHistory that is copied (EBU Tech 3285, 2.3).
 pub const HISTORY_LIMIT: usize = 65_536;
 
-/// The most channels of a file.
+/// The maximum number of channels of a file.
 pub const MOST_CHANNELS: u8 = 64;
 
-/// What a sound file tells of itself beside its samples: 1 to 64 channels, the bits of a sample, the count of frames,
-/// and the fields of its `bext` with a CodingHistory of at most 65,536 bytes (EBU Tech 3285, 2.3).
+/// The properties of a sound file without its samples: 1 to 64 channels, the bits per sample, the number of sample
+/// frames, and the `bext` fields with a CodingHistory of at most 65,536 bytes (EBU Tech 3285, 2.3).
 #[derive(Debug, Drop)]
 pub struct SoundInfo {
     channels: u8,
@@ -37,7 +37,7 @@ impl Model for SoundInfo {
 impl SoundInfo {
     ghost use Rattle.wavwrite.specs.Info.{IsWithin};
 
-    /// What a file of these tells. `None` where there is no channel, where there are more than 64, and where the
+    /// Creates the properties of a file. Returns `None` if there are no channels or more than 64, or if the
     /// CodingHistory is longer than 65,536 bytes.
     pub fn new(
         channels: u8,
@@ -61,7 +61,7 @@ impl SoundInfo {
         })
     }
 
-    /// The same, over the CodingHistory that stands here.
+    /// Returns the same properties with a borrowed CodingHistory.
     pub fn lent(&self) -> SoundInfoRef<'_>
         ensures { result ≡ self.now }
     {
@@ -74,7 +74,7 @@ impl SoundInfo {
         )
     }
 
-    /// The channels, 1 to 64.
+    /// Returns the number of channels, 1 to 64.
     pub fn channels(&self) -> u8
         ensures channels { result ≡ self.now.channels }
         ensures within { IsWithin self.now }
@@ -82,21 +82,21 @@ impl SoundInfo {
         self.channels
     }
 
-    /// The bits of a sample.
+    /// Returns the number of bits per sample.
     pub fn depth(&self) -> Depth
         ensures { result ≡ self.now.depth }
     {
         self.depth
     }
 
-    /// The frames, each a sample of every channel.
+    /// Returns the number of sample frames, each with one sample per channel.
     pub fn frames(&self) -> u64
         ensures { result ≡ self.now.frames }
     {
         self.frames
     }
 
-    /// The text fields and the time reference.
+    /// Returns the text fields and the time reference of the `bext` chunk.
     pub fn bext(&self) -> &Bext
         ensures text { result.now.text ≡ self.now.text }
         ensures time_reference { result.now.time_reference ≡ self.now.time_reference }
@@ -104,7 +104,7 @@ impl SoundInfo {
         &self.bext
     }
 
-    /// The CodingHistory, at most 65,536 bytes.
+    /// Returns the CodingHistory, at most 65,536 bytes (EBU Tech 3285, 2.3).
     pub fn history(&self) -> &[u8]
         ensures history { result.now ≡ self.now.history }
         ensures within { length result.now ≤ 65536 }

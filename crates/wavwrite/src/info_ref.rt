@@ -1,4 +1,4 @@
-// What a written file tells of itself, over a CodingHistory that stands elsewhere.
+// Properties of a file to write, with a borrowed CodingHistory.
 ghost use Rattle.std.specs.Prelude.{◌≡◌, ◌≤◌, length, SomeIff};
 ghost use Rattle.wavwrite.specs.Info.{info_of};
 
@@ -6,8 +6,8 @@ use crate::info::{HISTORY_LIMIT, MOST_CHANNELS};
 use sound_terms::{Bext, Depth};
 use std::marker::Model;
 
-/// What a sound file tells of itself beside its samples, as [`crate::SoundInfo`], over a CodingHistory that stands
-/// elsewhere: to make it takes no memory.
+/// The properties of a sound file as in [`crate::SoundInfo`], with a borrowed CodingHistory. Creating it doesn't
+/// allocate.
 #[derive(Debug, Drop)]
 pub struct SoundInfoRef<'a> {
     channels: u8,
@@ -31,7 +31,7 @@ impl<'a> Model for SoundInfoRef<'a> {
 impl<'a> SoundInfoRef<'a> {
     ghost use Rattle.wavwrite.specs.Info.{IsWithin};
 
-    /// What a file of these tells. `None` where there is no channel, where there are more than 64, and where the
+    /// Creates the properties of a file. Returns `None` if there are no channels or more than 64, or if the
     /// CodingHistory is longer than 65,536 bytes.
     pub fn new(
         channels: u8,
@@ -49,7 +49,7 @@ impl<'a> SoundInfoRef<'a> {
         Some(SoundInfoRef::over(channels, depth, frames, bext, history))
     }
 
-    /// What a file of these tells.
+    /// Creates the properties of a file with 1 to 64 channels and a CodingHistory of at most 65,536 bytes.
     pub fn over(channels: u8, depth: Depth, frames: u64, bext: Bext, history: &'a [u8]) -> Self
         requires channels { (1 ≤ channels) × (channels ≤ 64) }
         requires history { length history.now ≤ 65536 }
@@ -64,7 +64,7 @@ impl<'a> SoundInfoRef<'a> {
         }
     }
 
-    /// The channels, 1 to 64.
+    /// Returns the number of channels, 1 to 64.
     pub fn channels(&self) -> u8
         ensures channels { result ≡ self.now.channels }
         ensures within { IsWithin self.now }
@@ -72,21 +72,21 @@ impl<'a> SoundInfoRef<'a> {
         self.channels
     }
 
-    /// The bits of a sample.
+    /// Returns the number of bits per sample.
     pub fn depth(&self) -> Depth
         ensures { result ≡ self.now.depth }
     {
         self.depth
     }
 
-    /// The frames, each a sample of every channel.
+    /// Returns the number of sample frames, each with one sample per channel.
     pub fn frames(&self) -> u64
         ensures { result ≡ self.now.frames }
     {
         self.frames
     }
 
-    /// The text fields and the time reference.
+    /// Returns the text fields and the time reference of the `bext` chunk.
     pub fn bext(&self) -> &Bext
         ensures text { result.now.text ≡ self.now.text }
         ensures time_reference { result.now.time_reference ≡ self.now.time_reference }
@@ -94,7 +94,7 @@ impl<'a> SoundInfoRef<'a> {
         &self.bext
     }
 
-    /// The CodingHistory, at most 65,536 bytes.
+    /// Returns the CodingHistory, at most 65,536 bytes (EBU Tech 3285, 2.3).
     pub fn history(&self) -> &'a [u8]
         ensures history { result.now ≡ self.now.history }
         ensures within { length result.now ≤ 65536 }

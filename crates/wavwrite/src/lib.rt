@@ -1,5 +1,5 @@
-//! What stands before the samples of a sound file that is written: RIFF WAVE with a Broadcast Wave `bext` chunk
-//! (EBU Tech 3285), or RF64 (EBU Tech 3306) where it is too long for RIFF, at any depth and with 1 to 64 channels.
+//! Headers of sound files to write: RIFF WAVE with a Broadcast Wave `bext` chunk (EBU Tech 3285), or RF64 (EBU Tech
+//! 3306) if the file is too long for RIFF, at any depth and with 1 to 64 channels.
 #![tactic(auto)]
 
 mod chunks;

@@ -1,4 +1,4 @@
-// All that stands before the samples.
+// Complete headers.
 ghost use Rattle.std.specs.Prelude.{◌≡◌, ◌<◌, ◌≤◌, ◌+◌, ◌-◌, ◌%◌, ◌^◌, ◌↔◌, ℕ, ℤ, IsTrue, SomeIff, IfOk, IsErrOf, List, length, take, drop};
 ghost use Rattle.sound_terms.specs.Waves as waves;
 ghost use Rattle.sound_terms.specs.Waves.{data_size, data_place, file_length, header_of, is_large};
@@ -10,20 +10,20 @@ use crate::fields::put;
 use crate::{Depth, HeaderFault, SoundInfo, SoundInfoRef};
 use std::alloc::Global;
 
-/// The bytes before those of a `bext` and behind them, up to the samples.
+/// The length of all headers and fixed chunks before the samples, without the contents of `bext`.
 const HEADS_LENGTH: u64 = 88;
 
-/// The bytes of a `bext` without its CodingHistory.
+/// The length of a `bext` chunk without its CodingHistory.
 const BEXT_LENGTH: u64 = 602;
 
-/// The greatest length of a file that the size field of RIFF can tell: 4,294,967,294 and the 8 bytes in front.
+/// The maximum length of a RIFF file: a form size of 4,294,967,294 plus the first 8 bytes, which the size excludes.
 const LONGEST_RIFF: u64 = 4_294_967_302;
 
-/// The greatest even length of a file that 64 bits can tell.
+/// The greatest even length that fits 64 bits.
 const LONGEST: u64 = 18_446_744_073_709_551_614;
 
 impl<'a> SoundInfoRef<'a> {
-    /// How many bytes stand before the samples: at most 66,226.
+    /// Returns the number of bytes before the samples: at most 66,226, and even.
     pub fn header_length(&self) -> usize
         ensures length { result ≡ data_place self.now }
         ensures near { result ≤ 66226 }
@@ -35,7 +35,7 @@ impl<'a> SoundInfoRef<'a> {
         HEADS_LENGTH as usize + bext + bext % 2
     }
 
-    /// The bytes of the samples, where 64 bits can tell how many they are.
+    /// Returns the number of bytes of the samples, or `None` if it exceeds 64 bits.
     fn size(&self) -> Option<u64>
         ensures { SomeIff result (data_size self.now < 2 ^ 64) (data_size self.now) }
     {
@@ -43,7 +43,7 @@ impl<'a> SoundInfoRef<'a> {
         self.frames().checked_mul(frame)
     }
 
-    /// Whether 64 bits can tell the file's length.
+    /// Returns true if the length of the file fits 64 bits.
     pub fn fits(&self) -> bool
         ensures { IsTrue result ↔ Fits self.now }
     {
@@ -54,7 +54,8 @@ impl<'a> SoundInfoRef<'a> {
         }
     }
 
-    /// Whether the file is RF64, since the size field of RIFF can't tell its length: above 4,294,967,302 bytes.
+    /// Returns true if the file must be RF64: its length, more than 4,294,967,302 bytes, exceeds the size field of
+    /// RIFF.
     pub fn is_large(&self) -> bool
         ensures { result ≡ is_large self.now }
     {
@@ -65,7 +66,7 @@ impl<'a> SoundInfoRef<'a> {
         }
     }
 
-    /// The bytes of the samples of a file that fits.
+    /// Returns the number of bytes of the samples. The length of the file must fit 64 bits.
     pub fn data_length(&self) -> u64
         requires { Fits self.now }
         ensures value { result ≡ data_size self.now }
@@ -74,7 +75,7 @@ impl<'a> SoundInfoRef<'a> {
         self.size().unwrap_or(0)
     }
 
-    /// The size that the form tells: the length of a file that fits, without its first 8 bytes.
+    /// Returns the size field of the form: the length of the file without its first 8 bytes.
     pub fn form_size(&self) -> u64
         requires { Fits self.now }
         ensures { result ≡ file_length self.now - 8 }
@@ -83,9 +84,9 @@ impl<'a> SoundInfoRef<'a> {
         self.header_length() as u64 - 8 + size + size % 2
     }
 
-    /// Puts all that stands before the samples: the head of RIFF with JUNK of 28 zero bytes, or that of RF64 with `ds64`
-    /// where the file is large; `bext`, `fmt ` and the head of `data` (EBU Tech 3285, 3306). Behind it come the samples,
-    /// and one zero byte where they are odd.
+    /// Writes all bytes before the samples: the RIFF header with a JUNK chunk of 28 zero bytes, or the RF64 header with
+    /// `ds64` if the file is large, then `bext`, `fmt ` and the header of `data` (EBU Tech 3285, EBU Tech 3306). The
+    /// caller writes the samples after it, and a zero byte if their length is odd.
     pub fn put_header(&self, out: &mut [u8])
         requires fits { Fits self.now }
         requires length { length out.old ≡ data_place self.now }
@@ -100,7 +101,7 @@ impl<'a> SoundInfoRef<'a> {
         put(out, at, &head);
     }
 
-    /// What a file of this is read as. It does nothing.
+    /// Does nothing. Its contract says what reading the written file gives.
     pub fn reads_back(&self)
         ensures reads_back { IsReadBack self.now }
         ensures data_stands { HoldsSamples self.now }
@@ -114,7 +115,7 @@ impl<'a> SoundInfoRef<'a> {
     }
 }
 
-/// Where the samples begin in a file of this, at most byte 66,226, and what such a file is read as.
+/// Returns the offset of the samples in the file, at most 66,226.
 pub fn place_of(info: &SoundInfo) -> u64
     ensures offset { result ≡ data_place info.now }
     ensures near { result ≤ 66226 }
@@ -127,7 +128,7 @@ pub fn place_of(info: &SoundInfo) -> u64
     info.header_length() as u64
 }
 
-/// The bytes of the samples of a file that fits.
+/// Returns the number of bytes of the samples. The length of the file must fit 64 bits.
 pub fn data_length(info: &SoundInfo) -> u64
     requires { Fits info.now }
     ensures value { result ≡ data_size info.now }
@@ -136,22 +137,22 @@ pub fn data_length(info: &SoundInfo) -> u64
     info.lent().data_length()
 }
 
-/// Whether 64 bits can tell the file's length.
+/// Returns true if the length of the file fits 64 bits.
 pub fn fits(info: &SoundInfo) -> bool
     ensures { IsTrue result ↔ Fits info.now }
 {
     info.lent().fits()
 }
 
-/// Whether the file is RF64, since the size field of RIFF can't tell its length: above 4,294,967,302 bytes.
+/// Returns true if the file must be RF64: its length, more than 4,294,967,302 bytes, exceeds the size field of RIFF.
 pub fn is_large(info: &SoundInfo) -> bool
     ensures { result ≡ is_large info.now }
 {
     info.lent().is_large()
 }
 
-/// Whether the size field of RIFF can tell the length of a file of so many channels, bits a sample, frames and bytes of
-/// CodingHistory, before there is such a file.
+/// Returns true if a file with the given number of channels, depth, number of sample frames and length of CodingHistory
+/// fits the size field of RIFF.
 pub fn fits_riff_with(channels: u8, depth: Depth, frames: u64, history: usize) -> bool
     requires { history ≤ 65536 }
     ensures { (info : waves.SoundInfo) → info.channels ≡ channels → info.depth ≡ depth → info.frames ≡ frames
@@ -167,9 +168,9 @@ pub fn fits_riff_with(channels: u8, depth: Depth, frames: u64, history: usize) -
     }
 }
 
-/// All that stands before the samples, as [`SoundInfoRef::put_header`] puts it.
+/// Returns all bytes before the samples, as written by [`SoundInfoRef::put_header`].
 ///
-/// `TooLong` where 64 bits can't tell the file's length, `Memory` where no memory was left.
+/// Returns `TooLong` if the length of the file exceeds 64 bits, and `Memory` if out of memory.
 pub fn header(alloc: Global, info: &SoundInfo) -> Result<Vec<u8>, HeaderFault>
     ensures bytes { IfOk result (λ bytes. bytes.items ≡ header_of info.now) }
     ensures too_long { IsErrOf result HeaderFault.TooLong ↔ (Fits info.now → ⊥) }
