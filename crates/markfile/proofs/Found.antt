@@ -1,4 +1,4 @@
--- What marks are that are found, and that a run finds its own.
+-- Properties of opened marks, and a run opens its own marks.
 use Rattle.std.proofs.Common.{◌≡◌, ◌∙◌, ℕ, ◌+◌, ◌<◌, Bool, true, false, cond, ◌&&◌, ◌==◌, nat_le, Option, Some, None, Result, Ok, Err, List, ◌∷◌, ◌++◌, codes, length, take, drop, get_or, map, sym, ap, refl, arith}
 use Rattle.std.specs.Prelude.{IfOk, IfSome, option_map}
 use Rattle.std.proofs.lemmas.Bool.Decides.{nat_tests}
@@ -16,7 +16,7 @@ use Rattle.markfile.specs.declared.found_marks.Marks.{Marks}
 use Rattle.markfile.specs.Opened.{Answers, AreFound, fits_run, front_fault, has_length, marks_in, opened_by, opened_of, told}
 use Rattle.markfile.specs.Started.{is_started}
 
--- ---- bytes that stand at a place
+-- ---- bytes at an offset
 
 stands : (text bytes : List ℕ) (at n : ℕ) → length text ≡ n → stands_at text at bytes ≡ true
     → take n (drop at bytes) ≡ text
@@ -32,7 +32,7 @@ part : (n at end : ℕ) (bytes : List ℕ) → at + n ≡ end → drop at bytes 
 part n at end bytes e = sym (ap (λ k. take n (drop at bytes) ++ drop k bytes) (sym e)
     ∙ ap (λ rest. take n (drop at bytes) ++ rest) (sym (drop-drop n at bytes)) ∙ take-append-drop n (drop at bytes))
 
--- a front by its parts
+-- a front from its parts
 front_by : (run : RunId) (front : List ℕ) → length run.digest ≡ 32 → length front ≡ 44 → get_or front 0 0 ≡ 1
     → take 7 (drop 1 front) ≡ codes "ADLMRK1" → take 32 (drop 8 front) ≡ run.digest
     → take 4 (drop 40 front) ≡ u32_bytes run.blocks → front ≡ 1 ∷ head_of run
@@ -44,7 +44,7 @@ front_by run front whole long gate magic digest blocks =
     ∙ ap (λ rest. run.digest ++ rest)
     (sym (take_all 4 (drop 40 front) (omega (arith, long, length-drop 40 front))) ∙ blocks)))
 
--- ---- the tests
+-- ---- tests
 
 apart : true ≡ false → ⊥
 apart h = cc
@@ -91,7 +91,7 @@ length_is n (Some m) h = ap (λ k. Some k) (equal m h)
 is_equal : (m n : ℕ) → (m == n) ≡ true → m ≡ n
 is_equal m n e = grind (arith, nat_tests)
 
--- ---- what is found
+-- ---- opened marks
 
 mark_in : (marks : List ℕ) (blocks block : ℕ) → length marks ≡ 44 + blocks → block < blocks
     → get_or (map (λ (byte : ℕ). byte == 1) (drop 44 marks)) block false ≡ is_marked marks block
@@ -149,7 +149,7 @@ found run whole files marked e = go (files marks_name) refl e
               ∙ mark_in marks run.blocks block t.ours.size few;
         }
 
--- the same by what is answered
+-- properties of opened marks by the result of the call
 pub found_by : (run : RunId) → length run.digest ≡ 32 → (files : Files)
     (result : Result (Option Marks) MarkFault) → Answers result (opened_of run files)
     → IfOk result (λ answer. IfSome answer (λ marks. AreFound run files marks.marked.items))

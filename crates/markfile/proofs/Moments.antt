@@ -1,4 +1,4 @@
--- What a crash leaves at the moments of two calls, one after the other.
+-- Crash outcomes at the moments of two calls in sequence.
 use Rattle.std.proofs.Common.{ℕ, Option, Some, None, List, refl, inl, inr, arith}
 use Rattle.work_terms.specs.Disk.{Files, Elapses, IsTorn, IsTornBehind, LeavesOnly}
 
@@ -23,7 +23,7 @@ module _ {B : Type 0} (moment : B → ℕ) (left_since : B → ℕ → Files →
     ];
   }
 
--- two calls, of which each leaves what might have been left before, or P
+-- two calls, each of which leaves an outcome possible before or one with property P
 module _ {B : Type 0} (moment : B → ℕ) (left_since : B → ℕ → Files → Type 0) (may_leave : B → Files → Type 0)
     (only_now : (bench : B) (c : Files) → left_since bench (moment bench) c → may_leave bench c) where
   pub two_calls : (old mid new : B) (P : Files → Type 0)
@@ -49,12 +49,12 @@ module _ {B : Type 0} (moment : B → ℕ) (left_since : B → ℕ → Files →
     ];
   }
 
--- a file where nothing was done may be torn
+-- an unchanged file counts as torn
 pub torn_same : (at n : ℕ) (file : Option (List ℕ)) → IsTorn at n file file
 torn_same at n None = refl
 torn_same at n (Some file) = (file, refl, record { before = refl; after = refl; same_length = refl })
 
--- nor does it have to grow
+-- an unchanged file counts as a torn append
 pub end_same : (at n : ℕ) (file : Option (List ℕ)) → IsTornBehind at n file file
 end_same at n None = refl
 end_same at n (Some file) =

@@ -1,4 +1,4 @@
--- New marks.
+-- Laws of new marks.
 use Rattle.std.proofs.Common.{◌≡◌, ◌∙◌, ℕ, ◌+◌, ◌-◌, ◌==◌, ◌∷◌, length, get_or, replicate, ap, inl, inr, arith}
 use Rattle.std.proofs.lemmas.Bool.{cases_lt}
 use Rattle.std.proofs.lemmas.List.{get_or_past, get_or-append_right, get_or-replicate, length-append, length-replicate, take_at}

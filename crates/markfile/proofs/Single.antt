@@ -1,4 +1,4 @@
--- The marks of a single block, as a row of one.
+-- The mark of a single block as a range of one.
 use Rattle.std.proofs.Common.{◌+◌, ℕ, Result, Ok, Err, List, arith}
 use Rattle.std.specs.Prelude.{OnOk}
 use Rattle.work_terms.specs.Disk.{Files}

@@ -1,4 +1,4 @@
--- Marks while they are set, and once they are.
+-- Marks while they are being set and after they are set.
 use Rattle.std.proofs.Common.{◌≡◌, ◌∙◌, ℕ, ◌+◌, ◌-◌, ◌<◌, ◌≤◌, Bool, ◌==◌, Option, Some, None, List, ◌++◌, length, take, drop, get_or, replicate, sym, ap, subst, inl, inr, arith}
 use Rattle.std.proofs.lemmas.Bool.{cases_lt}
 use Rattle.std.proofs.lemmas.List.{append_assoc, drop_at, ext_get_or, get_or-append_right, get_or-drop, get_or-replicate, get_or-take, get_or_append_left, length-append, length-drop, length-replicate, length-take, length-take-le, take_at}
@@ -16,7 +16,7 @@ some_same a b e = cc
 none_some : (a : List ℕ) → None ≡ Some a → ⊥
 none_some a e = cc
 
--- outside a torn range each byte stays
+-- bytes outside a torn range are unchanged
 torn_at : (at n : ℕ) (old new : List ℕ) → HasTornRange at n old new → (i : ℕ) → (at ≤ i → i < at + n → ⊥)
     → get_or new i 0 ≡ get_or old i 0
 torn_at at n old new t i out = elim (cases_lt i at) [
@@ -38,12 +38,12 @@ written_at file bytes at i room from to =
     get_or-append_right (take at file) (bytes ++ drop (at + length bytes) file) at i 0 front from
     ∙ get_or_append_left bytes (drop (at + length bytes) file) 0 (i - at) (omega (arith, from, to))
 
--- marks with these set
+-- the marks after these are set
 abbrev pub with_set : ℕ → ℕ → List ℕ → List ℕ
 with_set from behind marks = take (44 + from) marks ++ (replicate (behind - from) 1 ++ drop (44 + behind) marks)
 
 module _ (run : RunId) (from behind : ℕ) (order : from ≤ behind) (marks : List ℕ) (ours : AreMarksOf run marks) where
-  -- the marks of a run, as they were outside those that are set
+  -- the marks are equal outside the range being set
   pub record AreBeside (now : List ℕ) : Type 0 where
     pub same : (i : ℕ) → (44 + from ≤ i → i < 44 + from + (behind - from) → ⊥) → get_or now i 0 ≡ get_or marks i 0
     pub of_run : AreMarksOf run now
@@ -135,7 +135,7 @@ module _ (run : RunId) (from behind : ℕ) (order : from ≤ behind) (marks : Li
       others = others (with_set from behind marks) set_beside;
     }
 
-    -- what stands there once they are written
+    -- the marks after the write is synced
     pub set_last : (before left old new : Option (List ℕ)) → old ≡ Some marks
         → IsTorn (44 + from) (behind - from) old left
         → IsWritten (44 + from) (replicate (behind - from) 1) before new → left ≡ new
@@ -165,7 +165,7 @@ module _ (run : RunId) (from behind : ℕ) (order : from ≤ behind) (marks : Li
           ]
         ]
 
--- at each moment while they are set
+-- crash outcomes at each moment while the marks are being set
 pub moments_set : {B : Type 0} (bench : Ghosts B) (run : RunId) (from behind : ℕ) → from ≤ behind → (marks : List ℕ)
     → (old new : B) → Lasts bench run marks old
     → LeavesOnly bench.moment bench.left_since old new
@@ -176,7 +176,7 @@ moments_set bench run from behind order marks old new lasts =
     (LeavesMarks run from behind marks (bench.may_leave old))
     (while_set run from behind order marks lasts.ours (bench.may_leave old) lasts.kept)
 
--- and after a crash then
+-- crash outcomes after the marks are set
 pub outcome_set : {B : Type 0} (bench : Ghosts B) (run : RunId) (from behind : ℕ) → from ≤ behind → (marks : List ℕ)
     → (old : B) → Lasts bench run marks old → (c : Files)
     → IsAfter (bench.may_leave old) (IsTorn (44 + from) (behind - from)) c

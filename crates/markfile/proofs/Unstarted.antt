@@ -1,4 +1,4 @@
--- What a crash may leave of marks that are made.
+-- Crash outcomes while the marks are being created.
 use Rattle.std.proofs.Common.{◌≡◌, ◌∙◌, ℕ, ◌<◌, Bool, true, false, ◌==◌, Option, Some, None, Result, Ok, Err, List, [], ◌∷◌, ◌++◌, length, take, drop, get_or, replicate, sym, ap, subst, inl, inr, refl, arith}
 use Rattle.std.specs.Prelude.{OnOk}
 use Rattle.std.proofs.lemmas.List.{get_or-take}
@@ -19,7 +19,7 @@ none_some a e = cc
 apart : true ≡ false → ⊥
 apart h = cc
 
--- ---- marks that aren't started
+-- ---- marks that are not started
 
 pub short : (bytes : List ℕ) → length bytes < 44 → is_started (Some bytes) ≡ false
 short bytes few = grind (arith, nat_tests)
@@ -32,13 +32,13 @@ pending old new none (inl same) = ap is_started same ∙ none
 pending old new none (inr (inl gone)) = ap is_started gone
 pending old new none (inr (inr empty)) = ap is_started empty
 
--- a torn append of a file that is there
+-- contents of an existing file after a torn append
 torn_end : (at n : ℕ) (file : List ℕ) (old new : Option (List ℕ)) → old ≡ Some file → IsTornBehind at n old new
     → (bytes : List ℕ) × (new ≡ Some bytes) × HasTornEnd at n file bytes
 torn_end at n file None new e t = absurd (none_some file e)
 torn_end at n file (Some x) new e t = (t.0, t.1, subst (λ f. HasTornEnd at n f t.0) (some_same x file e) t.2)
 
--- behind nothing too little comes
+-- a torn append of fewer than 44 bytes to an empty file does not start the marks
 pub first_append : (stored old new : Option (List ℕ)) (n : ℕ) → stored ≡ Some [] → old ≡ Some [] → n < 44
     → IsTornBehind (end_of stored) n old new → is_started new ≡ false
 first_append stored old new n is_empty was few t =
@@ -47,7 +47,7 @@ first_append stored old new n is_empty was few t =
     let long = torn.2.no_longer in
     ap is_started torn.1 ∙ short torn.0 (omega (arith, long, at, few))
 
--- and behind a gate that is shut it stays so
+-- a torn append after a shut gate does not start the marks
 pub next_append : (stored old new : Option (List ℕ)) (n : ℕ) → stored ≡ Some (0 ∷ []) → old ≡ Some (0 ∷ [])
     → IsTornBehind (end_of stored) n old new → is_started new ≡ false
 next_append stored old new n gate was t =
@@ -57,7 +57,7 @@ next_append stored old new n gate was t =
     ap is_started torn.1
     ∙ shut torn.0 (sym (get_or-take 1 torn.0 0 0 (omega arith)) ∙ ap (λ bytes. get_or bytes 0 0) front)
 
--- ---- every other file
+-- ---- other files
 
 pub beside : (o : Files → Type 0) (step : Option (List ℕ) → Option (List ℕ) → Type 0) (c : Files) → IsAfter o step c
     → IsBeside o marks_name c
@@ -71,7 +71,7 @@ pub beside_again : (o mid : Files → Type 0) → ((c : Files) → mid c → IsB
 beside_again o mid back c (d, middle, change) = let first = back d middle in
     (first.0, first.1, λ n away. change n away ∙ first.2 n away)
 
--- ---- the steps of a start
+-- ---- steps of a start
 
 pub created : (o : Files → Type 0) → NoneStarted o → (c : Files) → IsAfter o IsPending c → LeavesUnstarted o c
 created o none c after = record {
@@ -79,7 +79,7 @@ created o none c after = record {
   unstarted = pending (after.0 marks_name) (c marks_name) (none after.0 after.1) after.2.here;
 }
 
--- what is added to marks that aren't started, by the file that it is added to
+-- a change of marks that are not started, by the contents that it applies to
 pub added : (o mid : Files → Type 0) (step : Option (List ℕ) → Option (List ℕ) → Type 0) (marks : List ℕ)
     → ((c : Files) → mid c → LeavesUnstarted o c) → ((c : Files) → mid c → c marks_name ≡ Some marks)
     → ((old new : Option (List ℕ)) → old ≡ Some marks → step old new → is_started new ≡ false)
@@ -89,7 +89,7 @@ added o mid step marks before lasts still c after = record {
   unstarted = still (after.0 marks_name) (c marks_name) (lasts after.0 after.1) after.2.here;
 }
 
--- a gate that is shut is added to marks that were made just now
+-- a shut gate is appended to newly created marks
 module _ {B : Type 0} (bench : Ghosts B) (start made : B) (none : NoneStarted (bench.may_leave start))
     (making : (c : Files) → bench.may_leave made c → IsAfter (bench.may_leave start) IsPending c)
     (empty : bench.stored made marks_name ≡ Some [])
@@ -114,7 +114,7 @@ module _ {B : Type 0} (bench : Ghosts B) (start made : B) (none : NoneStarted (b
       (LeavesUnstarted (bench.may_leave start)) (created (bench.may_leave start) none) first)
       second
 
-  -- and more is added behind it
+  -- more bytes are appended after the gate
   pub gate_then : (mid : B) → ((c : Files) → bench.may_leave mid c → IsAfter (bench.may_leave made) GateStep c)
       → bench.stored mid marks_name ≡ Some (0 ∷ []) → IsDurable marks_name (bench.stored mid) (bench.may_leave mid)
       → (n : ℕ) → (c : Files)
@@ -131,7 +131,7 @@ as_start run o c left = record {
   fresh = λ started. absurd (apart (sym started ∙ left.unstarted));
 }
 
--- a torn write of the first byte
+-- a torn write of the gate byte
 torn_gate : (rest bytes : List ℕ) → HasTornRange 0 1 (0 ∷ rest) bytes → is_started (Some bytes) ≡ true
     → bytes ≡ 1 ∷ rest
 torn_gate rest [] torn started = absurd (apart (sym started))
@@ -161,14 +161,14 @@ opened run rest o mid whole before lasts c after = record {
       let is = torn_gate rest t.0 torn (sym (ap is_started t.1) ∙ started) in
       t.1 ∙ ap (λ bytes. Some bytes) (is ∙ ap (λ bytes. 1 ∷ bytes) whole)
 
--- the gate is written over
+-- the gate is opened
 pub has_opened : (rest : List ℕ) (old new : Option (List ℕ)) → old ≡ Some (0 ∷ rest) → IsWritten 0 (1 ∷ []) old new
     → new ≡ Some (1 ∷ rest)
 has_opened rest old new was change =
     change.written
     ∙ ap (λ (file : List ℕ). Some (1 ∷ drop 1 file)) (some_same change.file (0 ∷ rest) (sym change.there ∙ was))
 
--- ---- what is synced
+-- ---- synced marks
 
 -- marks that are read and durable are held
 pub holds : {B X E P : Type 0} (bench : Ghosts B) (marks : List ℕ) (now : B) (result : Result X E)

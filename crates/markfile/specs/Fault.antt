@@ -1,4 +1,4 @@
--- The numbers of the faults of marks, and the files at which a device failed.
+-- Numbers of the errors of marks, and the file of a device failure.
 use Rattle.std.specs.Prelude.{◌≡◌, ◌≢◌, ℕ, List, Result}
 use Rattle.work_terms.specs.Disk as disk
 use Rattle.devices.specs.declared.bench.Bench.{Ghosts}
@@ -9,35 +9,35 @@ use Rattle.markfile.specs.declared.fault.MarkFault.TheVariants.{Device, OtherRun
 use Rattle.markfile.specs.declared.fault.MarkedFile.{MarkedFile}
 use Rattle.markfile.specs.declared.fault.MarkedFile.TheVariants.{Sound, Marks}
 
--- the number of the refusal
+-- number of the refusal
 abbrev pub number_of : MarkFault → ℕ
 number_of (Device file) = 62
 number_of OtherRun = 67
 number_of BadMarks = 68
 number_of Memory = 69
 
--- the name of a file of a rendering
+-- name of one of the files of a rendering
 abbrev pub name_of_file : MarkedFile → List ℕ
 name_of_file Sound = sound_name
 name_of_file Marks = marks_name
 
--- the file at which the device failed, where it did
+-- name of the file of a device failure; the marks for all other errors
 abbrev pub name_of : MarkFault → List ℕ
 name_of (Device file) = name_of_file file
 name_of OtherRun = marks_name
 name_of BadMarks = marks_name
 name_of Memory = marks_name
 
--- a call that writes nothing: 62 alone tells that the device failed, at the file that the fault names
+-- a call that writes nothing: only 62 reports a device failure, at the file named in the fault
 abbrev pub ReadsMarks : {B X : Type 0} → Ghosts B → B → B → Result X MarkFault → Type 0
 ReadsMarks bench old new result = disk.ReadsTo bench.stored bench.honest bench.failures bench.failed_at old new result
     (λ fault. number_of fault ≡ 62) (λ fault failed. failed (name_of fault))
 
--- a call that writes the marks alone
+-- a call that writes only the marks
 abbrev pub WritesMarks : {B X : Type 0} → Ghosts B → B → B → Result X MarkFault → Type 0
 WritesMarks bench old new result = frame.OnlyWrites bench (λ n. n ≢ marks_name) old new result
     (λ fault. number_of fault ≡ 62) (λ fault failed. failed (name_of fault))
 
--- the device failed at the marks
+-- the device failed while accessing the marks
 abbrev pub FailsAtMarks : MarkFault → Type 0
 FailsAtMarks fault = fault ≡ Device Marks

@@ -1,4 +1,4 @@
--- What is rendered.
+-- Range to render.
 use Rattle.sound_terms.specs.Render.{Range}
 use Rattle.markfile.specs.declared.run.RunRange.{RunRange}
 

@@ -1,4 +1,4 @@
-// Why marks aren't made, set or read.
+// Errors of making, setting and reading marks.
 ghost use Rattle.std.specs.Prelude.{◌≡◌, Some};
 ghost use Rattle.markfile.specs.Fault.{name_of_file, number_of};
 
@@ -11,7 +11,7 @@ use thiserror::Error;
 pub enum MarkedFile {
     /// The rendered file, `render.wav`.
     Sound,
-    /// Its marks, `render.marks`.
+    /// The file of marks, `render.marks`.
     Marks,
 }
 
@@ -26,25 +26,25 @@ impl fmt::Display for MarkedFile {
     }
 }
 
-/// Why the marks of a rendering aren't made, set or read.
+/// The reason why the marks of a rendering can't be made, set or read.
 #[derive(Clone, Copy, Debug, PartialEq, Eq, Error)]
 pub enum MarkFault {
-    /// 62: the device failed at this file. What was written of the marks may be unfinished.
+    /// 62: a device failure at this file. The marks may be partly written.
     #[error("{file} can't be read or written")]
     Device { file: MarkedFile },
     /// 67: the marks belong to another list, or to another range, depth or number of channels.
     #[error("the marks belong to another rendering")]
     OtherRun,
-    /// 68: what stands under the name are no whole marks, or the rendered file isn't the one that they speak of.
+    /// 68: the file has no complete marks, or the rendered file isn't the one they belong to.
     #[error("the marks are broken, or the rendered file isn't theirs")]
     BadMarks,
-    /// 69
+    /// 69: out of memory.
     #[error("out of memory")]
     Memory,
 }
 
 impl MarkFault {
-    /// The number of the refusal.
+    /// Returns the number of the refusal: 62, 67, 68 or 69.
     pub fn number(&self) -> u8
         ensures { result ≡ number_of self.now }
     {

@@ -1,10 +1,10 @@
-// The bytes of numbers, the lowest first.
+// Little-endian encoding of numbers.
 ghost use Rattle.std.specs.Prelude.{◌≡◌};
 ghost use Rattle.sound_terms.specs.Waves.{u16_bytes, u32_bytes, u64_bytes};
 
 use byteorder::{ByteOrder, LittleEndian};
 
-/// Those of a number of 16 bits.
+/// Encodes a 16-bit number, little endian.
 #[tactic(auto, unfolding(sound_terms::specs::Waves::u16_bytes))]
 pub fn bytes_of_u16(number: u16) -> [u8; 2]
     ensures { result ≡ u16_bytes number }
@@ -14,7 +14,7 @@ pub fn bytes_of_u16(number: u16) -> [u8; 2]
     bytes
 }
 
-/// Those of a number of 32 bits.
+/// Encodes a 32-bit number, little endian.
 #[tactic(auto, unfolding(sound_terms::specs::Waves::u32_bytes))]
 pub fn bytes_of_u32(number: u32) -> [u8; 4]
     ensures { result ≡ u32_bytes number }
@@ -24,7 +24,7 @@ pub fn bytes_of_u32(number: u32) -> [u8; 4]
     bytes
 }
 
-/// Those of a number of 64 bits.
+/// Encodes a 64-bit number, little endian.
 #[tactic(auto, unfolding(sound_terms::specs::Waves::u64_bytes))]
 pub fn bytes_of_u64(number: u64) -> [u8; 8]
     ensures { result ≡ u64_bytes number }

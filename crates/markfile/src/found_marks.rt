@@ -1,4 +1,4 @@
-// Marks that a run left.
+// Opening of existing marks.
 ghost use Rattle.std.specs.Prelude.{◌≡◌, ◌+◌, ◌==◌, ◌≢◌, ◌≤◌, IsTrue, IfErr, IfOk, OnOk, IfSome, ℕ, List, Some, drop, length, map};
 ghost use Rattle.work_terms.specs.Disk.{Files};
 ghost use Rattle.markfile.specs.Fault.{ReadsMarks, number_of};
@@ -11,20 +11,20 @@ use crate::{MARKS, MarkFault, MarkedFile, RunId};
 use devices::Bench;
 use std::alloc::{AllocError, Global};
 
-/// Which blocks of a rendering stand on the disk, one for each.
+/// The state of each block of a rendering: true if the block is on the disk.
 #[derive(Debug, Drop)]
 pub struct Marks {
     pub marked: Vec<bool>,
 }
 
-/// Which of these bytes are marks.
+/// Decodes marks from their bytes.
 fn marks_among(alloc: Global, bytes: &[u8]) -> Result<Vec<bool>, AllocError>
     ensures { IfOk result (λ marked. marked.items ≡ map (λ byte. byte == 1) bytes.now) }
 {
     bytes.iter().map(|byte| *byte == 1).collect(alloc)
 }
 
-/// Reads so many marks, which have to be all.
+/// Reads the marks of all blocks.
 fn read_marked<B: Bench>(alloc: Global, bench: &mut B, blocks: u32) -> Result<Marks, MarkFault>
     ensures marked { IsTrue (B.honest bench.old) → (marks : List ℕ) → B.stored bench.old marks_name ≡ Some marks
         → length marks ≡ 44 + blocks
@@ -49,7 +49,7 @@ fn read_marked<B: Bench>(alloc: Global, bench: &mut B, blocks: u32) -> Result<Ma
     }
 }
 
-/// Reads marks of so many bytes, a front at least. `None` where their gate is shut.
+/// Reads marks of the given length, at least 44 bytes. Returns `None` if they aren't started.
 fn read_marks<B: Bench>(
     alloc: Global,
     bench: &mut B,
@@ -79,11 +79,18 @@ fn read_marks<B: Bench>(
     }
 }
 
-/// Opens the marks that a run of these words left, once the rendered file and the marks are synced where they are
-/// there, so that nothing of them is pending. `None` where the marks aren't started: they aren't there, are shorter
-/// than their front, or have a gate that isn't open. Else `BadMarks` where they are no marks, `OtherRun` where they
-/// belong to another run, `BadMarks` where they tell another count of blocks, have another length, or the rendered
-/// file isn't there or has another length. Nothing is written.
+/// Opens the marks of an earlier run, after syncing the rendered file and the marks if they exist, so that nothing is
+/// pending for either. Nothing is written.
+///
+/// Returns `None` if the marks aren't started: the file doesn't exist, is shorter than 44 bytes, or its first byte
+/// isn't 1. Otherwise returns the first error that applies:
+///
+/// 1. `BadMarks` if the file isn't a file of marks.
+/// 2. `OtherRun` if the marks belong to another run.
+/// 3. `BadMarks` if the number of blocks or the length of the marks is wrong, or the rendered file is missing or has
+///   the wrong length.
+///
+/// Returns `Device` if a file can't be synced or read, and `Memory` if out of memory.
 pub fn open_marks<B: Bench>(
     alloc: Global,
     bench: &mut B,

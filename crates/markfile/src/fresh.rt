@@ -1,4 +1,4 @@
-// The bytes of new marks.
+// Bytes of new marks.
 ghost use Rattle.std.specs.Prelude.{◌≡◌, ◌++◌, IfOk, replicate};
 ghost use Rattle.markfile.specs.Format.{head_of};
 
@@ -7,11 +7,11 @@ use crate::fields::bytes_of_u32;
 use std::alloc::{AllocError, Global};
 use std::marker::Model;
 
-/// The bytes of the front behind the gate.
+/// The length of the front after the gate byte.
 const HEAD: usize = 43;
 
-/// New marks of a run, none of them set: all that stands behind their gate. They are made before the first write, since
-/// behind it no memory is taken. A clause sees the run.
+/// The marks of a new run, none of them set, without the gate byte. They are allocated before the first write; nothing
+/// is allocated after it. Contracts see the run.
 #[derive(Drop)]
 pub struct FreshMarks {
     pub(crate) run: RunId,
@@ -31,7 +31,7 @@ impl Model for FreshMarks {
         × (fresh.rest.items ≡ head_of fresh.run ++ replicate fresh.run.blocks 0) };
 }
 
-/// All that stands behind the gate of new marks: the head, and a 0 for each block.
+/// Returns the bytes of new marks after the gate: the head and a 0 for each block.
 #[tactic(auto, unfolding(crate::specs::Format::head_of))]
 fn behind_gate(alloc: Global, run: &RunId) -> Result<Vec<u8>, AllocError>
     ensures { IfOk result (λ bytes. bytes.items ≡ head_of run.now ++ replicate run.now.blocks 0) }
@@ -45,7 +45,7 @@ fn behind_gate(alloc: Global, run: &RunId) -> Result<Vec<u8>, AllocError>
 }
 
 impl FreshMarks {
-    /// The new marks of this run: 43 bytes and one for each block. Want of memory is the only error.
+    /// Creates the new marks of a run: 43 bytes plus one for each block. Returns an error if out of memory.
     pub fn of(alloc: Global, run: &RunId) -> Result<Self, AllocError>
         ensures { IfOk result (λ fresh. fresh ≡ run.now) }
     {

@@ -1,4 +1,4 @@
-// The marks of a new run.
+// Starting the marks of a new run.
 ghost use Rattle.std.specs.Prelude.{◌≡◌, ◌≢◌, ◌⊎◌, ◌∷◌, Err, IfErr, IsTrue, OnOk, ⊤};
 ghost use Rattle.work_terms.specs.Disk.{Files, LeavesOnly};
 ghost use Rattle.devices.specs.Frame.{OnlyWrites};
@@ -12,7 +12,7 @@ use crate::{FreshMarks, MarkFault, MarkedFile, RunId};
 use devices::{Bench, DeviceFault};
 use std::alloc::Global;
 
-/// Makes the file with a gate that is shut, and these bytes behind it.
+/// Writes the file with its gate shut, followed by `rest`.
 fn lay<B: Bench>(bench: &mut B, rest: &[u8]) -> Result<(), DeviceFault>
     ensures made { IsTrue (B.honest bench.old) → OnOk result (Holds B.Bench (0 ∷ rest.now) bench.new) }
     ensures any_moment { IsTrue (B.honest bench.old) → NoneStarted (B.may_leave bench.old)
@@ -27,9 +27,10 @@ fn lay<B: Bench>(bench: &mut B, rest: &[u8]) -> Result<(), DeviceFault>
     append_synced(bench, rest)
 }
 
-/// Makes the file of these marks. The gate is opened last, once all that stands behind it is on the disk, so a crash
-/// leaves marks that aren't started or whole ones, where those that stood there before weren't started. It takes no
-/// memory. `DeviceFault` where the device fails at the marks: no block is marked then.
+/// Writes the file of new marks, without allocating. The gate is opened last, when everything after it is on the disk:
+/// if the earlier marks weren't started, a crash leaves marks that are complete or not started.
+///
+/// Returns `DeviceFault` if writing the marks fails; no block is marked then.
 pub fn start_fresh<B: Bench>(bench: &mut B, fresh: &FreshMarks) -> Result<(), DeviceFault>
     ensures started { IsTrue (B.honest bench.old) → OnOk result (Holds B.Bench (fresh_marks fresh.now) bench.new) }
     ensures any_moment { IsTrue (B.honest bench.old) → NoneStarted (B.may_leave bench.old)
@@ -47,8 +48,10 @@ pub fn start_fresh<B: Bench>(bench: &mut B, fresh: &FreshMarks) -> Result<(), De
     write_synced(bench, 0, &[OPEN])
 }
 
-/// Makes the file of new marks of this run, none of them set. `Memory` where no memory was left for them: nothing is
-/// written then. `Device` where the device fails at the marks: no block is marked then.
+/// Creates and writes the file of new marks of a run, none of them set.
+///
+/// Returns `Memory` if out of memory; nothing has been written then. Returns `Device` if writing the marks fails; no
+/// block is marked then.
 pub fn start<B: Bench>(alloc: Global, bench: &mut B, run: &RunId) -> Result<(), MarkFault>
     ensures started { IsTrue (B.honest bench.old) → OnOk result (Holds B.Bench (fresh_marks run.now) bench.new) }
     ensures any_moment { IsTrue (B.honest bench.old) → NoneStarted (B.may_leave bench.old)

@@ -1,4 +1,4 @@
-// The front of marks, and whose they are.
+// The front of a marks file, and the run it belongs to.
 ghost use Rattle.std.specs.Prelude.{◌≡◌, ◌≢◌, codes, IsTrue, IfErr, IfOk, IfSome, ℕ, List, Some, take};
 ghost use Rattle.sound_terms.specs.Chunks.{stands_at};
 ghost use Rattle.work_terms.specs.Disk.{IsUntouched};
@@ -11,29 +11,29 @@ use crate::settled::Sizes;
 use crate::{MARKS, MarkFault, MarkedFile, RunId};
 use devices::Bench;
 
-/// The bytes of the front.
+/// The length of the front.
 pub const FRONT: usize = 44;
 
-/// The gate of marks that aren't started, and of marks that are.
+/// The gate byte of marks that aren't started, and of marks that are.
 pub const SHUT: u8 = 0;
 
 pub const OPEN: u8 = 1;
 
-/// Whether it is the front of marks.
+/// Returns true if the front is one of a marks file.
 fn is_of_marks(front: &[u8; 44]) -> bool
     ensures { result ≡ stands_at (codes "ADLMRK1") 1 front.now }
 {
     front[1..].starts_with(b"ADLMRK1")
 }
 
-/// Whether it is the front of the run's marks.
+/// Returns true if the front belongs to this run.
 fn is_of_run(run: &RunId, front: &[u8; 44]) -> bool
     ensures { result ≡ stands_at run.now.digest 8 front.now }
 {
     front[8..].starts_with(&run.digest)
 }
 
-/// Whether the front tells as many blocks, and both files are as long as the run has them.
+/// Returns true if the number of blocks in the front and the lengths of both files match the run.
 fn fits_run(run: &RunId, front: &[u8; 44], marks: u64, sound: Option<u64>) -> bool
     ensures { result ≡ fits_run run.now front.now marks sound }
 {
@@ -42,7 +42,7 @@ fn fits_run(run: &RunId, front: &[u8; 44], marks: u64, sound: Option<u64>) -> bo
         && sound == Some(run.length)
 }
 
-/// Why a run can't go on with marks of this front; `None` where it can.
+/// Returns the reason why a run can't resume with marks that have this front, or `None` if it can.
 pub fn front_fault(
     run: &RunId,
     front: &[u8; 44],
@@ -64,7 +64,7 @@ pub fn front_fault(
     None
 }
 
-/// Reads the front of marks that have one.
+/// Reads the front of marks that are at least 44 bytes long. Returns `Device` if the read fails.
 pub fn read_front<B: Bench>(bench: &mut B) -> Result<[u8; 44], MarkFault>
     ensures front { IsTrue (B.honest bench.old) → (marks : List ℕ) → B.stored bench.old marks_name ≡ Some marks
         → IfOk result (λ front. front ≡ take 44 marks) }

@@ -1,5 +1,5 @@
-//! The marks of a rendering: a file beside the sound that tells which of its blocks stand on the disk, so that a
-//! rendering that was stopped goes on where it was.
+//! Marks of a rendering: a file next to the sound that records which of its blocks are on the disk, so that an
+//! interrupted rendering can resume.
 #![tactic(auto)]
 
 mod fault;
@@ -20,8 +20,8 @@ pub use fresh_marks::{start, start_fresh};
 pub use marked_blocks::{MOST_AT_ONCE, mark, mark_all};
 pub use run::{RunId, RunRange};
 
-/// The name of the file that is rendered.
+/// The name of the rendered file.
 pub const SOUND: &str = "render.wav";
 
-/// The name of the marks.
+/// The name of the file of marks.
 pub const MARKS: &str = "render.marks";

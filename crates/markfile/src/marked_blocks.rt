@@ -1,4 +1,4 @@
-// Marks that are set.
+// Setting of marks.
 ghost use Rattle.std.specs.Prelude.{◌≢◌, ◌+◌, ◌-◌, ◌^◌, ◌<◌, ◌≤◌, ◌∷◌, [], ℕ, IfErr, IsTrue, List, OnOk, replicate, ⊤};
 ghost use Rattle.work_terms.specs.Disk.{Changes, Files, IsDurable, IsTorn, IsWritten, LeavesOnly};
 ghost use Rattle.devices.specs.Frame.{OnlyWrites};
@@ -12,10 +12,10 @@ use crate::synced::write_synced;
 use crate::{MarkFault, MarkedFile};
 use devices::{Bench, DeviceFault};
 
-/// The most marks that one call sets.
+/// The maximum number of marks that one call sets.
 pub const MOST_AT_ONCE: usize = 2048;
 
-/// Writes so many marks from a place on, and syncs them.
+/// Writes `count` marks from offset `at` on and syncs them.
 fn write_ones<B: Bench>(bench: &mut B, at: u64, count: usize) -> Result<(), DeviceFault>
     requires { count ≤ 2048 }
     ensures written { IsTrue (B.honest bench.old)
@@ -33,7 +33,7 @@ fn write_ones<B: Bench>(bench: &mut B, at: u64, count: usize) -> Result<(), Devi
     write_synced(bench, at, &ones[..count])
 }
 
-/// Sets the marks from one block on up to, and without, another.
+/// Sets the marks of the blocks from `from` up to but not including `end`.
 #[tactic(auto, using(crate::proofs::Torn::moments_set, crate::proofs::Torn::outcome_set))]
 fn set_marks<B: Bench>(bench: &mut B, from: u64, end: u64) -> Result<(), MarkFault>
     requires order { from ≤ end }
@@ -65,8 +65,10 @@ fn set_marks<B: Bench>(bench: &mut B, from: u64, end: u64) -> Result<(), MarkFau
     }
 }
 
-/// Sets the marks of the blocks from one on up to, and without, another, in one write, and syncs them. Their bytes have
-/// to be on the disk. `Device` where the device fails at the marks: any of these may be set then.
+/// Sets the marks of the blocks from `from` up to but not including `end` with one write, and syncs them. The bytes of
+/// these blocks must already be on the disk.
+///
+/// Returns `Device` if writing the marks fails; any of these marks may be set then.
 pub fn mark_all<B: Bench>(bench: &mut B, from: u32, end: u32) -> Result<(), MarkFault>
     requires order { from ≤ end }
     requires few { end - from ≤ 2048 }
@@ -89,8 +91,9 @@ pub fn mark_all<B: Bench>(bench: &mut B, from: u32, end: u32) -> Result<(), Mark
     set_marks(bench, from as u64, end as u64)
 }
 
-/// Sets the mark of one block, and syncs it. Its bytes have to be on the disk. `Device` where the device fails at the
-/// marks: this one may be set or not then.
+/// Sets the mark of one block and syncs it. The bytes of the block must already be on the disk.
+///
+/// Returns `Device` if writing the marks fails; the mark may or may not be set then.
 pub fn mark<B: Bench>(bench: &mut B, block: u32) -> Result<(), MarkFault>
     ensures written { IsTrue (B.honest bench.old)
         → OnOk result (Changes (IsWritten (44 + block) (1 ∷ [])) marks_name

@@ -1,4 +1,4 @@
-// What marks belong to.
+// Identity of a rendering run.
 ghost use Rattle.std.specs.Prelude.{◌≡◌};
 ghost use Rattle.sha2.specs.Sha256.{sha256};
 ghost use Rattle.markfile.specs.Format.{run_bytes};
@@ -9,8 +9,8 @@ use sampletime::SampleTime;
 use sha2::{Digest, Sha256};
 use sound_terms::Depth;
 
-/// What is rendered of a list: the samples from the time `from` up to, and without, `to`, on so many channels from 1 on
-/// (1 to 64), at a depth.
+/// The part of a list to render: the samples from `from` up to but not including `to`, on channels 1 to `channels` (at
+/// most 64), at a depth.
 #[derive(Clone, Copy, Debug, PartialEq, Eq)]
 pub struct RunRange {
     pub from: SampleTime,
@@ -19,19 +19,20 @@ pub struct RunRange {
     pub depth: Depth,
 }
 
-/// A rendering as its marks know it.
+/// The identity of a rendering, as stored in its marks.
 #[derive(Clone, Copy, Debug, PartialEq, Eq)]
 pub struct RunId {
-    /// The SHA-256 digest of what is rendered and of the list.
+    /// The SHA-256 digest of the range and the list.
     pub digest: [u8; 32],
-    /// How many blocks it has.
+    /// The number of blocks.
     pub blocks: u32,
-    /// How many bytes the rendered file has.
+    /// The length of the rendered file in bytes.
     pub length: u64,
 }
 
 impl RunId {
-    /// The run that renders this of a list, in so many blocks, to a file of so many bytes.
+    /// Creates the identity of the run that renders `range` of `list`, in the given number of blocks, to a file of the
+    /// given length in bytes.
     pub fn new(list: &[u8], range: &RunRange, blocks: u32, length: u64) -> Self
         ensures digest { result.digest ≡ sha256 (run_bytes (range_of range.now) list.now) }
         ensures blocks { result.blocks ≡ blocks }

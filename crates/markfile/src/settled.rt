@@ -1,4 +1,4 @@
-// Files of which nothing is pending.
+// Syncing of both files of a rendering.
 ghost use Rattle.std.specs.Prelude.{◌≡◌, IsTrue, IfErr, IfOk, OnOk, option_map, length, ⊤};
 ghost use Rattle.work_terms.specs.Disk.{Files, ReadsTo};
 ghost use Rattle.markfile.specs.Fault.{ReadsMarks, number_of};
@@ -8,7 +8,7 @@ ghost use Rattle.markfile.specs.Opened.{AreSettled, IsSettledAs, Settles};
 use crate::{MARKS, MarkFault, MarkedFile, SOUND};
 use devices::{Bench, DeviceFault, ShelfFault};
 
-/// Syncs a file where it is there, and gives its length then.
+/// Syncs a file if it exists and returns its length.
 fn settle<B: Bench>(bench: &mut B, name: &str) -> Result<Option<u64>, DeviceFault>
     ensures size { IsTrue (B.honest bench.old)
         → IfOk result (λ size. size ≡ option_map length (B.stored bench.old name.now)) }
@@ -29,14 +29,14 @@ fn settle<B: Bench>(bench: &mut B, name: &str) -> Result<Option<u64>, DeviceFaul
     }
 }
 
-/// How many bytes the two files of a rendering have, where they are there.
+/// The lengths of the two files of a rendering, or `None` for a file that doesn't exist.
 #[derive(Clone, Copy)]
 pub struct Sizes {
     pub sound: Option<u64>,
     pub marks: Option<u64>,
 }
 
-/// Syncs the rendered file and the marks where they are there.
+/// Syncs the rendered file and the marks, if they exist, and returns their lengths. Returns `Device` if a sync fails.
 pub fn settle_both<B: Bench>(bench: &mut B) -> Result<Sizes, MarkFault>
     ensures sound { IsTrue (B.honest bench.old)
         → IfOk result (λ sizes. sizes.sound ≡ option_map length (B.stored bench.old sound_name)) }

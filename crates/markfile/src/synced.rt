@@ -1,4 +1,4 @@
-// Changes of the marks, each synced before it is told as done.
+// Changes to the marks file, each followed by a sync.
 ghost use Rattle.std.specs.Prelude.{◌≡◌, ◌≢◌, IsTrue, List, OnOk, Some, ⊤, [], ◌++◌, ℕ, length};
 ghost use Rattle.work_terms.specs.Disk.{Changes, Files, IsDurable, IsPending, IsTorn, IsTornBehind, IsWritten, LeavesOnly, end_of};
 ghost use Rattle.devices.specs.Frame.{OnlyWrites};
@@ -8,7 +8,7 @@ ghost use Rattle.markfile.specs.Started.{IsAfter};
 use crate::MARKS;
 use devices::{Bench, DeviceFault};
 
-/// Makes the file empty, and syncs it.
+/// Creates or truncates the file and syncs it.
 pub fn create_synced<B: Bench>(bench: &mut B) -> Result<(), DeviceFault>
     ensures created { IsTrue (B.honest bench.old) → OnOk result (B.stored bench.new marks_name ≡ Some []) }
     ensures durable { IsTrue (B.honest bench.old)
@@ -26,7 +26,7 @@ pub fn create_synced<B: Bench>(bench: &mut B) -> Result<(), DeviceFault>
     bench.sync(MARKS)
 }
 
-/// Adds the bytes at the end, and syncs the file.
+/// Appends the bytes and syncs the file.
 pub fn append_synced<B: Bench>(bench: &mut B, bytes: &[u8]) -> Result<(), DeviceFault>
     ensures appended { IsTrue (B.honest bench.old) → (file : List ℕ) → B.stored bench.old marks_name ≡ Some file
         → OnOk result (B.stored bench.new marks_name ≡ Some (file ++ bytes.now)) }
@@ -46,7 +46,7 @@ pub fn append_synced<B: Bench>(bench: &mut B, bytes: &[u8]) -> Result<(), Device
     bench.sync(MARKS)
 }
 
-/// Writes the bytes over those from `at` on, and syncs the file.
+/// Overwrites the bytes from offset `at` on and syncs the file.
 pub fn write_synced<B: Bench>(bench: &mut B, at: u64, bytes: &[u8]) -> Result<(), DeviceFault>
     ensures written { IsTrue (B.honest bench.old)
         → OnOk result (Changes (IsWritten at bytes.now) marks_name (B.stored bench.old) (B.stored bench.new)) }
