@@ -1,15 +1,15 @@
--- Answers that are given in any order.
+-- Results computed in any order.
 use Rattle.std.proofs.Common.{◌≡◌, ◌≢◌, ◌⊎◌, inl, inr, ◌∙◌, ℕ, ◌+◌, ◌<◌, ◌≤◌, List, [], ◌∷◌, length, map, set, get_or, sym, subst, arith}
 use Rattle.std.specs.List.{Contains}
 use Rattle.std.proofs.lemmas.Bool.{cases_lt}
 use Rattle.std.proofs.lemmas.List.{get_or-map, get_or-set_other, get_or-set_same, length-map, same_lists}
 
 module _ {X Y : Type 0} (answer : X → Y) where
-  -- the answer of this place is right
+  -- the result at this index is correct
   abbrev pub IsRightAt : List X → List Y → ℕ → Type 0
   IsRightAt asked answers place = (x : X) (y : Y) → get_or answers place y ≡ answer (get_or asked place x)
 
-  -- so is that of each of the first places of an order
+  -- the results at the first `count` indexes of an order are correct
   abbrev pub AreRight : List X → List Y → List ℕ → ℕ → Type 0
   AreRight asked answers order count = (k n : ℕ) → k < count → IsRightAt asked answers (get_or order k n)
 
@@ -28,7 +28,7 @@ module _ {X Y : Type 0} (answer : X → Y) where
             let same : place ≡ one = omega arith in
             rw same (get_or-set_same answers one told y inside ∙ is x)
 
-  -- one more place of the order
+  -- one more index of the order
   pub more_right : (asked : List X) (answers : List Y) (order : List ℕ) (count one : ℕ) (told : Y)
       → one < length answers → ((n : ℕ) → get_or order count n ≡ one)
       → ((x : X) → told ≡ answer (get_or asked one x)) → AreRight asked answers order count
@@ -41,7 +41,7 @@ module _ {X Y : Type 0} (answer : X → Y) where
         let here : k ≡ count = omega arith in
         rw (here, there n) (get_or-set_same answers one told y inside ∙ is x)
 
-  -- where the order has each place, all answers are right
+  -- if the order has each index, all results are correct
   pub all_right : (asked : List X) (answers : List Y) (order : List ℕ) → length answers ≡ length asked
       → ((place : ℕ) → place < length asked → Contains order place)
       → AreRight asked answers order (length order) → answers ≡ map answer asked

@@ -1,9 +1,9 @@
--- The first frame that sounds, in one count of frames and in another.
+-- First sample frame that is not zero, under a change of numbering.
 use Rattle.std.proofs.Common.{◌≡◌, ℕ, ◌+◌, ◌-◌, ◌<◌, ◌≤◌, Option, None, Some, arith}
 use Rattle.std.specs.Prelude.{◌↔◌, IfSome, option_map}
 use Rattle.silence.specs.Zero.{IsFirstSounding}
 
--- counted from a frame of the file on
+-- numbered from a sample frame of the file on
 pub counted_from : (P Q : ℕ → Type 0) (from count : ℕ) → ((i : ℕ) → i < count → P i ↔ Q (from + i))
     → (found : Option ℕ) → IsFirstSounding P 0 count found
     → IsFirstSounding Q from (from + count) (option_map (λ i. from + i) found)
@@ -17,7 +17,7 @@ counted_from P Q from count same (Some n) (low, high, each, sounds) =
           let there : i ≡ from + (i - from) = omega arith in
           rw there ((same (i - from) (omega arith)).0 (each (i - from) (omega arith) (omega arith)))
 
--- it is one of so many frames
+-- the result is less than the count
 pub found_below : (P : ℕ → Type 0) (count : ℕ) (found : Option ℕ) → IsFirstSounding P 0 count found
     → IfSome found (λ i. i < count)
 found_below P count None each = tt

@@ -1,4 +1,4 @@
--- Frames that were read are zero where those of their file are.
+-- A sample frame that was read is zero exactly if the sample frame of the file is.
 use Rattle.std.proofs.Common.{◌≡◌, ℕ, zero, suc, ◌+◌, ◌-◌, ◌*◌, ◌/◌, ◌<◌, ◌≤◌, ◌^◌, List, ◌++◌, Some, length, take, drop}
 use Rattle.std.proofs.Common.{length-take, length-drop, get_or, All, true, refl, sym, ap, ◌∙◌, arith}
 use Rattle.std.specs.Prelude.{ℤ, pos, negsuc, neg_ℤ, ◌*ℤ◌, ◌↔◌, Option, nat_le, nat_lt, option_map}
@@ -21,7 +21,7 @@ use Rattle.silence.specs.Holding.{AreOf, HasPart, Held, Holds}
 use Rattle.silence.specs.Zero.{IsFirstSounding, IsFrameZero, IsZeroAt, LiesIn, sound_by}
 use Rattle.silence.proofs.First.{counted_from}
 
--- a sample is zero where it is at full scale
+-- a sample is zero exactly if it is zero at full scale
 none_of : (z : ℤ) (n : ℕ) → 0 < n → z *ℤ pos n ≡ pos 0 → z ≡ pos 0
 none_of (pos m) n some none = ap pos (no_factor m (same (sym (pos-*ℤ-pos m n) ∙ none))) where
   same : {a b : ℕ} → pos a ≡ pos b → a ≡ b
@@ -34,11 +34,11 @@ none_of (negsuc m) n some none = absurd (below (suc m * n) (grind arith) (sym (n
   below : (k : ℕ) → 0 < k → neg_ℤ (pos k) ≡ pos 0 → ⊥
   below k more none = grind (arith, ints)
 
--- where the sample of a frame and a channel begins
+-- offset of the sample of a sample frame and a channel
 abbrev sample_place : SoundFacts → (frame channel : ℕ) → ℕ
 sample_place facts frame channel = facts.offset + (frame * facts.channels + (channel - 1)) * (bits_of facts.depth / 8)
 
--- a sample of an opened file, inside its channels and frames
+-- a sample of an opened file, within its channels and sample frames
 heard : (files : Files) (facts : SoundFacts) (channel frame : ℕ) (file : List ℕ) → files facts.name ≡ Some file
     → frame < facts.frames → 1 ≤ channel → channel ≤ facts.channels → sound_by files facts channel frame
     ≡ full_scale (bits_of facts.depth) (sample_of (bits_of facts.depth) (drop (sample_place facts frame channel) file))
@@ -49,7 +49,7 @@ heard files facts channel frame file stored inside first last =
     let high : nat_le channel facts.channels ≡ true = grind (arith, nat_tests) in
     rw (stored, frames, low, high) refl
 
--- so many frames of all channels
+-- number of interleaved sample frames
 pub read_count : (frames : List ℤ) (count channels : ℕ) → length frames ≡ count * channels → 1 ≤ channels
     → length frames / channels ≡ count
 read_count frames count channels whole some =
@@ -79,7 +79,7 @@ module _ (files : Files) (facts : SoundFacts) (part : Part) (file : List ℕ) (f
       ∙ sym (ap (full_scale (bits_of facts.depth)) (are k within
       ∙ ap (λ m. sample_of (bits_of facts.depth) (drop m file)) (place_told j i)))
 
-  -- what was read is zero in a frame where the part is
+  -- a sample frame read from the file is zero exactly if it is zero in the part
   pub read_zero : (i : ℕ) → i < count → IsFrameZero frames facts.channels part.first part.width i
       ↔ IsZeroAt (sound_by files facts) part.first part.width (part.from + i)
   read_zero i below = (to_sound, to_frame) where
@@ -95,7 +95,7 @@ module _ (files : Files) (facts : SoundFacts) (part : Part) (file : List ℕ) (f
         none_of _ (2 ^ (48 - bits_of facts.depth)) (pow_pos (48 - bits_of facts.depth))
         (sym (sample_told j i wide below) ∙ silent j wide)
 
--- frames that were read, whatever stands behind them
+-- sample frames that were read, followed by other samples
 pub read_are : (files : Files) (facts : SoundFacts) (from count : ℕ) (file : List ℕ) (frames rest : List ℤ)
     → files facts.name ≡ Some file
     → AreFrames file (facts.offset + from * frame_length facts) (bits_of facts.depth) frames
@@ -142,7 +142,7 @@ read_are files facts from count file frames rest stored are whole inside i chann
           let same : channel + j ≡ channel = omega (arith, wide) in
           ap (λ c. sound_by files facts c (from + i)) same ∙ silent) 0 (omega arith)
 
--- what is held of a part
+-- samples of a part in the window
 abbrev pub held_frames : Held → Part → List ℤ
 held_frames held part =
     take ((part.to - held.from) * held.channels - (part.from - held.from) * held.channels)
@@ -163,13 +163,13 @@ module _ (held : Held) (part : Part) (has : HasPart held part)
       ap (λ n. n * held.channels) apart ∙ add-mul (part.from - held.from) (part.to - part.from) held.channels in
       omega (arith, length-take {A = ℤ}, length-drop {A = ℤ})
 
-  -- so many frames
+  -- number of sample frames of the part
   pub count_held : 1 ≤ held.channels → length (held_frames held part) / held.channels ≡ part.to - part.from
   count_held some = read_count (held_frames held part) (part.to - part.from) held.channels whole_held some
 
--- it is zero in a frame where its sound is
+-- the part is zero in a sample frame exactly if its sound is
 module _ (sound : ℕ → ℕ → ℤ) (held : Held) (part : Part) (holds : Holds sound held) (has : HasPart held part) where
-  -- a sample of the part is one of those that are held
+  -- a sample of the part is in the window
   held_there : (i j : ℕ) → i < part.to - part.from → j < part.width
       → get_or (held_frames held part) (i * held.channels + (part.first - 1 + j)) (pos 0)
       ≡ get_or held.samples ((part.from - held.from + i) * held.channels + (part.first + j - 1)) (pos 0)
@@ -215,7 +215,7 @@ module _ (sound : ℕ → ℕ → ℤ) (held : Held) (part : Part) (holds : Hold
     to_frame silent j wide =
         held_there i j below wide ∙ (same j wide).1 (ap (sound (part.first + j)) there ∙ silent j wide)
 
-  -- so the first frame that sounds is the same, counted from the part's
+  -- the first sample frame that is not zero, numbered from the start of the part
   pub first_held : held.count * held.channels ≤ length held.samples → 1 ≤ held.channels → (found : Option ℕ)
       → IsFirstSounding (IsFrameZero (held_frames held part) held.channels part.first part.width) 0
       (length (held_frames held part) / held.channels) found
@@ -226,7 +226,7 @@ module _ (sound : ℕ → ℕ → ℤ) (held : Held) (part : Part) (holds : Hold
       (IsZeroAt sound part.first part.width) part.from (part.to - part.from) held_zero found
       (rw (count_held held part has room some) at first))
 
--- these channels of one of the frames
+-- these channels of one of the sample frames
 abbrev pub channels_of : List ℤ → (channels first width i : ℕ) → List ℤ
 channels_of frames channels first width i =
     take (i * channels + (first - 1) + width - (i * channels + (first - 1))) (drop (i * channels + (first - 1)) frames)

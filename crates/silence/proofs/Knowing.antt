@@ -1,4 +1,4 @@
--- What is known of a file answers for its parts.
+-- Known silence decides the silence of parts.
 use Rattle.std.proofs.Common.{◌≡◌, ◌⊎◌, inl, inr, ℕ, ◌+◌, ◌<◌, ◌≤◌, Bool, true, false, Option, None, Some, IsTrue, refl, arith}
 use Rattle.std.specs.Prelude.{ℤ, pos, ◌↔◌, nat_le, is_some, unwrap_or}
 use Rattle.std.proofs.lemmas.Bool.{cases_lt}
@@ -9,7 +9,7 @@ use Rattle.silence.specs.declared.known.Known.{Known}
 use Rattle.silence.specs.Known.{IsSo, Reaches, Tells}
 use Rattle.silence.specs.Zero.{IsFirstSounding, IsZero, IsZeroAt}
 
--- nothing is known of no frame
+-- the empty knowledge is correct
 pub nothing_before : (reading : Reading) (file : ℕ) (part : Part)
     → IsSo reading (record { file = file; part = record part { to = part.from }; sounds = false })
 nothing_before reading file part = record {
@@ -19,7 +19,7 @@ nothing_before reading file part = record {
 
 module _ (reading : Reading) (known : Known) (file : ℕ) (part : Part) (reaches : Reaches known file part)
     (so : IsSo reading known) where
-  -- the channels of the part are those of what is known
+  -- the part has the channels of the known silence
   zero_there : (frame : ℕ) → known.part.from ≤ frame → frame < known.part.to
       → IsZeroAt (reading file) part.first part.width frame
   zero_there frame low high j wide =
@@ -31,7 +31,7 @@ module _ (reading : Reading) (known : Known) (file : ℕ) (part : Part) (reaches
       so.sounds is (λ j wide.
       let narrow : j < part.width = rw (← reaches.width) wide in rw (reaches.same_file, reaches.first) (silent j narrow))
 
-  -- the part is silent where what is known goes on to its end
+  -- the part is silent exactly if the known silence extends to its end
   pub told : (part.to ≤ known.part.to) ⊎ (known.sounds ≡ true)
       → IsTrue (nat_le part.to known.part.to) ↔ IsZero (reading file) part
   told decided = (is, called decided) where
@@ -49,7 +49,7 @@ module _ (reading : Reading) (known : Known) (file : ℕ) (part : Part) (reaches
       by_place (inl less) = absurd (sounds_there sounds (silent known.part.to reaches.up_to less))
       by_place (inr within) = grind (arith, nat_tests)
 
-  -- what is known once the frames behind were looked at, up to the end of the part or to the first that sounds
+  -- the knowledge after the next sample frames were searched, up to the end of the part or the first that is not zero
   module _ (sound : ℕ → ℕ → ℤ) (same : (channel frame : ℕ) → reading file channel frame ≡ sound channel frame)
       (less : known.part.to < part.to) where
     further : (to : ℕ) → ((frame : ℕ) → known.part.to ≤ frame → frame < to
@@ -79,7 +79,7 @@ module _ (reading : Reading) (known : Known) (file : ℕ) (part : Part) (reaches
           rw (← same (part.first + j) to, ← reaches.same_file, ← reaches.first) (silent j wider));
     }
 
--- it reaches up to the part still, where it ends no earlier than the part begins
+-- extended knowledge still reaches the part
 reaches_on : (known : Known) (file : ℕ) (part : Part) → Reaches known file part → (to : ℕ) (sounds : Bool)
     → part.from ≤ to → Reaches (record {
       file = known.file;
@@ -94,7 +94,7 @@ reaches_on known file part reaches to sounds up_to = record {
   up_to = up_to;
 }
 
--- it tells of the part then
+-- extended knowledge decides the part
 pub tells_then : (known : Known) (file : ℕ) (part : Part) → Reaches known file part → known.part.to < part.to
     → (is_zero : ℕ → Type 0) (found : Option ℕ) → IsFirstSounding is_zero known.part.to part.to found
     → Tells (record {

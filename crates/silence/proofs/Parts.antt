@@ -1,4 +1,4 @@
--- Parts of a sound that are zero where what of them lies inside it is.
+-- A part of a sound is zero exactly if its section inside the sound is zero.
 use Rattle.std.proofs.Common.{◌≡◌, ◌⊎◌, inl, inr, ℕ, ◌+◌, ◌-◌, ◌<◌, ◌≤◌, false, List, [], ◌∷◌, Option, None, Some, refl, arith}
 use Rattle.std.specs.Prelude.{pos, ◌↔◌, min, nat_le, nat_lt}
 use Rattle.std.proofs.lemmas.Bool.{cases_lt}
@@ -9,7 +9,7 @@ use Rattle.work_terms.specs.Disk.{Files}
 use Rattle.silence.specs.declared.part.Part.{Part}
 use Rattle.silence.specs.Zero.{IsZero, sound_by}
 
--- outside its channels and frames a sound is zero
+-- a sound is zero outside its channels and sample frames
 outside : (files : Files) (facts : SoundFacts) (channel frame : ℕ) → (facts.channels < channel) ⊎ (facts.frames ≤ frame)
     → sound_by files facts channel frame ≡ pos 0
 unfolding sound_by
@@ -26,7 +26,7 @@ outside files facts channel frame there = by_file (files facts.name) refl where
   by_file None stored = rw stored refl
   by_file (Some bytes) stored = by_place bytes stored there
 
--- a part is zero where what of it lies inside is
+-- a part is zero exactly if its section inside the sound is
 module _ (files : Files) (facts : SoundFacts) (part inside : Part) where
   pub clipped : inside.first ≡ min part.first (facts.channels + 1)
       → inside.width ≡ min (part.first + part.width) (facts.channels + 1) - inside.first

@@ -1,4 +1,4 @@
--- A piece is called silent where what it plays of its file is zero.
+-- A piece is reported silent exactly if the part of its file that it plays is zero.
 use Rattle.std.proofs.Common.{◌≡◌, ℕ, ◌+◌, ◌-◌, Bool, true, false, List, None, Some, refl, sym, ap, ◌∙◌, IsTrue, arith}
 use Rattle.std.specs.Prelude.{ℤ, ◌↔◌, slice_get}
 use Rattle.sound_terms.specs.declared.piece.Piece.{Piece}
@@ -22,7 +22,7 @@ same_answer true false both = sym (both.0 refl)
 same_answer false true both = both.1 refl
 same_answer false false both = refl
 
--- the samples of the file of this number
+-- samples of the file with this number
 pub heard_there : (files : Files) (sounds : List SoundFacts) (file : ℕ) (facts : SoundFacts)
     → slice_get sounds file ≡ Some facts
     → (channel frame : ℕ) → reading_by files sounds file channel frame ≡ sound_by files facts channel frame
@@ -30,7 +30,7 @@ unfolding sound_by
 heard_there files sounds file facts there channel frame = rw there refl
 
 module _ (files : Files) (sounds : List SoundFacts) (p : Piece) where
-  -- by whether the part of the file that it plays is zero, of which `inside` is what lies inside the file
+  -- result for a piece by whether the part that it plays is zero; `inside` is its section inside the file
   pub silent_by : (facts : SoundFacts) (inside : Part) (answer : Bool) → slice_get sounds p.file ≡ Some facts
       → IsZero (sound_by files facts) inside ↔ IsZero (sound_by files facts) (part_of p)
       → IsTrue answer ↔ IsZero (reading_by files sounds p.file) inside
@@ -57,11 +57,11 @@ module _ (files : Files) (sounds : List SoundFacts) (p : Piece) where
             told.1 (λ frame low high j wide.
             heard_there files sounds p.file facts there (inside.first + j) frame ∙ rest.1 zero frame low high j wide)
 
-  -- of no file nothing is heard
+  -- a piece of a missing file is silent
   pub silent_nowhere : slice_get sounds p.file ≡ None → true ≡ is_silent_in (reading_by files sounds) p
   silent_nowhere none = sym ((silent_is (reading_by files sounds) p).1 (λ j i wide below. rw none refl))
 
--- what is held is so of equal samples
+-- a window that agrees with a sound agrees with equal sounds
 pub held_as : (sound other : ℕ → ℕ → ℤ) (held : Held) → ((channel frame : ℕ) → sound channel frame ≡ other channel frame)
     → Holds sound held → Holds other held
 held_as sound other held same holds i channel below first last =
@@ -70,20 +70,20 @@ held_as sound other held same holds i channel below first last =
       λ silent. told.1 (same channel (held.from + i) ∙ silent),
     )
 
--- where nothing is held that is so of any
+-- an empty window agrees with any sound
 pub held_nothing : (sound : ℕ → ℕ → ℤ) (held : Held) → held.count ≡ 0 → Holds sound held
 held_nothing sound held none i channel below first last = absurd (omega (arith, none, below))
 
 module _ (files : Files) (sounds : List SoundFacts) (file : ℕ) (facts : SoundFacts)
     (there : slice_get sounds file ≡ Some facts) (held : Held) where
-  -- what is held of the file of this number, by its sound
+  -- a window agrees with the file by its sound
   pub held_there : Holds (reading_by files sounds held.file) held → held.file ≡ file → Holds (sound_by files facts) held
   held_there holds same =
       held_as (reading_by files sounds held.file) (sound_by files facts) held
       (λ channel frame. ap (λ n. reading_by files sounds n channel frame) same
       ∙ heard_there files sounds file facts there channel frame) holds
 
-  -- and by its number
+  -- a window agrees with the file by its number
   pub held_again : Holds (sound_by files facts) held → held.file ≡ file → Holds (reading_by files sounds held.file) held
   held_again holds same =
       held_as (sound_by files facts) (reading_by files sounds held.file) held

@@ -1,4 +1,4 @@
-// What is known of the silence of a file.
+// Known silence of a file.
 ghost use Rattle.std.specs.Prelude.{◌≡◌, ◌*◌, ◌≤◌, is_some, length, slice_get, unwrap_or, List, IfOk, IsTrue, Some};
 ghost use Rattle.sound_terms.specs.Mix.{Reading};
 ghost use Rattle.sound_terms.specs.Sounds.{SoundFacts, reading_by};
@@ -15,7 +15,7 @@ use crate::zeros::first_sounding;
 use devices::{Shelf, ShelfFault, Watch};
 use wavread::Sound;
 
-/// A part of a file that is known to be zero, and whether the frame behind it is known to sound.
+/// A part of a file that is known to be zero. `sounds` is true if the sample frame after it is known not to be.
 #[derive(Clone, Copy)]
 pub struct Known {
     pub file: u32,
@@ -24,7 +24,7 @@ pub struct Known {
 }
 
 impl Known {
-    /// Nothing.
+    /// The empty knowledge: no part of any file.
     pub const NOTHING: Known = Known {
         file: 0,
         part: Part {
@@ -36,7 +36,7 @@ impl Known {
         sounds: false,
     };
 
-    /// Whether what is known reaches up to this part of a file.
+    /// Returns true if the known part starts at or before this part of the file and extends at least to its start.
     fn reaches(&self, file: u32, part: &Part) -> bool
         ensures { IsTrue result → Reaches self.now file part.now }
     {
@@ -45,7 +45,8 @@ impl Known {
         self.file == file && same_channels && near
     }
 
-    /// What is known of this part of a file before it is looked at: as it was, or nothing.
+    /// Returns the knowledge that applies to this part of a file: this one if it reaches the part, otherwise an empty
+    /// one.
     #[tactic(auto, using(crate::proofs::Knowing::nothing_before))]
     pub fn up_to(self, file: u32, part: &Part) -> Known
         ensures reaches { part.now.from ≤ part.now.to → Reaches result file part.now }
@@ -64,7 +65,8 @@ impl Known {
         }
     }
 
-    /// What is known once the frames behind were looked at, those before `to`: which of them is the first that sounds.
+    /// Returns the knowledge after the next sample frames before `to` were searched. `found` is the first that isn't
+    /// zero.
     fn until(self, found: Option<u64>, to: u64) -> Known
         ensures { result ≡ record {
           file = self.file;
@@ -83,8 +85,8 @@ impl Known {
     }
 }
 
-/// What is known once a part of a file was looked at, up to which it was known before. Only what isn't known of it is
-/// read, up to the first frame that sounds.
+/// Extends the known silence to a part of a file. Reads only sample frames that aren't known yet, up to the first one
+/// that isn't zero. Returns `Device` if a read fails.
 pub fn looked_at<S: Shelf, W: Watch>(
     known: Known,
     part: &Part,

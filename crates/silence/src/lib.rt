@@ -1,4 +1,4 @@
-//! What is silent of opened sound files, as passes over pieces ask for it, and the passes over these.
+//! Detection of silence in opened sound files, as required by passes over pieces, and the execution of these passes.
 #![tactic(auto)]
 
 mod known;

@@ -7,7 +7,8 @@ ghost use Rattle.silence.specs.Zero.{IsZero, LiesIn, part_of, sound_by};
 use groups::Piece;
 use wavread::Sound;
 
-/// Channels of a sound file, `width` from `first` on (from 1), in the frames from `from` on and before `to`.
+/// A part of a sound file: `width` channels from `first` on (counted from 1), and the sample frames from `from` up to
+/// but not including `to`.
 #[derive(Clone, Copy)]
 pub struct Part {
     pub first: u8,
@@ -17,7 +18,7 @@ pub struct Part {
 }
 
 impl Part {
-    /// What of a piece lies inside its file. All else that it plays is zero.
+    /// Returns the part of a piece that is inside its file. The rest of the piece is zero.
     pub fn inside(piece: &Piece, sound: &Sound) -> Part
         requires { IsPiece piece.now }
         ensures lies { LiesIn sound.now result }

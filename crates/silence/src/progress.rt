@@ -1,8 +1,8 @@
-// How far a search for silence has come.
+// Progress of a search for silence.
 
 use devices::Watch;
 
-/// Tells a watch how many frames of all pieces that are asked about are looked at.
+/// The progress of a search: reports to a watch how many sample frames of all pieces have been searched.
 #[derive(Drop)]
 pub struct Looking<'a, W: Watch> {
     watch: &'a mut W,
@@ -11,7 +11,7 @@ pub struct Looking<'a, W: Watch> {
 }
 
 impl<'a, W: Watch> Looking<'a, W> {
-    /// Nothing is looked at yet, of so many frames.
+    /// Creates the progress of a search over `whole` sample frames.
     pub fn new(watch: &'a mut W, whole: u64) -> Self {
         Looking {
             watch,
@@ -20,13 +20,13 @@ impl<'a, W: Watch> Looking<'a, W> {
         }
     }
 
-    /// So many frames more than those of the pieces that are answered are looked at.
+    /// Reports that `frames` sample frames of the current piece have been searched.
     pub fn at(&mut self, frames: u64) {
         self.watch
             .looked(self.answered.saturating_add(frames), self.whole);
     }
 
-    /// A piece of so many frames is answered.
+    /// Reports that a piece of `frames` sample frames is done.
     pub fn answered(&mut self, frames: u64) {
         self.answered = self.answered.saturating_add(frames);
         self.at(0);

@@ -1,4 +1,4 @@
-// A search for silence in opened sound files.
+// Search for silence in opened sound files.
 ghost use Rattle.std.specs.Prelude.{◌≡◌, slice_get, IfOk, IsTrue, MatchOption, None, Some};
 ghost use Rattle.sound_terms.specs.Groups.{IsPiece};
 ghost use Rattle.sound_terms.specs.Mix.{Reading};
@@ -19,7 +19,6 @@ use std::alloc::{AllocError, Global};
 use std::marker::Model;
 use wavread::Sound;
 
-/// The sound of the file of this number.
 fn sound_of(sounds: &[Sound], file: u32) -> Option<&Sound>
     ensures { MatchOption result (slice_get sounds.now file ≡ None)
         (λ sound. slice_get sounds.now file ≡ Some sound.now) }
@@ -27,7 +26,8 @@ fn sound_of(sounds: &[Sound], file: u32) -> Option<&Sound>
     sounds.get(file as usize)
 }
 
-/// What is known of the last file that was looked at, and frames of the last one that was read. A clause sees both.
+/// The state of a search: the silence known of the last file, and a window of sample frames of the last file read.
+/// Contracts see both.
 #[derive(Drop)]
 pub struct Search {
     known: Known,
@@ -43,7 +43,7 @@ impl Model for Search {
 }
 
 impl Search {
-    /// A search that knows nothing yet.
+    /// Creates a search without any knowledge. Returns an error if out of memory.
     pub fn new(alloc: Global) -> Result<Self, AllocError>
         ensures { (reading : Reading) → IfOk result (IsSearched reading) }
     {
@@ -53,7 +53,7 @@ impl Search {
         })
     }
 
-    /// Whether all that a piece plays is zero. `Device` where a read fails.
+    /// Returns true if all samples that a piece plays are zero. Returns `Device` if a read fails.
     pub fn is_silent<S: Shelf, W: Watch>(
         &mut self,
         piece: &Piece,

@@ -1,4 +1,4 @@
-// Which pieces over opened sound files are silent.
+// Silence of pieces over opened sound files.
 ghost use Rattle.std.specs.Prelude.{◌≡◌, ◌<◌, ℕ, length, IfOk, IsTrue};
 ghost use Rattle.std.specs.List.{All, Contains};
 ghost use Rattle.sound_terms.specs.Groups as groups;
@@ -18,7 +18,7 @@ use passes::PassFault;
 use std::alloc::Global;
 use wavread::Sound;
 
-/// How many frames these pieces play, 2^64 - 1 at most.
+/// Returns the total number of sample frames of the pieces, saturating at 2^64 - 1.
 fn frames_of(pieces: &[Piece]) -> u64 {
     let mut frames: u64 = 0;
     for piece in pieces {
@@ -27,7 +27,7 @@ fn frames_of(pieces: &[Piece]) -> u64 {
     frames
 }
 
-/// For each of these pieces whether it is silent, asked in the order of these places.
+/// Checks the pieces for silence in the given order and returns the results by piece.
 fn asked_in_order<S: Shelf, W: Watch>(
     alloc: Global,
     pieces: &[Piece],
@@ -56,9 +56,10 @@ fn asked_in_order<S: Shelf, W: Watch>(
     Ok(silent)
 }
 
-/// For each piece of the groups, in order, whether all samples that it plays are zero, on all its channels. A stretch
-/// of a file is read once for its silence, however many pieces play it on the same channels. The watch is told how many
-/// frames of all pieces are looked at.
+/// Checks for each piece of the groups, in order, whether all samples that it plays are zero on all its channels.
+///
+/// Part of a file is read only once, even if several pieces play it on the same channels. The watch receives the number
+/// of sample frames searched. Returns `Device` if a read fails, and `Memory` if out of memory.
 pub fn silent_of<S: Shelf, W: Watch>(
     alloc: Global,
     intervals: &Intervals,

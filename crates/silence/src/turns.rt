@@ -1,4 +1,4 @@
-// Passes over opened sound files, one after the other.
+// Passes over opened sound files, in sequence.
 ghost use Rattle.std.specs.Prelude.{◌≡◌, ℕ, [], false, IfOk, IsTrue, if◌then◌else◌};
 ghost use Rattle.std.specs.List.{list_any};
 ghost use Rattle.sound_terms.specs.Groups.{mix_of, reads};
@@ -17,7 +17,7 @@ use passes::{Pass, PassFault, turn};
 use std::alloc::Global;
 use wavread::Sound;
 
-/// Asks what is silent where a pass looks, and applies it.
+/// Applies a pass, after a search for silence if the pass needs one.
 fn asked<S: Shelf, W: Watch>(
     alloc: Global,
     pass: Box<dyn Pass>,
@@ -44,9 +44,11 @@ fn asked<S: Shelf, W: Watch>(
     }
 }
 
-/// What passes make of these groups, one after the other, whose pieces play the sounds of their files' places among
-/// `sounds`. What is silent is asked anew before each pass that looks, and a pass is dropped once it was applied.
-/// `Device` where a read fails. The watch is told how far the looking for silence has come before each pass that looks.
+/// Applies passes to groups, one after the other, and returns the resulting groups. The files of the pieces are indexes
+/// into `sounds`.
+///
+/// Silence is searched again before each pass that needs it, and its progress is reported to the watch. Each pass is
+/// dropped after it was applied. Returns `Device` if a read fails, and `Memory` if out of memory.
 pub fn run<S: Shelf, W: Watch>(
     alloc: Global,
     passes: Vec<Box<dyn Pass>>,

@@ -1,4 +1,4 @@
-// Frames of a file that are held while it is looked at for silence.
+// Window of sample frames read from a file.
 ghost use Rattle.std.specs.Prelude.{◌≡◌, ◌+◌, ◌-◌, ◌*◌, ◌<◌, ◌≤◌, ℕ, ℤ, length, option_map, IfOk, IfSome, IsTrue, OnErr, OnOk};
 ghost use Rattle.devices.specs.Fault.{IsThere};
 ghost use Rattle.devices.specs.Frame.{OnlyReads};
@@ -12,17 +12,16 @@ use std::alloc::{AllocError, Global};
 use std::marker::Model;
 use wavread::Sound;
 
-/// How many samples are read at once at most, of all channels of a file.
+/// The maximum number of samples per read, over all channels of a file.
 const SAMPLES: usize = 4096;
 
-/// The bytes of so many samples, of 32 bits at most.
+/// The number of bytes of a full window at 32 bits.
 const BYTES: usize = 4 * SAMPLES;
 
-/// So many samples are read at once where the file has them, so that one read does for many short pieces near one
-/// another.
+/// The minimum number of samples per read, if the file has them: one read then serves many short pieces close together.
 const AHEAD: usize = 1024;
 
-/// Room for 4,096 samples, as bytes and as samples, the first of which are frames of a file. A clause sees which frames.
+/// A buffer of 4,096 samples that holds consecutive sample frames of a file. Contracts see these sample frames.
 #[derive(Drop)]
 pub struct Window {
     file: u32,
@@ -51,7 +50,7 @@ impl Model for Window {
         × (1 ≤ window.channels) × (window.count * window.channels ≤ 4096) × (window.from + window.count < 2 ^ 64) };
 }
 
-/// Reads so many frames of a sound from one on, the first of `samples` then. After an `Err` these are unspecified.
+/// Reads `count` sample frames from `from` on to the start of `samples`, whose contents are unspecified after an `Err`.
 fn read_frames<S: Shelf>(
     sound: &Sound,
     from: u64,
@@ -75,7 +74,7 @@ fn read_frames<S: Shelf>(
 }
 
 impl Window {
-    /// No frame is held.
+    /// Creates an empty window. Returns an error if out of memory.
     pub fn new(alloc: Global) -> Result<Self, AllocError>
         ensures { IfOk result (λ window. window.count ≡ 0) }
     {
@@ -93,7 +92,7 @@ impl Window {
         })
     }
 
-    /// Whether a frame of a file with so many channels is held.
+    /// Returns true if the window holds this sample frame of a file with the given number of channels.
     fn has(&self, file: u32, channels: usize, frame: u64) -> bool
         ensures { IsTrue result → HasFrame self.now file channels frame }
     {
@@ -101,15 +100,15 @@ impl Window {
         same && self.from <= frame && frame - self.from < self.count as u64
     }
 
-    /// The frame behind the last one that is held.
+    /// Returns the number of the sample frame after the last one in the window.
     pub fn end(&self) -> u64
         ensures { result ≡ self.now.from + self.now.count }
     {
         self.from + self.count as u64
     }
 
-    /// Reads frames of a sound, the file of this number, from one on: those before `to` as far as there is room for them,
-    /// and some more where these are few. After an `Err` no frame is held.
+    /// Reads sample frames of file number `file` from `from` on: those before `to`, as far as there is room, and some
+    /// more if these are few. The window is empty after an `Err`.
     fn fill<S: Shelf>(
         &mut self,
         file: u32,
@@ -142,8 +141,8 @@ impl Window {
         Ok(())
     }
 
-    /// Holds frames of a sound, the file of this number, from one on: those before `to`, or the first of them. What is
-    /// held already isn't read again. After an `Err` no frame is held.
+    /// Ensures that the window contains sample frame `from` of file number `file`. If it doesn't yet, reads the sample
+    /// frames before `to`, as far as there is room. The window is empty after an `Err`.
     pub fn reach<S: Shelf>(
         &mut self,
         file: u32,
@@ -169,7 +168,7 @@ impl Window {
         self.fill(file, sound, from, to, shelf)
     }
 
-    /// The first frame of a part that isn't zero, counted from the part's first. All of the part is held.
+    /// Returns the offset of the first sample frame of a part that isn't zero. The window must hold the whole part.
     pub fn first_in(&self, part: &Part) -> Option<usize>
         requires { HasPart self.now part.now }
         ensures found { (sound : ℕ → ℕ → ℤ) → Holds sound self.now

@@ -1,4 +1,4 @@
-// The first frame of a part of a sound file that isn't zero, block by block.
+// Search for the first sample frame that isn't zero.
 ghost use Rattle.std.specs.Prelude.{◌≡◌, ◌+◌, ◌/◌, ◌<◌, ◌≤◌, length, IfOk, IsTrue, OnErr, OnOk};
 ghost use Rattle.devices.specs.Fault.{IsThere};
 ghost use Rattle.devices.specs.Frame.{OnlyReads};
@@ -12,8 +12,8 @@ use devices::{Shelf, ShelfFault, Watch};
 use pcm::all_zero;
 use wavread::Sound;
 
-/// The first frame in which not all of these channels are zero, `width` from `first` on (from 1), in frames of so many
-/// channels.
+/// Returns the first of the interleaved sample frames in which `width` channels from `first` on (counted from 1) aren't
+/// all zero.
 pub fn first_in_frames(frames: &[i32], channels: usize, first: usize, width: usize) -> Option<usize>
     requires some { 1 ≤ channels }
     requires first { 1 ≤ first }
@@ -29,9 +29,10 @@ pub fn first_in_frames(frames: &[i32], channels: usize, first: usize, width: usi
     None
 }
 
-/// The first frame of a part of a file that isn't zero. Each frame is read once, for all its channels, where it isn't
-/// held already, and no more than is read at once is read behind the first one that sounds. After an `Err` no frame is
-/// held.
+/// Returns the first sample frame of a part of a file that isn't zero.
+///
+/// Each sample frame is read once, for all its channels, unless the window already holds it. At most one window is read
+/// past the sample frame found. The window is empty after an `Err`.
 pub fn first_sounding<S: Shelf, W: Watch>(
     part: &Part,
     file: u32,

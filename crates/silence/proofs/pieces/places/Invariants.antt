@@ -2,7 +2,7 @@ use Rattle.std.proofs.Common.{ℕ, ◌<◌}
 use Rattle.std.specs.List.{All, Contains}
 use Rattle.silence.proofs.pieces.places.Given as goal
 
--- the places so far are there
+-- all indexes so far are in the list
 abbrev pub invariant-loop-position : goal.invariant-loop-position
 invariant-loop-position l = record {
   inside : All (λ place. place < l.count) l.places.items;

@@ -6,7 +6,7 @@ use Rattle.silence.specs.Holding.{IsSearched}
 use Rattle.silence.proofs.Answered.{AreRight}
 use Rattle.silence.proofs.silences.asked_in_order.Given as goal
 
--- the pieces of the places so far are answered, and nothing has failed
+-- the pieces at the indexes so far are checked, and nothing has failed
 abbrev pub invariant-loop-position : goal.invariant-loop-position
 invariant-loop-position g l = record {
   quiet : IsQuiet g.S.Shelf l.fn.shelf l.shelf;

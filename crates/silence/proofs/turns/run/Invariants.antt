@@ -5,7 +5,7 @@ use Rattle.devices.specs.Frame.{IsQuiet}
 use Rattle.passes.specs.Left.{IsLeft}
 use Rattle.silence.proofs.turns.run.Given as goal
 
--- the passes so far have left what is left, and nothing has failed
+-- the passes so far gave the current groups, and nothing has failed
 abbrev pub invariant-loop-pass : goal.invariant-loop-pass
 invariant-loop-pass g l = record {
   quiet : IsQuiet g.S.Shelf l.fn.shelf l.shelf;

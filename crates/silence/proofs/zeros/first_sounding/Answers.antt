@@ -4,7 +4,7 @@ use Rattle.silence.specs.Holding.{Holds}
 use Rattle.silence.specs.Zero.{IsZeroAt, sound_by}
 use Rattle.silence.proofs.zeros.first_sounding.Goals as goal
 
--- what is zero before a frame, and from it on
+-- a property before and from a sample frame on holds for the whole range
 both : (P : ℕ → Type 0) (from at to : ℕ) → ((frame : ℕ) → from ≤ frame → frame < at → P frame)
     → ((frame : ℕ) → at ≤ frame → frame < to → P frame) → (frame : ℕ) → from ≤ frame → frame < to → P frame
 both P from at to before behind frame low high = by_place (cases_lt frame at) where

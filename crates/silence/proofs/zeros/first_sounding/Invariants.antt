@@ -4,7 +4,7 @@ use Rattle.silence.specs.Holding.{Holds}
 use Rattle.silence.specs.Zero.{IsZeroAt, sound_by}
 use Rattle.silence.proofs.zeros.first_sounding.Given as goal
 
--- the frames so far are zero, and what is held of their file is so
+-- the sample frames so far are zero, and the window agrees with its file
 abbrev pub invariant-loop-at : goal.invariant-loop-at
 invariant-loop-at g l = record {
   behind : l.part.from ≤ l.at;

@@ -4,11 +4,11 @@ use Rattle.silence.proofs.First.{found_below}
 use Rattle.silence.proofs.Frames.{count_held, first_held}
 use Rattle.silence.proofs.window.Window.first_in.Goals as goal
 
--- there are samples for all that is held
+-- the window has a sample for each channel of its sample frames
 room_of : (c : goal.After-first_in_frames) → c.self.inside.count * c.self.inside.channels ≤ length c.deref.result.now
 room_of c = omega (arith, c.self.invariant, c.deref.ensures.len)
 
--- what is held, as the code has it
+-- the window as seen by the code
 abbrev held_of : goal.After-first_in_frames → Held
 held_of c = record {
   file = c.self.inside.file;
