@@ -1,4 +1,4 @@
--- How a sound file begins: RIFF, or RF64 with its `ds64`.
+-- Header of a sound file: RIFF, or RF64 with its `ds64`.
 use Rattle.std.proofs.Common.{◌≡◌, ℕ, ◌+◌, ◌-◌, ◌*◌, ◌%◌, ◌<◌, ◌≤◌, Bool, true, false, ◌&&◌, nat_le, List, Option, None, Some, Result, Err, length, take, drop, refl, sym, ap, ◌∙◌, arith, codes, bytes_eq, length-take, lit≤, option_map, le-leb}
 use Rattle.std.specs.Option.{ok_or}
 use Rattle.std.proofs.Math.Bool.{and-false}
@@ -16,7 +16,7 @@ use Rattle.riff.specs.declared.head.Head.{Head}
 use Rattle.riff.specs.Found.{HasHead, IsAhead}
 use Rattle.riff.specs.Form.{IsLaid}
 
--- the twelve bytes at the front decide the form
+-- the first twelve bytes determine the form
 module _ (file : List ℕ) (enough : 12 ≤ length file) where
   long : nat_le 12 (length file) ≡ true
   long = grind (arith, nat_tests)
@@ -49,7 +49,7 @@ pub rf64_told : (file form : List ℕ) → IsAhead file 0 form → length form �
 rf64_told file form ahead twelve =
     sym (is_rf64-take file (omega (arith, ahead.inside))) ∙ ap is_rf64 (sym (front_read file form ahead twelve))
 
--- the layout decides
+-- a file without a layout is refused
 no_layout : (file : List ℕ) (fault : SoundFault) → layout_of file ≡ Err fault → walked file ≡ Err fault
 no_layout file fault none =
     ap (λ (layout : Result Layout SoundFault). layout >>= λ l. checked_chunks (length file) (chunks_in file l)) none
@@ -86,7 +86,7 @@ rf64_laid file end left ds64 head riff rf64 found is_head rest =
       left_is = rest ∙ place ∙ ap (λ n. end - (20 + (n + n % 2))) size;
     }
 
--- a `ds64` that is there, and inside the file
+-- a `ds64` chunk that exists and fits the file
 pub sizes_there : (file fields : List ℕ) (head : Head) → HasHead file 12 head → head.id ≡ codes "ds64"
     → head.size ≤ length file - 20 → 20 ≤ length file → IsAhead file 20 fields → length fields ≡ 28
     → ds64_in file ≡ ds64_of fields head.size

@@ -1,4 +1,4 @@
--- An index of the table of `ds64`, entry by entry.
+-- Index of the `ds64` table, entry by entry.
 use Rattle.std.proofs.Common.{◌≡◌, ℕ, zero, suc, ◌+◌, ◌*◌, ◌<◌, Bool, true, false, ◌==◌, List, [], ◌∷◌, ◌++◌, Option, None, Some, option_map, is_some, if◌then◌else◌, take, drop, refl, sym, ap, subst, ◌∙◌, arith, bytes_eq, lit<, cond, eq-eqb}
 use Rattle.std.specs.Option.{option_or}
 use Rattle.std.specs.List.{find}
@@ -17,13 +17,13 @@ use Rattle.riff.specs.Sizes.{HasEntry, IsIndexed, entry_size}
 
 -- ---- ids and their numbers
 
--- the lowest byte, and the number of the others
+-- a number determines its lowest byte and the number of the other bytes
 digits : (a b c d : ℕ) → a < 256 → b < 256 → a + 256 * c ≡ b + 256 * d → (a ≡ b) × (c ≡ d)
 digits a b c d first second same =
     let low : a ≡ b = omega arith in
     (low, omega arith)
 
--- ids of one number are the same
+-- ids with equal numbers are equal
 same_id : (x y : List ℕ) → IsId x → IsId y → little_number 4 x ≡ little_number 4 y → x ≡ y
 same_id (a ∷ b ∷ c ∷ d ∷ []) (e ∷ f ∷ g ∷ h ∷ []) is_x is_y same =
     let one = digits a e _ _ (is_x.bytes 0 0 (lit< tt)) (is_y.bytes 0 0 (lit< tt)) same in
@@ -53,7 +53,7 @@ table_of-more (suc n) bytes =
     ∙ ap (λ (rest : List (List ℕ × ℕ)). first ∷ rest) (table_of-more n (drop 12 bytes)
     ∙ ap (λ (rest : List ℕ). table_of n (drop 12 bytes) ++ (take 4 rest, little_number 8 (drop 4 rest)) ∷ []) place)
 
--- the size in the first entry of an id
+-- size in the first entry with an id
 abbrev size_in : List ℕ → List (List ℕ × ℕ) → Option ℕ
 size_in id table = option_map (λ entry. entry.1) (find (λ entry. bytes_eq entry.0 id) table)
 
@@ -90,7 +90,7 @@ entry_size-more file n id entry same has is =
 
 -- ---- the index
 
--- what is found there after a size was put in
+-- result of a lookup after an insertion
 looked : (map next : BTreeMap ℕ ℕ) (key size q : ℕ) → Updates nat_cmp map next key (Some size)
     → get nat_cmp next q ≡ (if key == q then Some size else get nat_cmp map q)
 looked map next key size q put =
@@ -108,7 +108,7 @@ none_found : (x : Option ℕ) → is_some x ≡ false → x ≡ None
 none_found None none = refl
 none_found (Some n) none = cc
 
--- an id that is there already
+-- an entry whose id is already present
 pub index_kept : (file : List ℕ) (n : ℕ) (entry : Entry) (map : BTreeMap ℕ ℕ) → HasEntry file (48 + 12 * n) entry
     → IsId entry.id → IsIndexed file n map → is_some (get nat_cmp map (little_number 4 entry.id)) ≡ true
     → IsIndexed file (n + 1) map
@@ -122,7 +122,7 @@ index_kept file n entry map has is_entry before there id is = by_id (bytes_eq en
       ap is_some (sym (before id is)) ∙ subst (λ x. is_some (get nat_cmp map (little_number 4 x)) ≡ true) same there in
       before id is ∙ or-taken _ (Some entry.size) some ∙ sym (entry_size-more file n id entry true has this)
 
--- an id that is put in
+-- an entry whose id is inserted
 pub index_put : (file : List ℕ) (n : ℕ) (entry : Entry) (map next : BTreeMap ℕ ℕ)
     → HasEntry file (48 + 12 * n) entry → IsId entry.id → IsIndexed file n map
     → is_some (get nat_cmp map (little_number 4 entry.id)) ≡ false

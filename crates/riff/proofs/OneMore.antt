@@ -1,4 +1,4 @@
--- One more chunk behind those that were seen.
+-- One more chunk after the chunks already seen.
 use Rattle.std.proofs.Common.{◌≡◌, ℕ, ◌+◌, ◌<◌, ◌≤◌, Bool, true, false, ◌&&◌, ◌||◌, List, [], ◌∷◌, ◌++◌, Option, None, Some, Result, Ok, Err, OnErr, option_map, refl, sym, ap, subst, ◌∙◌, arith, codes, bytes_eq, is_some, if◌then◌else◌, nat_lt}
 use Rattle.std.proofs.lemmas.Bool.Decides.{nat_tests}
 use Rattle.std.specs.Option.{option_or}
@@ -15,7 +15,7 @@ use Rattle.sound_terms.specs.Walks.{chunk_fault, first_chunk_fault, span_of}
 use Rattle.riff.specs.declared.found.Found.{Found}
 use Rattle.riff.specs.Found.{IsFoundIn, chunk_at}
 
--- faults from the left, in two parts
+-- first fault of joined lists of chunks
 pub first_chunk_fault-append : (end : ℕ) (before xs ys : List Chunk)
     → first_chunk_fault end before (xs ++ ys) ≡ option_or (first_chunk_fault end before xs) (first_chunk_fault end (before ++ xs) ys)
 first_chunk_fault-append end before [] ys = rw append-nil
@@ -29,7 +29,7 @@ first_chunk_fault-append end before (x ∷ xs) ys =
       by_fault None none rest = rw none (rest ∙ rw append_assoc)
       by_fault (Some fault) some rest = rw some
 
--- other chunks, in two parts
+-- other chunks in joined lists
 pub has_others-append : (before xs ys : List Chunk)
     → has_others before (xs ++ ys) ≡ (has_others before xs || has_others (before ++ xs) ys)
 has_others-append before [] ys = rw append-nil
@@ -40,7 +40,7 @@ map-option_or : (a b : Option Chunk)
 map-option_or None b = refl
 map-option_or (Some chunk) b = refl
 
--- the first of an id, in two parts
+-- first chunk of an id in joined lists
 span-append : (id : List ℕ) (xs ys : List Chunk)
     → option_map span_of (first_of id (xs ++ ys))
     ≡ option_or (option_map span_of (first_of id xs)) (option_map span_of (first_of id ys))
@@ -58,7 +58,7 @@ fault-more : (end : ℕ) (chunks : List Chunk) (chunk : Chunk) → first_chunk_f
     → first_chunk_fault end [] (chunks ++ chunk ∷ []) ≡ chunk_fault end chunks chunk
 fault-more end chunks chunk none = rw (first_chunk_fault-append end [] chunks (chunk ∷ []), none) (fault-one end chunks chunk)
 
--- what is found in one more chunk that has no fault
+-- the state after one more chunk without a fault
 pub one_more : (end : ℕ) (chunks : List Chunk) (found : Found) (chunk : Chunk) (next : Found)
     → IsFoundIn end chunks found
     → chunk_fault end chunks chunk ≡ None
@@ -75,7 +75,7 @@ one_more end chunks found chunk next known fine format bext sound others = recor
   others = others ∙ rw (known.others, has_others-append [] chunks (chunk ∷ []));
 }
 
--- one of the three ids, where it was seen and where it wasn't
+-- the id is one of the three recognised ids
 abbrev pub IsCounted : List ℕ → Type 0
 IsCounted id = list_any (bytes_eq id) counted_ids ≡ true
 
@@ -95,7 +95,7 @@ fine_counted chunks id contents left counted inside = by_first (first_of id chun
       rw no
   by_first (Some chunk) some = rw (counted, some) (never _)
 
--- a chunk that counts and passes the end, behind chunks without a fault
+-- a recognised chunk that extends past the end, after chunks without a fault
 cut_at : (chunks : List Chunk) (id : List ℕ) (contents : Span) (left : ℕ) → IsCounted id
     → option_map span_of (first_of id chunks) ≡ None → left < contents.length
     → chunk_fault (contents.at + left) chunks (chunk_at id contents) ≡ Some Truncated
@@ -121,7 +121,7 @@ some-map : (first : Option Chunk) → is_some (option_map span_of first) ≡ is_
 some-map None = refl
 some-map (Some chunk) = refl
 
--- one that counts is another chunk where its id was seen
+-- a recognised chunk whose id was already seen counts as another chunk
 others_counted : (chunks : List Chunk) (id : List ℕ) (contents : Span) → IsCounted id
     → bytes_eq id (codes "JUNK") ≡ false
     → has_others chunks (chunk_at id contents ∷ []) ≡ is_some (option_map span_of (first_of id chunks))
@@ -135,7 +135,7 @@ pub none-or : (slot : Option Span) → slot ≡ option_or slot None
 none-or None = refl
 none-or (Some span) = refl
 
--- what is found in one more chunk that counts
+-- the state after one more recognised chunk
 counted_more : (own : List ℕ) (chunks : List Chunk) (found : Found) (id : List ℕ) (contents : Span) (left : ℕ)
     (taken : Bool) (next : Found) → IsCounted own → bytes_eq own (codes "JUNK") ≡ false
     → IsFoundIn (contents.at + left) chunks found → bytes_eq id own ≡ true
@@ -152,7 +152,7 @@ counted_more own chunks found id contents left taken next counted no_junk known 
     (one_more _ _ _ _ _ known (fine_counted chunks own contents left counted inside) format bext sound
     (others ∙ ap (λ b. found.others || b) (seen ∙ sym (others_counted chunks own contents counted no_junk))))
 
--- the slot of its id holds the first
+-- the slot of the id keeps its first chunk
 abbrev TakesFirst : List ℕ → (Found → Option Span) → (Option Span → Found → Found) → Type 0
 TakesFirst own slot_of with_slot =
     (chunks : List Chunk) (found : Found) (id : List ℕ) (contents : Span) (left : ℕ) (slot : Option Span) (taken : Bool)
@@ -177,7 +177,7 @@ sound_more chunks found id contents left slot taken known same first seen inside
     counted_more (codes "data") _ _ _ _ _ taken _ refl refl known same (seen ∙ ap is_some known.sound)
     (λ none. inside (known.sound ∙ none)) (none-or _) (none-or _) first refl
 
--- what holds anyway holds at an error
+-- a property that always holds also holds after an error
 pub OnErr_always : {T E : Type 0} (result : Result T E) {P : Type 0} → P → OnErr result P
 OnErr_always (Ok x) holds = tt
 OnErr_always (Err fault) holds = holds

@@ -1,4 +1,4 @@
--- Bytes that were read stand in the file.
+-- Bytes that were read are in the file.
 use Rattle.std.proofs.Common.{◌≡◌, ℕ, ◌+◌, ◌-◌, ◌≤◌, Bool, IsTrue, List, Option, Some, length, take, drop, sym, ap, subst, ◌∙◌, arith}
 use Rattle.std.proofs.lemmas.List.{drop-take, drop-drop, take-take, take_rest}
 use Rattle.facts.specs.Tests.{same_some}
@@ -13,7 +13,7 @@ use Rattle.riff.specs.declared.entry.Entry.{Entry}
 use Rattle.riff.specs.Found.{HasHead, IsAhead, IsWalked}
 use Rattle.riff.specs.Sizes.{HasEntry}
 
--- a range that was read of this file
+-- a range that was read from this file
 pub ranged : (stored : Option (List ℕ)) (file : List ℕ) (at : ℕ) (bytes : List ℕ) → IsRange stored at bytes
     → stored ≡ Some file
     → IsAhead file at bytes
@@ -24,7 +24,7 @@ ranged stored file at bytes range there =
       same = range.same ∙ ap (λ (f : List ℕ). take (length bytes) (drop at f)) same;
     }
 
--- some of the bytes that were read
+-- part of the bytes that were read
 pub ahead_at : (file : List ℕ) (at offset : ℕ) (bytes : List ℕ) → IsAhead file at bytes → offset ≤ length bytes
     → drop offset bytes ≡ take (length bytes - offset) (drop (at + offset) file)
 ahead_at file at offset bytes ahead within =
@@ -33,7 +33,7 @@ ahead_at file at offset bytes ahead within =
     ∙ drop-take offset (length bytes - offset) (drop at file)
     ∙ ap (take (length bytes - offset)) (drop-drop offset at file)
 
--- a number looks at no more than its bytes
+-- a number depends only on its bytes
 pub number_front : (n k : ℕ) (bytes : List ℕ) → n ≤ k → little_number n (take k bytes) ≡ little_number n bytes
 number_front n k bytes enough = little_from-take 0 n k bytes (omega arith)
 
@@ -43,7 +43,7 @@ number_ahead file at offset n bytes ahead within =
     ap (little_number n) (ahead_at file at offset bytes ahead (omega arith))
     ∙ number_front n (length bytes - offset) _ (omega arith)
 
--- an id and the number after it, in bytes that were read
+-- an id and the number after it, in the bytes that were read
 module _ (file : List ℕ) (at offset : ℕ) (bytes : List ℕ) (ahead : IsAhead file at bytes) where
   id_ahead : offset + 4 ≤ length bytes → take 4 (drop offset bytes) ≡ take 4 (drop (at + offset) file)
   id_ahead within =
@@ -56,7 +56,7 @@ module _ (file : List ℕ) (at offset : ℕ) (bytes : List ℕ) (ahead : IsAhead
       ap (little_number n) (drop-drop 4 offset bytes) ∙ number_ahead file at (offset + 4) n bytes ahead (omega arith)
       ∙ ap (λ k. number_at n k file) place
 
--- the head of a chunk in bytes that were read
+-- a chunk header in the bytes that were read
 pub head_ahead : (file : List ℕ) (at offset : ℕ) (bytes : List ℕ) (head : Head) → IsAhead file at bytes
     → offset + 8 ≤ length bytes
     → head.id ≡ take 4 (drop offset bytes) → head.size ≡ number_at 4 4 (drop offset bytes)
@@ -67,7 +67,7 @@ head_ahead file at offset bytes head ahead within id size = record {
   size = size ∙ size_ahead file at offset bytes ahead 4 (omega arith);
 }
 
--- the same of the bytes after some
+-- a chunk header after some of the bytes
 pub head_after : (file : List ℕ) (end first left : ℕ) (bytes : List ℕ) (head : Head) → IsAhead file (end - first) bytes
     → first - left + 8 ≤ length bytes → end - first + (first - left) ≡ end - left
     → head.id ≡ take 4 (take (length bytes - (first - left)) (drop (first - left) bytes))
@@ -79,14 +79,14 @@ head_after file end first left bytes head ahead within place id size =
     (head_ahead file (end - first) (first - left) bytes head ahead within (id ∙ ap (take 4) rest)
     (size ∙ ap (number_at 4 4) rest))
 
--- the same at the front
+-- a chunk header at the start of the bytes
 pub head_front : (file : List ℕ) (at : ℕ) (bytes : List ℕ) (head : Head) → IsAhead file at bytes → 8 ≤ length bytes
     → head.id ≡ take 4 bytes → head.size ≡ number_at 4 4 bytes → HasHead file at head
 head_front file at bytes head ahead enough id size =
     let none : at + 0 ≡ at = omega arith in
     subst (λ n. HasHead file n head) none (head_ahead file at 0 bytes head ahead (omega arith) id size)
 
--- an entry of the table in the bytes after some that were read
+-- a table entry after some of the bytes
 pub entry_after : (file : List ℕ) (at offset : ℕ) (bytes : List ℕ) (entry : Entry) → IsAhead file at bytes
     → offset + 12 ≤ length bytes
     → entry.id ≡ take 4 (take (length bytes - offset) (drop offset bytes))
@@ -99,14 +99,14 @@ entry_after file at offset bytes entry ahead within id size =
       size = size ∙ ap (number_at 8 4) rest ∙ size_ahead file at offset bytes ahead 8 (omega arith);
     }
 
--- what holds of the file as it is holds of it as it was, where nothing changed
+-- a property of the file now holds for the file before if nothing has changed
 pub still_holds : {old new : Files} {was is : Bool} {name : List ℕ} {P : List ℕ → Type 0} → new ≡ old → is ≡ was
     → (IsTrue is → (file : List ℕ) → new name ≡ Some file → P file)
     → IsTrue was → (file : List ℕ) → old name ≡ Some file → P file
 still_holds {name} same honest_same holds honest file there =
     holds (subst IsTrue (sym honest_same) honest) file (ap (λ (files : Files). files name) same ∙ there)
 
--- where no chunk was taken in, the chunks that are left begin with the head that was read
+-- if no chunk was added, the remaining chunks start with the header that was read
 pub next_head : {stored : Option (List ℕ)} {bytes : List ℕ} {sizes : Option Ds64} {end left rest : ℕ} {old new : Found}
     (file : List ℕ) → IsRange stored (end - left) bytes → stored ≡ Some file
     → (IsAhead file (end - left) bytes → IsWalked file sizes end left old → IsWalked file sizes end rest new)

@@ -1,4 +1,4 @@
--- Faults that a file is refused by.
+-- Errors that a file is refused with.
 use Rattle.std.proofs.Common.{◌≡◌, ℕ, Bool, true, false, List, Option, None, Err, MatchBool, refl, sym, ap, ◌∙◌}
 use Rattle.facts.specs.Tests.{unless}
 use Rattle.sound_terms.specs.declared.Ds64.{Ds64}
@@ -14,21 +14,21 @@ use Rattle.riff.specs.Fault.{number_of, fault_of, media_fault, as_media}
 use Rattle.riff.specs.Form.{IsRefused}
 use Rattle.riff.specs.Sizes.{TellsSize, head_size}
 
--- what holds anyway, and what follows where it isn't excused
+-- a consequence of an error also holds if the error may be excused
 follows : (b : Bool) (P Q : Type 0) → MatchBool b (Unit {0}) P → (P → Q) → MatchBool b (Unit {0}) Q
 follows true P Q told then = tt
 follows false P Q told then = then told
 
--- a read that failed
+-- a failed read
 pub refused_read : (file : List ℕ) (fault : ShelfFault) → (fault ≡ NotFound → ⊥) → IsRefused file (fault_of fault)
 refused_read file NotFound never = absurd (never refl)
 refused_read file Device never = tt
 
--- a file whose bytes are at fault
+-- a file with a fault in its bytes
 pub refused_sound : (file : List ℕ) (fault : SoundFault) → walked file ≡ Err fault → IsRefused file (media_fault fault)
 refused_sound file fault read = unless (is_excused (number_of (media_fault fault))) _ (ap as_media read)
 
--- a size that can't be told
+-- a missing size
 pub refused_size : (file : List ℕ) (sizes : Option Ds64) (head : Head) (fault : MediaFault)
     → TellsSize file sizes head (Err fault)
     → (head_size file sizes head ≡ None → walked file ≡ Err sound.BadDs64) → IsRefused file fault

@@ -1,4 +1,4 @@
--- The table of `ds64`, entry by entry.
+-- The `ds64` table, entry by entry.
 use Rattle.std.proofs.Common.{◌≡◌, ℕ, suc, ◌+◌, ◌-◌, ◌*◌, ◌≤◌, List, Option, Some, arith, true, false, take, drop, sym, ap, ◌∙◌, bytes_eq}
 use Rattle.std.specs.Option.{option_or}
 use Rattle.std.proofs.lemmas.List.{drop-drop}
@@ -6,7 +6,7 @@ use Rattle.byteorder.specs.Endian.{little_number}
 use Rattle.riff.specs.declared.entry.Entry.{Entry}
 use Rattle.riff.specs.Sizes.{HasEntry, entry_from, entry_size}
 
--- another id
+-- an entry with another id
 pub entry_missed : (file : List ℕ) (at next n rest : ℕ) (id : List ℕ) (entry : Entry) → HasEntry file at entry
     → bytes_eq entry.id id ≡ false → n ≡ suc rest → next ≡ at + 12
     → entry_from file at n id ≡ entry_from file next rest id
@@ -16,7 +16,7 @@ entry_missed file at next n rest id entry is_entry other more behind =
     let moved : drop 12 (drop at file) ≡ drop next file = drop-drop 12 at file ∙ ap (λ k. drop k file) (sym behind) in
     ap (λ k. entry_from file at k id) more ∙ rw (no, moved)
 
--- this id
+-- an entry with this id
 pub entry_met : (file : List ℕ) (at n rest : ℕ) (id : List ℕ) (entry : Entry) → HasEntry file at entry
     → bytes_eq entry.id id ≡ true → n ≡ suc rest → entry_from file at n id ≡ Some entry.size
 entry_met file at n rest id entry is_entry this more =
@@ -26,7 +26,7 @@ entry_met file at n rest id entry is_entry this more =
     ap (little_number 8) (drop-drop 4 at file) ∙ sym is_entry.size in
     ap (λ k. entry_from file at k id) more ∙ rw (yes, told)
 
--- a block of entries, behind those that were passed
+-- a block of entries after those already searched
 pub block_passed : (file : List ℕ) (entries done count : ℕ) (id : List ℕ) (size : Option ℕ) → count ≤ entries - done
     → entry_size file entries id ≡ entry_from file (48 + 12 * done) (entries - done) id
     → ((rest : ℕ) → entry_from file (48 + 12 * done) (count + rest) id

@@ -1,4 +1,4 @@
--- A walk from chunk to chunk reads what the whole list of chunks says.
+-- A walk from chunk to chunk gives the result for the whole list of chunks.
 use Rattle.std.proofs.Common.{◌≡◌, ℕ, zero, suc, ◌+◌, ◌-◌, ◌%◌, ◌<◌, ◌≤◌, Bool, true, false, nat_le, List, [], ◌∷◌, ◌++◌, Option, None, Some, Result, Err, length, take, drop, refl, sym, ap, subst, ◌∙◌, arith, length-append, length-drop, le-leb}
 use Rattle.std.proofs.lemmas.Bool.Decides.{nat_tests}
 use Rattle.std.proofs.lemmas.List.{append-nil, append_assoc, drop-drop, drop_all}
@@ -18,7 +18,7 @@ use Rattle.riff.specs.Walk.{chunk_count, heads_before}
 use Rattle.riff.specs.Sizes.{head_size}
 use Rattle.riff.proofs.OneMore.{first_chunk_fault-append}
 
--- the first chunk of bytes that hold its head, and those behind it
+-- the first chunk of bytes with a complete header, and the chunks after it
 chunks_from-step : (size_of : List ℕ → ℕ → Option ℕ) (fuel place : ℕ) (bytes : List ℕ) → 8 ≤ length bytes
     → chunks_from size_of (suc fuel) place bytes
     ≡ record { id = take 4 bytes; at = place + 8; size = size_of (take 4 bytes) (little_number 4 (drop 4 bytes)) }
@@ -27,18 +27,18 @@ chunks_from-step : (size_of : List ℕ → ℕ → Option ℕ) (fuel place : ℕ
 chunks_from-step size_of fuel place (a ∷ b ∷ c ∷ d ∷ e ∷ f ∷ g ∷ h ∷ rest) enough = refl
 chunks_from-step size_of fuel place _ enough = absurd (omega arith)
 
--- fewer bytes than a head have no chunk
+-- bytes shorter than a header have no chunk
 chunks_from-end : (size_of : List ℕ → ℕ → Option ℕ) (fuel place : ℕ) (bytes : List ℕ) → length bytes < 8
     → chunks_from size_of fuel place bytes ≡ []
 chunks_from-end size_of zero place bytes few = refl
 chunks_from-end size_of (suc fuel) place (a ∷ b ∷ c ∷ d ∷ e ∷ f ∷ g ∷ h ∷ rest) few = absurd (omega arith)
 chunks_from-end size_of (suc fuel) place _ few = refl
 
--- how many bytes are left behind a chunk of this size, of those behind its head
+-- number of bytes after a chunk of this size, from the number of bytes from its header on
 abbrev pub left_behind : ℕ → ℕ → ℕ
 left_behind left size = left - 8 - (size + size % 2)
 
--- what stands behind a chunk
+-- bytes after a chunk
 rest_at : (file : List ℕ) (end left size : ℕ) → length file ≡ end → left ≤ end → 8 ≤ left
     → drop (size + size % 2) (drop 8 (drop (end - left) file)) ≡ drop (end - left_behind left size) file
 rest_at file end left size whole within enough =
@@ -53,7 +53,7 @@ rest_at file end left size whole within enough =
           let past : left < 8 + (size + size % 2) = grind (arith, nat_tests) in
           drop_all _ file (omega arith) ∙ sym (drop_all _ file (omega arith))
 
--- the next chunk, which begins the last `left` bytes, and those behind it
+-- the next chunk, which starts the last `left` bytes, and the chunks after it
 next_chunks : (file : List ℕ) (sizes : Option Ds64) (end left : ℕ) (found : Found)
     (before : IsWalked file sizes end left found)
     (head : Head) (size : Option ℕ) → 8 ≤ left → HasHead file (end - left) head → head_size file sizes head ≡ size
@@ -93,7 +93,7 @@ next_chunks file sizes end left found before head size enough is_head told =
           ∙ ap (from head.id (end - left)) there in
           (fuel, some, all ∙ ap (λ chunks. before.before ++ chunks) step)
 
--- what the bytes of the file say
+-- result for the whole file
 walked_all : (file : List ℕ) (sizes : Option Ds64) (end left : ℕ) (found : Found)
     (before : IsWalked file sizes end left found)
     → walked file ≡ checked_chunks end (chunks_in file (layout_by file sizes))
@@ -102,7 +102,7 @@ walked_all file sizes end left found before =
     before.laid
     ∙ ap (λ n. checked_chunks n (chunks_in file (layout_by file sizes))) before.whole
 
--- the count of heads plays no part in what was found
+-- the number of headers does not affect the chunks found
 pub found_again : (end : ℕ) (chunks : List Chunk) (found : Found) (seen : ℕ) → IsFoundIn end chunks found
     → IsFoundIn end chunks (record found { seen = seen })
 found_again end chunks found seen known = record {
@@ -113,7 +113,7 @@ found_again end chunks found seen known = record {
   others = known.others;
 }
 
--- behind the head of the file no chunk was seen
+-- no chunk has been seen after the form header
 pub walked_start : (file : List ℕ) (sizes : Option Ds64) (end left : ℕ) (found : Found) → length file ≡ end
     → IsLaid file end sizes left → left + 12 ≤ end → IsFoundIn end [] found → found.seen ≡ heads_of sizes
     → IsWalked file sizes end left found
@@ -145,7 +145,7 @@ walked_start file sizes end left found whole laid enough nothing seen =
           let rest = laid.left_is in
           drop_all _ file (omega (arith, rest)) ∙ sym (drop_all _ file (omega (arith, rest)))
 
--- a chunk without a fault was seen; `rest` bytes are left behind it
+-- after a chunk without a fault, with `rest` bytes left
 pub walked_step : (file : List ℕ) (sizes : Option Ds64) (end left : ℕ) (found : Found)
     (before : IsWalked file sizes end left found)
     (head : Head) (contents : Span) (next : Found) (rest : ℕ) → 8 ≤ left → HasHead file (end - left) head
@@ -188,7 +188,7 @@ walked_step file sizes end left found before head contents next rest enough is_h
       counted = omega (arith, length-append before.before (chunk_at head.id contents ∷ []), before.counted, seen);
     }
 
--- a chunk that counts passes the end
+-- a recognised chunk that extends past the end
 pub walked_cut : (file : List ℕ) (sizes : Option Ds64) (end left : ℕ) (found : Found)
     (before : IsWalked file sizes end left found)
     (head : Head) (contents : Span) → 8 ≤ left → HasHead file (end - left) head
@@ -215,7 +215,7 @@ walked_cut file sizes end left found before head contents enough is_head told be
     ap (first_chunk_fault end []) all ∙ first_chunk_fault-append end [] seen behind ∙ rw cut in
     walked_all file sizes end left found before ∙ rw fault
 
--- a chunk whose size can't be told
+-- a chunk without a known size
 pub walked_unknown : (file : List ℕ) (sizes : Option Ds64) (end left : ℕ) (found : Found)
     (before : IsWalked file sizes end left found)
     (head : Head) → 8 ≤ left → HasHead file (end - left) head → head_size file sizes head ≡ None
@@ -241,7 +241,7 @@ walked_end file sizes end left found before few =
     let fine = before.seen.faultless in
     (all, walked_all file sizes end left found before ∙ rw (all, fine))
 
--- the heads in front, by the layout
+-- number of headers before the first chunk, by the layout
 heads_told : (file : List ℕ) (sizes : Option Ds64) → heads_before (layout_by file sizes) ≡ heads_of sizes
 heads_told file None = refl
 heads_told file (Some ds64) =
@@ -249,7 +249,7 @@ heads_told file (Some ds64) =
     le-leb 20 (layout_by file (Some ds64)).place (omega arith) in
     rw far
 
--- all heads were counted
+-- all headers are counted
 pub chunks_counted : (file : List ℕ) (sizes : Option Ds64) (end left : ℕ) (found : Found)
     (before : IsWalked file sizes end left found)
     → left < 8 → found.seen ≡ chunk_count file

@@ -1,4 +1,4 @@
--- Heads of chunks that are all zeros.
+-- Chunk headers of zero bytes.
 use Rattle.std.proofs.Common.{◌≡◌, ℕ, zero, suc, ◌+◌, ◌-◌, ◌*◌, ◌≤◌, ◌<◌, ◌||◌, ◌++◌, All, Bool, true, false, List, [], ◌∷◌, Option, None, Some, length, take, drop, replicate, length-drop, refl, sym, ap, subst, ◌∙◌, arith}
 use Rattle.std.proofs.lemmas.List.{drop-take, drop-drop, take-take, take-replicate, drop-replicate, replicate-append-replicate, length-take-le}
 use Rattle.std.proofs.Math.Seq.{take-add}
@@ -13,7 +13,7 @@ use Rattle.riff.proofs.OneMore.{never, one_more, none-or}
 use Rattle.riff.proofs.Reading.{ahead_at, number_front}
 use Rattle.riff.proofs.Walking.{found_again, walked_step}
 
--- fewer of them
+-- a smaller number of zero headers
 fewer_zeros : (file : List ℕ) (at count fewer : ℕ) → HasZeroHeads file at count → fewer ≤ count
     → HasZeroHeads file at fewer
 fewer_zeros file at count fewer has less = record {
@@ -22,7 +22,7 @@ fewer_zeros file at count fewer has less = record {
       ∙ take-replicate (8 * fewer) (8 * count) 0 (omega arith);
 }
 
--- zeros in bytes that were read
+-- zero headers in the bytes that were read
 pub zeros_ahead : (file : List ℕ) (at offset count : ℕ) (bytes : List ℕ) → IsAhead file at bytes
     → offset + 8 * count ≤ length bytes → take (8 * count) (drop offset bytes) ≡ replicate (8 * count) 0
     → HasZeroHeads file (at + offset) count
@@ -32,7 +32,7 @@ zeros_ahead file at offset count bytes ahead within zeros = record {
       ∙ ap (take (8 * count)) (sym (ahead_at file at offset bytes ahead (omega arith))) ∙ zeros;
 }
 
--- bytes that are all zero
+-- a list of zero bytes
 all_zeros : (bytes : List ℕ) → All (λ byte. byte ≡ 0) bytes → bytes ≡ replicate (length bytes) 0
 all_zeros [] all = refl
 all_zeros (byte ∷ bytes) all =
@@ -40,7 +40,7 @@ all_zeros (byte ∷ bytes) all =
     let rest : All (λ byte. byte ≡ 0) bytes = λ k d less. all (suc k) d (omega arith) in
     rw first (ap (λ xs. 0 ∷ xs) (all_zeros bytes rest))
 
--- zeros, and more behind them
+-- zero bytes followed by more zero bytes
 pub more_zeros : (bytes : List ℕ) (n m : ℕ) → take n bytes ≡ replicate n 0 → n + m ≤ length bytes
     → All (λ byte. byte ≡ 0) (take m (drop n bytes)) → take (n + m) bytes ≡ replicate (n + m) 0
 more_zeros bytes n m front within all =
@@ -49,7 +49,7 @@ more_zeros bytes n m front within all =
     take-add n m bytes ∙ ap (λ xs. xs ++ take m (drop n bytes)) front ∙ ap (λ xs. replicate n 0 ++ xs) rest
     ∙ replicate-append-replicate n m 0
 
--- one of them
+-- one of the zero headers
 zero_head_at : (file : List ℕ) (at count i : ℕ) → HasZeroHeads file at count → i < count
     → HasHead file (at + 8 * i) (record { id = 0 ∷ 0 ∷ 0 ∷ 0 ∷ []; size = 0 })
 zero_head_at file at count i has inside =
@@ -74,7 +74,7 @@ or_true : (b : Bool) → true ≡ (b || true)
 or_true true = refl
 or_true false = refl
 
--- a chunk of id 0 and size 0 is one that doesn't count
+-- a chunk of id 0 and size 0 counts as another chunk
 zero_more : (end at : ℕ) (chunks : List Chunk) (found : Found) → IsFoundIn end chunks found
     → IsFoundIn end (chunks ++ chunk_at (0 ∷ 0 ∷ 0 ∷ 0 ∷ []) (record { at = at; length = 0 }) ∷ [])
     (record found { others = true })
@@ -86,7 +86,7 @@ zero_size : (file : List ℕ) (sizes : Option Ds64)
 zero_size file None = refl
 zero_size file (Some ds64) = refl
 
--- one of them was seen
+-- after one zero header
 walked_zero : (file : List ℕ) (sizes : Option Ds64) (end left : ℕ) (found : Found)
     → IsWalked file sizes end left found → 8 ≤ left
     → HasHead file (end - left) (record { id = 0 ∷ 0 ∷ 0 ∷ 0 ∷ []; size = 0 })
@@ -96,7 +96,7 @@ walked_zero file sizes end left found before enough is_head =
     walked_step file sizes end left found before _ contents _ (left - 8) enough is_head (zero_size file sizes) refl
     (λ known. found_again _ _ _ _ (zero_more _ _ before.before found known)) refl (omega arith)
 
--- and all of them
+-- after all zero headers
 walked_zeros : (file : List ℕ) (sizes : Option Ds64) (end left count : ℕ) (found : Found)
     → IsWalked file sizes end left found → 8 * suc count ≤ left → HasZeroHeads file (end - left) (suc count)
     → IsWalked file sizes end (left - 8 * suc count) (record found { others = true; seen = found.seen + suc count })

@@ -1,7 +1,7 @@
--- How many channels a file may have.
+-- Number of channels of a file.
 use Rattle.std.specs.Prelude.{◌≤◌}
 use Rattle.sound_terms.specs.declared.Format.{Format}
 
--- 1 to 64
+-- the format has 1 to 64 channels
 abbrev pub HasFewChannels : Format → Type 0
 HasFewChannels format = (1 ≤ format.channels) × (format.channels ≤ 64)

@@ -1,4 +1,4 @@
-// The entries of the table of `ds64` (EBU Tech 3306).
+// Entries of the `ds64` table (EBU Tech 3306).
 ghost use Rattle.std.specs.Prelude.{◌≡◌, ◌≤◌, ◌+◌, ◌*◌, ℕ, List, Some, IfOk, IsTrue, length, take};
 ghost use Rattle.devices.specs.Fault.{IsThere};
 ghost use Rattle.devices.specs.Frame.{OnlyReads};
@@ -10,26 +10,26 @@ ghost use Rattle.riff.specs.Ids.{IsId};
 use byteorder::{ByteOrder, LittleEndian};
 use devices::{Shelf, ShelfFault};
 
-/// Where the table of `ds64` begins: after the head of the form, that of `ds64` and its 28 bytes of fields.
+/// The offset of the `ds64` table: after the form header, the header of `ds64` and its 28 bytes of fields.
 const TABLE: u64 = 48;
 
-/// The bytes of an entry: the id of a chunk, and its size.
+/// The length of an entry: a chunk id and its size.
 pub const ENTRY_LENGTH: usize = 12;
 
-/// How many entries are read at once.
+/// The maximum number of entries per read.
 const BLOCK: u32 = 341;
 
-/// How many bytes so many entries have.
+/// The number of bytes of a full read.
 pub const BLOCK_LENGTH: usize = 4092;
 
-/// An entry of the table of `ds64`: the size of the chunks of this id.
+/// An entry of the `ds64` table: the size of the chunks with this id.
 #[derive(Clone, Copy)]
 pub struct Entry {
     pub id: [u8; 4],
     pub size: u64,
 }
 
-/// Entries of the table, one after the other.
+/// Consecutive entries of the table.
 #[derive(Clone, Copy)]
 pub struct Entries<'a> {
     pub bytes: &'a [u8],
@@ -38,7 +38,7 @@ pub struct Entries<'a> {
 }
 
 impl Entry {
-    /// The entry that these bytes begin with.
+    /// Decodes the entry at the start of the bytes.
     pub fn of(bytes: &[u8]) -> Entry
         requires { 12 ≤ length bytes.now }
         ensures id { result.id ≡ take 4 bytes.now }
@@ -51,7 +51,7 @@ impl Entry {
     }
 }
 
-/// Reads the entries after the first `done` of the table, where so many follow: as many as are read at once.
+/// Reads the entries after the first `done` entries of the table, at most one block of the `left` remaining ones.
 pub fn read_entries<'a, S: Shelf>(
     shelf: &mut S,
     name: &str,
@@ -73,7 +73,7 @@ pub fn read_entries<'a, S: Shelf>(
     Ok(Entries { bytes, count })
 }
 
-/// The number that stands for an id.
+/// Returns an id as a number, to be used as a map key.
 pub fn key_of(id: &[u8; 4]) -> u32
     ensures key { result ≡ little_number 4 id.now }
     ensures is_id { IsId id.now }

@@ -1,4 +1,4 @@
-// Why a sound file was refused.
+// Errors of reading sound files.
 ghost use Rattle.std.specs.Prelude.{◌≡◌};
 ghost use Rattle.riff.specs.Fault.{number_of, fault_of, media_fault};
 
@@ -6,43 +6,43 @@ use devices::ShelfFault;
 use sound_terms::SoundFault;
 use thiserror::Error;
 
-/// Why a sound file was refused.
+/// The reason why a sound file is refused.
 #[derive(Clone, Copy, Debug, PartialEq, Eq, Error)]
 pub enum MediaFault {
-    /// No file has the name.
+    /// The file doesn't exist.
     #[error("there is no such file")]
     NotFound,
-    /// The device failed, which it counts.
+    /// A device failure, which the shelf has counted.
     #[error("the device failed")]
     Device,
-    /// The file doesn't begin as a RIFF or RF64 file of form WAVE.
+    /// The file doesn't start with a RIFF or RF64 header of the form WAVE.
     #[error("it is no WAVE file")]
     NotWave,
-    /// No chunk `fmt ` stands in the file.
+    /// The file has no `fmt ` chunk.
     #[error("it has no `fmt ` chunk")]
     NoFormat,
-    /// No chunk `data` stands in the file.
+    /// The file has no `data` chunk.
     #[error("it has no `data` chunk")]
     NoData,
-    /// A chunk that counts passes the end of the file.
+    /// A `fmt `, `bext` or `data` chunk extends past the end of the file.
     #[error("it is cut short")]
     Truncated,
-    /// The samples are no PCM of a depth and of channels that are read.
+    /// The samples aren't PCM of a supported depth and number of channels.
     #[error("its format is not supported")]
     BadFormat,
-    /// The chunk `ds64` of RF64 is missing or broken, or doesn't tell a size that it has to.
+    /// The `ds64` chunk of RF64 is missing or malformed, or lacks a required size.
     #[error("its `ds64` chunk is missing or broken")]
     BadDs64,
-    /// The samples don't run at 48000 a second.
+    /// The sample rate isn't 48,000 Hz.
     #[error("its sample rate is not 48000")]
     WrongRate,
-    /// No memory was left.
+    /// Out of memory.
     #[error("out of memory")]
     Memory,
 }
 
 impl MediaFault {
-    /// The number of the refusal: 21 to 29, or 31.
+    /// Returns the number of the refusal: 21 to 29, or 31.
     pub fn number(&self) -> u8
         ensures { result ≡ number_of self.now }
     {

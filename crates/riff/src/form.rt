@@ -1,4 +1,4 @@
-// The head of a sound file: RIFF, or RF64 with the chunk `ds64` (EBU Tech 3306).
+// Header of a sound file: RIFF, or RF64 with its `ds64` chunk (EBU Tech 3306).
 ghost use Rattle.std.specs.Prelude.{◌≡◌, ◌≤◌, ◌+◌, ◌*◌, ◌↔◌, ℕ, List, Some, true, false, codes, length, IsTrue, IfOk, IsErrOf};
 ghost use Rattle.sound_terms.specs.Walks.{is_riff, is_rf64};
 ghost use Rattle.devices.specs.Fault.{IsThere};
@@ -12,13 +12,13 @@ use devices::{Shelf, ShelfFault};
 use rf64::read_ds64;
 use sound_terms::Ds64;
 
-/// The bytes of a form's head: `RIFF` or `RF64`, a size that isn't used, and `WAVE`.
+/// The length of a form header: `RIFF` or `RF64`, a size that is ignored, and `WAVE`.
 const FORM_LENGTH: u64 = 12;
 
-/// The bytes of `ds64` in front of its table.
+/// The length of `ds64` without its table.
 const DS64_LENGTH: u32 = 28;
 
-/// The sizes that RF64 tells, none in RIFF; and how many bytes are left behind the head of the form and `ds64`.
+/// The layout of a file: the fields of `ds64` (none in RIFF), and the number of bytes after the form header and `ds64`.
 #[derive(Clone, Copy)]
 pub struct Form {
     pub sizes: Option<Ds64>,
@@ -26,7 +26,7 @@ pub struct Form {
 }
 
 impl Form {
-    /// The heads of chunks in front: that of `ds64` in RF64.
+    /// Returns the number of chunk headers before the first chunk: 1 in RF64, for `ds64`.
     pub fn heads(&self) -> u64
         ensures { result ≡ heads_of self.now.sizes }
     {
@@ -37,21 +37,21 @@ impl Form {
     }
 }
 
-/// Whether a file begins as RIFF of the form WAVE.
+/// Returns true if the file starts as RIFF of the form WAVE.
 fn is_riff(form: &[u8; 12]) -> bool
     ensures { result ≡ is_riff form.now }
 {
     form.starts_with(b"RIFF") && form.ends_with(b"WAVE")
 }
 
-/// Whether a file begins as RF64 of the form WAVE.
+/// Returns true if the file starts as RF64 of the form WAVE.
 fn is_rf64(form: &[u8; 12]) -> bool
     ensures { result ≡ is_rf64 form.now }
 {
     form.starts_with(b"RF64") && form.ends_with(b"WAVE")
 }
 
-/// Reads the head of the chunk at this place.
+/// Reads the chunk header at this offset.
 fn head_at<S: Shelf>(shelf: &mut S, name: &str, at: u64) -> Result<Head, ShelfFault>
     ensures head { IsTrue (S.honest shelf.old) → (file : List ℕ) → S.stored shelf.old name.now ≡ Some file
         → IfOk result (HasHead file at) }
@@ -64,14 +64,14 @@ fn head_at<S: Shelf>(shelf: &mut S, name: &str, at: u64) -> Result<Head, ShelfFa
     Ok(Head::of(&bytes))
 }
 
-/// Whether this is the head of a `ds64` that holds its fields, where so many bytes of the file are left behind it.
+/// Returns true if this is the header of a `ds64` chunk that has all its fields and fits the `left` bytes after it.
 fn holds_fields(head: &Head, left: u64) -> bool
     ensures { IsTrue result ↔ ((head.now.id ≡ codes "ds64") × (head.now.size ≤ left) × (28 ≤ head.now.size)) }
 {
     head.id == *b"ds64" && u64::from(head.size) <= left && head.size >= DS64_LENGTH
 }
 
-/// Reads the `ds64` of an RF64 file of so many bytes.
+/// Reads the `ds64` chunk of an RF64 file of length `end`.
 fn read_sizes<S: Shelf>(shelf: &mut S, name: &str, end: u64) -> Result<Form, MediaFault>
     ensures opens { IsTrue (S.honest shelf.old) → (file : List ℕ) → S.stored shelf.old name.now ≡ Some file
         → length file ≡ end
@@ -99,7 +99,7 @@ fn read_sizes<S: Shelf>(shelf: &mut S, name: &str, end: u64) -> Result<Form, Med
     })
 }
 
-/// Reads the head of a file of so many bytes, and in RF64 its `ds64`.
+/// Reads the form header of a file of length `end`, and the `ds64` chunk of RF64.
 pub fn read_form<S: Shelf>(shelf: &mut S, name: &str, end: u64) -> Result<Form, MediaFault>
     ensures opens { IsTrue (S.honest shelf.old) → (file : List ℕ) → S.stored shelf.old name.now ≡ Some file
         → length file ≡ end → OpensAs file end result }

@@ -1,4 +1,4 @@
-// What counts among the chunks of a file.
+// Chunks found by a walk.
 ghost use Rattle.std.specs.Prelude.{◌≡◌, ◌≤◌, ◌<◌, ◌+◌, ◌*◌, ◌-◌, ◌^◌, ◌++◌, ℕ, List, [], ◌∷◌, Option, Some, None, is_some, IfOk, IfErr, OnOk, OnErr};
 ghost use Rattle.std.specs.Option.{option_or};
 ghost use Rattle.sound_terms.specs.Chunks.{Chunk};
@@ -9,7 +9,7 @@ ghost use Rattle.riff.specs.Found.{IsFoundIn, IsWalked, WalksOn, HasHead, HasZer
 use crate::head::{HEAD_LENGTH, Head};
 use sound_terms::{Chunks, SoundFault, Span};
 
-/// What counts among the chunks seen so far, the first of each id, and how many heads were seen.
+/// The recognised chunks found so far, the first of each id, and the number of chunk headers seen.
 #[derive(Clone, Copy)]
 pub struct Found {
     pub format: Option<Span>,
@@ -20,7 +20,7 @@ pub struct Found {
 }
 
 impl Found {
-    /// Where no chunk was seen but for so many heads in front.
+    /// Creates the state before the first chunk, after `seen` headers.
     pub fn nothing(seen: u64) -> Found
         ensures found { (end : ℕ) → IsFoundIn end [] result }
         ensures ends { (end : ℕ) → EndsInside end result }
@@ -35,8 +35,8 @@ impl Found {
         }
     }
 
-    /// Takes in the next chunk, where so many bytes of the file are left behind its head. `Truncated` where the
-    /// chunk counts and its contents are longer.
+    /// Adds a chunk that has `left` bytes of the file after its header. Returns `Truncated` if the chunk is recognised
+    /// and longer than that.
     fn add(&mut self, id: [u8; 4], contents: Span, left: u64) -> Result<(), SoundFault>
         ensures added { (chunks : List Chunk) → IsFoundIn (contents.at + left) chunks self.old
             → OnOk result (IsFoundIn (contents.at + left) (chunks ++ chunk_at id contents ∷ []) self.new) }
@@ -60,8 +60,8 @@ impl Found {
         Ok(())
     }
 
-    /// Takes in the chunk of this head and size, whose head begins the last `left` bytes of the file, and answers how
-    /// many bytes are left behind it and its pad.
+    /// Adds the chunk whose header starts the last `left` bytes of a file of length `end`. Returns the number of bytes
+    /// after the chunk and its pad byte.
     pub fn take_in(
         &mut self,
         head: &Head,
@@ -87,8 +87,8 @@ impl Found {
         Ok(rest.saturating_sub(size).saturating_sub(size % 2))
     }
 
-    /// Takes in so many chunks of id 0 and size 0, one right after the other, whose heads begin the last `left` bytes of
-    /// the file, and answers how many bytes remain after them.
+    /// Adds `count` consecutive chunk headers of id 0 and size 0, which start the last `left` bytes of the file.
+    /// Returns the number of bytes after them.
     pub fn take_in_zeros(&mut self, count: u64, end: u64, left: u64) -> u64
         requires some { 0 < count }
         requires room { 8 * count ≤ left }
@@ -103,7 +103,7 @@ impl Found {
         left - HEAD_LENGTH * count
     }
 
-    /// The chunks that count, where `fmt ` and `data` were seen.
+    /// Returns the recognised chunks, or an error if `fmt ` or `data` is missing.
     pub fn chunks(self) -> Result<Chunks, SoundFault>
         ensures exact { (end : ℕ) (chunks : List Chunk) → IsFoundIn end chunks self → result ≡ found_in chunks }
         ensures ends { (end : ℕ) → EndsInside end self → IfOk result (EndInside end) }
@@ -119,8 +119,8 @@ impl Found {
     }
 }
 
-/// Puts the contents in an empty slot, and tells whether the slot was taken before. `Truncated` where they are put
-/// there and pass the bytes that are left.
+/// Stores the contents in an empty slot, and returns true if the slot was taken. Returns `Truncated` if the contents
+/// were to be stored and exceed the bytes left.
 fn claim(slot: &mut Option<Span>, contents: Span, left: u64) -> Result<bool, SoundFault>
     ensures first { OnOk result (slot.new ≡ option_or slot.old (Some contents)) }
     ensures taken { IfOk result (λ taken. taken ≡ is_some slot.old) }

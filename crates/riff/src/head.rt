@@ -1,13 +1,13 @@
-// The head of a chunk.
+// Chunk headers.
 ghost use Rattle.std.specs.Prelude.{◌≡◌, ◌≤◌, ◌+◌, ◌%◌, length, take};
 ghost use Rattle.sound_terms.specs.Chunks.{number_at};
 
 use byteorder::{ByteOrder, LittleEndian};
 
-/// The bytes of a chunk's head: its id and its size.
+/// The length of a chunk header: id and size.
 pub const HEAD_LENGTH: u64 = 8;
 
-/// The head of a chunk: its id, and its size as it stands.
+/// A chunk header: the id, and the size field as stored.
 #[derive(Clone, Copy)]
 pub struct Head {
     pub id: [u8; 4],
@@ -15,7 +15,7 @@ pub struct Head {
 }
 
 impl Head {
-    /// The head that these bytes begin with.
+    /// Decodes the header at the start of the bytes.
     pub fn of(bytes: &[u8]) -> Head
         requires { 8 ≤ length bytes.now }
         ensures id { result.id ≡ take 4 bytes.now }

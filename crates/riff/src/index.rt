@@ -1,4 +1,4 @@
-// An index of the table of `ds64` (EBU Tech 3306).
+// Index of the `ds64` table (EBU Tech 3306).
 ghost use Rattle.std.specs.Prelude.{◌≡◌, ◌+◌, ◌*◌, ℕ, List, Some, IsTrue, IfOk, IfErr, OnOk};
 ghost use Rattle.devices.specs.Frame.{OnlyReads};
 ghost use Rattle.riff.specs.Fault.{IsExcused};
@@ -12,10 +12,10 @@ use sound_terms::Ds64;
 use std::alloc::{AllocError, Global};
 use std::collections::BTreeMap;
 
-/// The sizes that a table tells, that of the first entry of each id, by the numbers of the ids.
+/// The sizes in a `ds64` table by chunk id (as a number); the first entry of each id counts.
 pub type Index = BTreeMap<u32, u64>;
 
-/// Takes in an entry, behind those that were taken in.
+/// Adds an entry after those already added.
 fn add_entry(index: &mut Index, entry: &Entry) -> Result<(), AllocError>
     ensures { (file : List ℕ) (n : ℕ) → HasEntry file (48 + 12 * n) entry.now → IsIndexed file n index.old
         → OnOk result (IsIndexed file (n + 1) index.new) }
@@ -27,7 +27,7 @@ fn add_entry(index: &mut Index, entry: &Entry) -> Result<(), AllocError>
     Ok(())
 }
 
-/// Takes in entries, behind those that were taken in.
+/// Adds entries after those already added.
 fn add_entries(index: &mut Index, entries: &Entries) -> Result<(), AllocError>
     ensures { (file : List ℕ) (n : ℕ) → IsAhead file (48 + 12 * n) entries.now.bytes.now → IsIndexed file n index.old
         → OnOk result (IsIndexed file (n + entries.now.count) index.new) }
@@ -39,7 +39,7 @@ fn add_entries(index: &mut Index, entries: &Entries) -> Result<(), AllocError>
     Ok(())
 }
 
-/// How many entries the table has: none in RIFF.
+/// Returns the number of entries of the table: 0 in RIFF.
 fn entries_of(sizes: &Option<Ds64>) -> u32
     ensures { result ≡ entries_of sizes.now }
 {
@@ -49,7 +49,7 @@ fn entries_of(sizes: &Option<Ds64>) -> u32
     }
 }
 
-/// Reads the table of `ds64`, in blocks. `Memory` where no memory was left.
+/// Reads the `ds64` table in blocks. Returns `Device` if a read fails, and `Memory` if out of memory.
 pub fn index_of<S: Shelf>(
     alloc: Global,
     shelf: &mut S,
@@ -74,7 +74,7 @@ pub fn index_of<S: Shelf>(
     Ok(index)
 }
 
-/// Takes in the entries of a block; `Memory` where no memory was left.
+/// Adds the entries of a block. Returns `Memory` if out of memory.
 fn add_block(index: &mut Index, block: &Entries) -> Result<(), MediaFault>
     ensures added { (file : List ℕ) (n : ℕ) → IsAhead file (48 + 12 * n) block.now.bytes.now → IsIndexed file n index.old
         → OnOk result (IsIndexed file (n + block.now.count) index.new) }

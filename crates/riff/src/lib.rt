@@ -1,5 +1,5 @@
-//! The chunks of RIFF WAVE and RF64 files (EBU Tech 3285, 3306), found without reading their samples, and their
-//! `fmt `.
+//! Chunks of RIFF WAVE and RF64 files (EBU Tech 3285, EBU Tech 3306), located without reading the samples, and the `fmt
+//! ` chunk.
 #![tactic(auto)]
 
 mod entry;

@@ -1,4 +1,4 @@
-// The contents of the chunk `fmt `.
+// Contents of the `fmt ` chunk.
 ghost use Rattle.std.specs.Prelude.{◌≡◌, ◌≤◌, ◌+◌, length, IfOk};
 ghost use Rattle.sound_terms.specs.Chunks.{number_at, stands_at};
 ghost use Rattle.sound_terms.specs.Formats.{depth_of, is_pcm, format_of};
@@ -9,13 +9,13 @@ use crate::MediaFault;
 use byteorder::{ByteOrder, LittleEndian};
 use sound_terms::{Depth, Format, SoundFault};
 
-/// The tag of linear PCM (RIFF WAVE, `WAVE_FORMAT_PCM`).
+/// The format tag of linear PCM (RIFF WAVE, `WAVE_FORMAT_PCM`).
 const PCM: u16 = 1;
 
-/// The tag of a format that its sub-format tells (`WAVE_FORMAT_EXTENSIBLE`).
+/// The format tag that refers to a sub-format (`WAVE_FORMAT_EXTENSIBLE`).
 const EXTENSIBLE: u16 = 0xfffe;
 
-/// The bytes of an extension with a sub-format.
+/// The length of an extension with a sub-format.
 const EXTENSION_LENGTH: u16 = 22;
 
 /// The sub-format of PCM (`KSDATAFORMAT_SUBTYPE_PCM`).
@@ -23,10 +23,10 @@ const PCM_SUB_FORMAT: [u8; 16] = [
     1, 0, 0, 0, 0, 0, 0x10, 0, 0x80, 0, 0, 0xaa, 0, 0x38, 0x9b, 0x71,
 ];
 
-/// The one sample rate that is read, in samples a second.
+/// The only supported sample rate, in samples per second.
 const SAMPLE_RATE: u32 = 48_000;
 
-/// The most channels of a file.
+/// The maximum number of channels of a file.
 const MOST_CHANNELS: u16 = 64;
 
 fn u16_at(bytes: &[u8], at: usize) -> u16
@@ -43,7 +43,7 @@ fn u32_at(bytes: &[u8], at: usize) -> u32
     LittleEndian::read_u32(&bytes[at..])
 }
 
-/// Whether the sub-format is that of PCM.
+/// Returns true if the sub-format is PCM.
 fn has_sub_format(bytes: &[u8]) -> bool
     requires { 24 ≤ length bytes.now }
     ensures { result ≡ stands_at PCM_SUB_FORMAT 24 bytes.now }
@@ -51,7 +51,7 @@ fn has_sub_format(bytes: &[u8]) -> bool
     bytes[24..].starts_with(&PCM_SUB_FORMAT)
 }
 
-/// Whether the format is PCM, by its tag or by its sub-format.
+/// Returns true if the format is PCM by its tag or its sub-format.
 fn is_pcm(bytes: &[u8]) -> bool
     requires { 16 ≤ length bytes.now }
     ensures { result ≡ is_pcm bytes.now }
@@ -65,7 +65,6 @@ fn is_pcm(bytes: &[u8]) -> bool
     }
 }
 
-/// The depth of so many bits a sample.
 fn depth_of(bits: u16) -> Option<Depth>
     ensures { result ≡ depth_of bits }
 {
@@ -77,10 +76,11 @@ fn depth_of(bits: u16) -> Option<Depth>
     }
 }
 
-/// The format that the contents of a chunk `fmt ` tell (RIFF WAVE): linear PCM, by its tag or by the sub-format of
-/// `WAVE_FORMAT_EXTENSIBLE`, of 1 to 64 channels, 16, 24 or 32 bits and 48000 samples a second, without bytes
-/// between the frames. `WrongRate` tells another rate of such samples, `BadFormat` all else, also fewer than 16
-/// bytes; bytes behind these aren't looked at.
+/// Parses the contents of a `fmt ` chunk (RIFF WAVE): linear PCM by its tag or by the sub-format of
+/// `WAVE_FORMAT_EXTENSIBLE`, with 1 to 64 channels of 16, 24 or 32 bits at 48,000 samples per second, and no padding in
+/// the sample frames. Bytes after the format are ignored.
+///
+/// Returns `WrongRate` if only the sample rate differs, and `BadFormat` for any other format or fewer than 16 bytes.
 pub fn read_fmt(bytes: &[u8]) -> Result<Format, MediaFault>
     ensures exact { result ≡ as_media (format_of bytes.now) }
     ensures channels { IfOk result HasFewChannels }

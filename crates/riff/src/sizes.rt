@@ -1,4 +1,4 @@
-// The sizes of chunks: as they stand, or as `ds64` tells them (EBU Tech 3306).
+// Sizes of chunks: from the chunk header or from `ds64` (EBU Tech 3306).
 ghost use Rattle.std.specs.Prelude.{◌≡◌, ◌+◌, ◌*◌, ℕ, List, Some, IsTrue, IfOk, IfSome, IsErrOf};
 ghost use Rattle.std.specs.Option.{option_or};
 ghost use Rattle.devices.specs.Fault.{IsThere};
@@ -13,10 +13,10 @@ use crate::index::Index;
 use devices::{Shelf, ShelfFault};
 use sound_terms::Ds64;
 
-/// The size that stands for one that `ds64` tells.
+/// The size field that refers to `ds64`.
 const IN_DS64: u32 = 0xffff_ffff;
 
-/// How many bytes the contents of a chunk have; or that one of so many entries of the table tells it, or none.
+/// The size of a chunk's contents: known, to be looked up in the given number of table entries, or missing.
 #[derive(Clone, Copy)]
 pub enum Size {
     Told(u64),
@@ -24,7 +24,7 @@ pub enum Size {
     Missing,
 }
 
-/// The size of the chunk of this head, by the index of the table where there is one.
+/// Returns the size of the chunk with this header, using the index of the table if there is one.
 pub fn size_of(sizes: &Option<Ds64>, index: &Option<Index>, head: &Head) -> Size
     ensures { (file : List ℕ) → IsIndexOf file sizes.now index.now → HasSize file sizes.now head.now result }
 {
@@ -40,7 +40,7 @@ pub fn size_of(sizes: &Option<Ds64>, index: &Option<Index>, head: &Head) -> Size
     }
 }
 
-/// The size in the first entry of an id, of so many, by their index where there is one.
+/// Returns the size in the first entry with this id, using the index of the table if there is one.
 fn size_in(entries: u32, index: &Option<Index>, id: &[u8; 4]) -> Size
     ensures { (file : List ℕ) → IfSome index.now (IsIndexed file entries)
         → HasEntrySize (entry_size file entries id.now) entries result }
@@ -54,7 +54,7 @@ fn size_in(entries: u32, index: &Option<Index>, id: &[u8; 4]) -> Size
     }
 }
 
-/// The size in the first entry of an id, of some entries.
+/// Returns the size in the first of these entries with this id.
 fn size_among(entries: &Entries, id: [u8; 4]) -> Option<u64>
     ensures { (file : List ℕ) (at rest : ℕ) → IsAhead file at entries.now.bytes.now
         → entry_from file at (entries.now.count + rest) id
@@ -69,7 +69,7 @@ fn size_among(entries: &Entries, id: [u8; 4]) -> Option<u64>
     None
 }
 
-/// Looks an id up in the table of so many entries, in blocks: the size in its first entry.
+/// Searches the table for an id, in blocks, and returns the size in the first entry.
 fn entry_of<S: Shelf>(
     shelf: &mut S,
     name: &str,
@@ -94,7 +94,8 @@ fn entry_of<S: Shelf>(
     Ok(None)
 }
 
-/// The size of the chunk of this head, looked up in the table where that tells it. `BadDs64` where it doesn't.
+/// Returns the size of the chunk with this header, searching the table if necessary. Returns `BadDs64` if the size is
+/// missing.
 pub fn told_size<S: Shelf>(
     shelf: &mut S,
     name: &str,

@@ -1,17 +1,17 @@
-// Heads of chunks that are all zeros, as a file has them that was laid out and never written to.
+// Chunk headers of zero bytes, found in files that were preallocated and never written.
 ghost use Rattle.std.specs.Prelude.{◌≡◌, ◌≤◌, ◌*◌, ◌↔◌, All, take, replicate, length, IsTrue};
 
 use crate::head::HEAD_LENGTH;
 
-/// How many bytes are looked at together.
+/// The number of bytes that are checked at once.
 const TOGETHER: usize = 512;
 
-/// How many heads of id 0 and size 0 these bytes begin with, in whole groups of 64.
+/// Returns the number of chunk headers of id 0 and size 0 at the start of the bytes, in multiples of 64.
 pub fn zero_heads(bytes: &[u8]) -> u64
     ensures within { 8 * result ≤ length bytes.now }
     ensures zeros { take (8 * result) bytes.now ≡ replicate (8 * result) 0 }
 {
-    // hardly any head is of zeros, and a group is long
+    // few headers are zero, and a group is long
     if bytes.is_empty() || bytes[0] != 0 {
         return 0;
     }
@@ -24,7 +24,7 @@ pub fn zero_heads(bytes: &[u8]) -> u64
     groups as u64 * (TOGETHER as u64 / HEAD_LENGTH)
 }
 
-/// Whether all bytes are zero. The loop has no other way out, so that it takes many bytes at a time.
+/// Returns true if all bytes are zero. The loop has no early exit, so that it can be vectorised.
 fn are_zeros(bytes: &[u8]) -> bool
     ensures { IsTrue result ↔ All (λ byte. byte ≡ 0) bytes.now }
 {
