@@ -1,4 +1,4 @@
--- Chunks of RIFF WAVE and RF64 (EBU Tech 3306), and the required chunks. Numbers are little endian.
+-- Chunks of RIFF WAVE and RF64 (EBU Tech 3306), and the recognised chunks. Numbers are little endian.
 use Rattle.std.specs.Prelude.{ℕ, zero, suc, ◌+◌, ◌%◌, ◌&&◌, ◌||◌, nat_eq, Bool, false, not, List, [], ◌∷◌, ◌++◌, take, drop, Option, None, Some, is_some, find, bytes_eq, codes}
 use Rattle.std.specs.List.{list_any, starts_with}
 use Rattle.byteorder.specs.Endian.{little_number}
@@ -41,18 +41,18 @@ abbrev pub table_of : ℕ → List ℕ → List (List ℕ × ℕ)
 table_of zero bytes = []
 table_of (suc n) bytes = (take 4 bytes, number_at 8 4 bytes) ∷ table_of n (drop 12 bytes)
 
--- ids of the three required chunks; the first chunk with each id counts
+-- ids of the three recognised chunks; the first chunk with each id counts
 abbrev pub counted_ids : List (List ℕ)
 counted_ids = codes "fmt " ∷ codes "bext" ∷ codes "data" ∷ []
 
 abbrev pub first_of : List ℕ → List Chunk → Option Chunk
 first_of id chunks = find (λ chunk. bytes_eq chunk.id id) chunks
 
--- the chunk is not the first one of a required id; `before` are the chunks before it
+-- the chunk is not the first one of a recognised id; `before` are the chunks before it
 abbrev pub is_uncounted : List Chunk → Chunk → Bool
 is_uncounted before chunk = not (list_any (bytes_eq chunk.id) counted_ids) || is_some (first_of chunk.id before)
 
--- there is a chunk that is neither required nor JUNK
+-- there is a chunk that is neither recognised nor JUNK
 abbrev pub has_others : List Chunk → List Chunk → Bool
 has_others before [] = false
 has_others before (chunk ∷ chunks) =

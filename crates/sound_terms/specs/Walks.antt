@@ -1,4 +1,4 @@
--- The required chunks of a RIFF WAVE or RF64 file (EBU Tech 3306), or the first fault of the file. Faults in order: not
+-- The recognised chunks of a RIFF WAVE or RF64 file (EBU Tech 3306), or the first fault of the file. Faults in order: not
 -- WAVE, invalid `ds64`, each chunk from the start, no `fmt `, no `data`.
 use Rattle.std.specs.Prelude.{ℕ, ◌+◌, ◌&&◌, nat_lt, nat_le, Bool, not, List, [], ◌∷◌, ◌++◌, length, drop, Option, None, Some, Result, Ok, Err, if◌then◌else◌, option_map, unwrap_or, codes, find, ◌==◌, bytes_eq}
 use Rattle.std.specs.Option.{ok_or}
@@ -11,7 +11,7 @@ use Rattle.sound_terms.specs.Steps.{◌>>=◌}
 use Rattle.sound_terms.specs.Chunks.{Chunk, stands_at, padded, chunks_from, table_of, first_of, is_uncounted, has_others}
 use Rattle.sound_terms.specs.Ds64.{ds64_in, ds64_size}
 
--- fault of a chunk after the chunks in `before`: its size is unknown, or it is required and extends past the end of the
+-- fault of a chunk after the chunks in `before`: its size is unknown, or it is recognised and extends past the end of the
 -- file
 abbrev pub chunk_fault : ℕ → List Chunk → Chunk → Option SoundFault
 chunk_fault end before chunk = fault_by chunk.size where
@@ -33,7 +33,7 @@ first_chunk_fault end before (chunk ∷ chunks) =
 abbrev pub span_of : Chunk → Span
 span_of chunk = record { at = chunk.at; length = unwrap_or chunk.size 0 }
 
--- the required chunks among chunks without faults
+-- the recognised chunks among chunks without faults
 abbrev pub found_in : List Chunk → Result Chunks SoundFault
 found_in chunks = found (first_of (codes "fmt ") chunks) (first_of (codes "data") chunks) where
   found : Option Chunk → Option Chunk → Result Chunks SoundFault
@@ -46,7 +46,7 @@ found_in chunks = found (first_of (codes "fmt ") chunks) (first_of (codes "data"
     others = has_others [] chunks;
   })
 
--- the first fault of these chunks, or the required chunks
+-- the first fault of these chunks, or the recognised chunks
 abbrev pub checked_chunks : ℕ → List Chunk → Result Chunks SoundFault
 checked_chunks end chunks = checked (first_chunk_fault end [] chunks) where
   checked : Option SoundFault → Result Chunks SoundFault
@@ -95,6 +95,6 @@ layout_of file =
 abbrev pub chunks_in : List ℕ → Layout → List Chunk
 chunks_in file layout = chunks_from layout.size_of (length file) layout.place (drop layout.place file)
 
--- the required chunks of a file, or its first fault
+-- the recognised chunks of a file, or its first fault
 abbrev pub walked : List ℕ → Result Chunks SoundFault
 walked file = layout_of file >>= λ layout. checked_chunks (length file) (chunks_in file layout)

@@ -44,7 +44,7 @@ pub enum SoundFault {
     NoFormat,
     /// The file has no `data` chunk.
     NoData,
-    /// A required chunk extends past the end of the file.
+    /// A `fmt `, `bext` or `data` chunk extends past the end of the file.
     Truncated,
     /// The samples aren't PCM of a supported depth and number of channels.
     BadFormat,
@@ -116,7 +116,7 @@ pub struct Span {
     pub length: u64,
 }
 
-/// Positions of the contents (without headers) of the required chunks in a sound file (EBU Tech 3285, EBU Tech 3306).
+/// Positions of the contents (without headers) of the first `fmt `, `data` and `bext` chunk in a sound file (EBU Tech 3285, EBU Tech 3306).
 /// `others` is true if the file has chunks that aren't copied.
 #[derive(Clone, Copy, Debug, PartialEq, Eq)]
 pub struct Chunks {
