@@ -45,10 +45,12 @@ pub record State : Type 0 where
   pub bench_failures : ℕ
   pub ended : Option End
 
+-- the shared state and the hand of each worker
 pub record World : Type 0 where
   pub state : State
   pub hands : ℕ → Hand
 
+-- what a worker with this ticket holds, before or after making the bytes
 abbrev pub hand_of : Option Ticket → Bool → List ℕ → Hand
 hand_of None made bytes = Nothing
 hand_of (Some ticket) false bytes = Holds ticket
@@ -124,6 +126,7 @@ FaultStep old (Made ticket bytes) new now = (new ≡ after_fault old ticket) × 
 abbrev pub ReclaimStep : State → ℕ → State → Type 0
 ReclaimStep old k new = new ≡ cond (is_out (job_at old.board k).standing) (record old { board = reopened old.board k }) old
 
+-- the hands with one worker's hand replaced
 abbrev pub with_hand : (ℕ → Hand) → ℕ → Hand → ℕ → Hand
 with_hand hands w hand v = cond (v == w) hand (hands v)
 

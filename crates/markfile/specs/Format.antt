@@ -5,9 +5,11 @@ use Rattle.sound_terms.specs.Render.{Range}
 use Rattle.sound_terms.specs.Waves.{u16_bytes, u32_bytes, u64_bytes}
 use Rattle.markfile.specs.declared.run.RunId.{RunId}
 
+-- name of the rendered file
 abbrev pub sound_name : List ℕ
 sound_name = codes "render.wav"
 
+-- name of the file of marks
 abbrev pub marks_name : List ℕ
 marks_name = codes "render.marks"
 

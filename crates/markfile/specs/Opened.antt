@@ -12,6 +12,7 @@ use Rattle.markfile.specs.declared.fault.MarkFault.TheVariants as fault
 use Rattle.markfile.specs.Format.{AreMarksOf, is_marked, marks_name, sound_name}
 use Rattle.markfile.specs.Started.{is_started}
 
+-- the file exists and has this length
 abbrev pub has_length : ℕ → Option ℕ → Bool
 has_length n None = false
 has_length n (Some length) = length == n
@@ -39,6 +40,7 @@ marks_in run sound marks = if is_started (Some marks)
     then told marks (front_fault run (take 44 marks) (length marks) sound)
     else Ok None
 
+-- result of opening these marks, with the length of the rendered file
 abbrev pub opened_by : RunId → Option ℕ → Option (List ℕ) → Result (Option (List Bool)) MarkFault
 opened_by run sound None = Ok None
 opened_by run sound (Some marks) = marks_in run sound marks
@@ -62,6 +64,7 @@ abbrev pub IsSettledAs : Option (List ℕ) → Option (List ℕ) → Type 0
 IsSettledAs (Some file) left = left ≡ Some file
 IsSettledAs None left = IsEmptyOrAbsent left
 
+-- nothing is pending for either file
 pub record AreSettled (files c : Files) : Type 0 where
   pub sound : IsSettledAs (files sound_name) (c sound_name)
   pub marks : IsSettledAs (files marks_name) (c marks_name)

@@ -17,6 +17,7 @@ pub record IsLaid (file : List ℕ) (end : ℕ) (sizes : Option Ds64) (left : �
 abbrev pub IsRefused : List ℕ → MediaFault → Type 0
 IsRefused file fault = MatchBool (is_excused (number_of fault)) (Unit {0}) (as_media (walked file) ≡ Err fault)
 
+-- the form is read, or the file is refused
 abbrev pub OpensAs : List ℕ → ℕ → Result Form MediaFault → Type 0
 OpensAs file end (Ok form) = IsLaid file end form.sizes form.left
 OpensAs file end (Err fault) = IsRefused file fault

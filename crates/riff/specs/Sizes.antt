@@ -21,6 +21,7 @@ abbrev pub entry_from : List ℕ → ℕ → ℕ → List ℕ → Option ℕ
 entry_from file at entries id =
     option_map (λ entry. entry.1) (find (λ entry. bytes_eq entry.0 id) (table_of entries (drop at file)))
 
+-- size in the first table entry with this id
 abbrev pub entry_size : List ℕ → ℕ → List ℕ → Option ℕ
 entry_size file entries id = entry_from file 48 entries id
 

@@ -40,6 +40,7 @@ abbrev pub share_at : Reading → Stretch → Shape → ℕ → ℕ → ℤ
 share_at reading s shape i channel =
     share_of (reading s.file (s.first + (channel - s.dest)) (s.frame + (i - s.at))) (fraction_of shape (i - s.at))
 
+-- sums after adding a stretch with a shape
 abbrev pub sums_with : Reading → Stretch → Shape → (ℕ → ℕ → ℤ) → ℕ → ℕ → ℤ
 sums_with reading s shape sums i channel =
     if is_on s i channel then held (sums i channel +ℤ share_at reading s shape i channel) else sums i channel
@@ -67,6 +68,7 @@ executed reading channels (Fall stretch offset den) old =
 executed reading channels (Emit depth) old =
     record old { out = block_samples (bits_of depth) old.sums channels 0 old.frames }
 
+-- state of a block after a list of instructions
 abbrev pub executed_all : Reading → ℕ → List Instruction → BlockState → BlockState
 executed_all reading channels [] state = state
 executed_all reading channels (instruction ∷ program) state =
@@ -97,6 +99,7 @@ addition_of (Emit depth) = None
 abbrev pub block_length : ℕ
 block_length = 4096
 
+-- number of blocks of a range
 abbrev pub block_count : Range → ℕ
 block_count range = (((range.to - range.from) + block_length) - 1) / block_length
 

@@ -22,6 +22,7 @@ abbrev pub padded : Option ℕ → ℕ
 padded None = 0
 padded (Some size) = size + size % 2
 
+-- bytes after the contents of a chunk and their padding
 abbrev pub rest_behind : Option ℕ → List ℕ → List ℕ
 rest_behind None rest = []
 rest_behind (Some size) rest = drop (size + size % 2) rest
@@ -45,6 +46,7 @@ table_of (suc n) bytes = (take 4 bytes, number_at 8 4 bytes) ∷ table_of n (dro
 abbrev pub counted_ids : List (List ℕ)
 counted_ids = codes "fmt " ∷ codes "bext" ∷ codes "data" ∷ []
 
+-- the first chunk with this id
 abbrev pub first_of : List ℕ → List Chunk → Option Chunk
 first_of id chunks = find (λ chunk. bytes_eq chunk.id id) chunks
 

@@ -35,6 +35,7 @@ parts_of index event =
     ++ (stretch_of index event rise ((length - fall) - rise) Flat
     ++ stretch_of index event (length - fall) fall (Fall 0 fall))
 
+-- parts of an event, empty if its index is not bound
 abbrev pub parts_by : Option BoundIndex → Event → List Piece
 parts_by None event = []
 parts_by (Some index) event = parts_of index event
@@ -94,6 +95,7 @@ placed_by p group = record {
   fall = sum_by falling_in group;
 }
 
+-- event of a group, empty for an empty group
 abbrev pub event_of : List Piece → List Placed
 event_of [] = []
 event_of (p ∷ ps) = placed_by p (p ∷ ps) ∷ []

@@ -32,6 +32,7 @@ abbrev pub sum_of : Reading → List Piece → ℕ → ℕ → ℤ
 sum_of reading [] channel time = pos 0
 sum_of reading (p ∷ ps) channel time = part_of reading p channel time +ℤ sum_of reading ps channel time
 
+-- pieces of all groups, in order
 abbrev pub pieces_of : List (List Piece) → List Piece
 pieces_of groups = flat_map (λ group. group) groups
 
@@ -70,6 +71,7 @@ is_read p file channel frame =
     p.file == file && (nat_le p.first channel && (nat_lt channel (p.first + p.width)
     && (nat_le p.frame frame && nat_lt frame (p.frame + p.length))))
 
+-- some piece reads this sample frame of this channel and file
 abbrev pub reads : List (List Piece) → ℕ → ℕ → ℕ → Bool
 reads groups file channel frame = list_any (λ group. list_any (λ p. is_read p file channel frame) group) groups
 
@@ -79,9 +81,11 @@ is_whole_shape Flat n = true
 is_whole_shape (Rise offset den) n = offset == 0 && den == n
 is_whole_shape (Fall offset den) n = offset == 0 && den == n
 
+-- the piece is not part of a cut ramp
 abbrev pub is_whole : Piece → Bool
 is_whole p = is_whole_shape p.shape p.length
 
+-- no piece of the groups is part of a cut ramp
 abbrev pub are_whole : List (List Piece) → Bool
 are_whole groups = list_all (λ group. list_all is_whole group) groups
 
@@ -97,6 +101,7 @@ rank_of (Rise offset den) = 0
 rank_of Flat = 1
 rank_of (Fall offset den) = 2
 
+-- the later piece continues this one and comes later in the order of shapes
 abbrev pub may_follow : Piece → Piece → Bool
 may_follow p later = continues p later && nat_lt (rank_of p.shape) (rank_of later.shape)
 
@@ -112,6 +117,7 @@ IsRamp Flat n = ⊤
 IsRamp (Rise offset den) n = (offset + n ≤ den) × (den ≤ day)
 IsRamp (Fall offset den) n = (offset + n ≤ den) × (den ≤ day)
 
+-- limits of a piece
 pub record IsPiece (p : Piece) : Type 0 where
   pub wide : 1 ≤ p.width
   pub source_from_one : 1 ≤ p.first
@@ -133,6 +139,7 @@ abbrev pub RiseFrom : ℕ → List (List Piece) → Type 0
 RiseFrom low [] = ⊤
 RiseFrom low (group ∷ groups) = (low ≤ start_of group) × RiseFrom (start_of group) groups
 
+-- the groups are valid and sorted by start time
 pub record AreGroups (groups : List (List Piece)) : Type 0 where
   pub groups_ok : All IsGroup groups
   pub pieces_ok : All (All IsPiece) groups

@@ -25,6 +25,7 @@ pub record AreHomes (homes : List Home) : Type 0 where
       → a.position ≢ b.position
   pub in_day : (i : ℕ) (a : Home) → slice_get homes i ≡ Some a → 0 < a.addressable → a.base + a.addressable ≤ day
 
+-- the sample frame is kept, for groups with this handle and these home indexes
 abbrev pub kept_of : List (List Piece) → List Home → ℕ → ℕ → ℕ → Bool
 kept_of groups homes handle file frame = is_kept (pieces_of groups) (addressable_by homes) handle file frame
 

@@ -9,6 +9,7 @@ use Rattle.sound_terms.specs.Groups.{IsGroup, IsPiece, continues}
 use Rattle.sound_terms.specs.GroupLaws.{GoesOn, goes_on}
 use Rattle.sound_terms.specs.Passes.{is_flat, lengthened}
 
+-- a piece extended by the length of another
 abbrev pub longer : Piece → Piece → Piece
 longer p later = record p { length = p.length + later.length }
 

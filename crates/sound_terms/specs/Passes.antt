@@ -41,6 +41,7 @@ abbrev pub as_group : List Piece → List (List Piece)
 as_group [] = []
 as_group (p ∷ ps) = (p ∷ ps) ∷ []
 
+-- both parts of a group cut at this time
 abbrev pub cut_group : ℕ → List Piece → List (List Piece)
 cut_group time group = as_group (flat_map (piece_before time) group) ++ as_group (flat_map (piece_behind time) group)
 
@@ -59,6 +60,7 @@ without_silent (group ∷ groups) silent = if is_called (length group) silent
     then without_silent groups (drop (length group) silent)
     else group ∷ without_silent groups (drop (length group) silent)
 
+-- the first group merged, or unchanged and followed by `put` if there is no merge
 abbrev pub chosen : Option (List Piece) → List Piece → List (List Piece) → List (List Piece) → List (List Piece)
 chosen None group put rest = group ∷ put
 chosen (Some joined) group put rest = joined ∷ rest
@@ -68,6 +70,7 @@ abbrev pub put_to_first : (List Piece → Option (List Piece)) → List Piece �
 put_to_first takes own [] = own ∷ []
 put_to_first takes own (group ∷ groups) = chosen (takes group) group (put_to_first takes own groups) groups
 
+-- the shape is Flat
 abbrev pub is_flat : Shape → Bool
 is_flat Flat = true
 is_flat (Rise offset den) = false
@@ -87,6 +90,7 @@ put_joined groups (p ∷ []) =
     if is_flat p.shape then put_to_first (lengthened p) (p ∷ []) groups else groups ++ (p ∷ []) ∷ []
 put_joined groups (p ∷ q ∷ ps) = groups ++ (p ∷ q ∷ ps) ∷ []
 
+-- join pass: merges flat pieces that continue one another
 abbrev pub join_cuts : List (List Piece) → List (List Piece)
 join_cuts groups = fold put_joined [] groups
 
@@ -97,6 +101,7 @@ is_followed_by (p ∷ []) [] = false
 is_followed_by (p ∷ []) (q ∷ qs) = may_follow p q
 is_followed_by (p ∷ next ∷ ps) later = is_followed_by (next ∷ ps) later
 
+-- group with a later group appended, or None if it may not follow
 abbrev pub extended : List Piece → List Piece → Option (List Piece)
 extended later group = if is_followed_by group later then Some (group ++ later) else None
 
@@ -104,6 +109,7 @@ extended later group = if is_followed_by group later then Some (group ++ later) 
 abbrev pub put_grouped : List (List Piece) → List Piece → List (List Piece)
 put_grouped groups later = put_to_first (extended later) later groups
 
+-- regroup pass: appends each group to the first one that it may follow
 abbrev pub regroup : List (List Piece) → List (List Piece)
 regroup groups = fold put_grouped [] groups
 

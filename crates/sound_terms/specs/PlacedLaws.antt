@@ -23,9 +23,11 @@ ranks_rise p q follows = grind (arith, nat_tests)
 pub follows_on : (p q : Piece) → IsTrue (may_follow p q) → GoesOn p q
 follows_on p q follows = goes_on p q (and_parts (continues p q) (nat_lt (rank_of p.shape) (rank_of q.shape)) follows).0
 
+-- number of samples of a group in a fade-in
 abbrev rising : List Piece → ℕ
 rising group = sum_by rising_in group
 
+-- number of samples of a group in a fade-out
 abbrev falling : List Piece → ℕ
 falling group = sum_by falling_in group
 

@@ -1,5 +1,5 @@
--- The recognised chunks of a RIFF WAVE or RF64 file (EBU Tech 3306), or the first fault of the file. Faults in order: not
--- WAVE, invalid `ds64`, each chunk from the start, no `fmt `, no `data`.
+-- The recognised chunks of a RIFF WAVE or RF64 file (EBU Tech 3306), or its first fault. Faults in order: not WAVE,
+-- invalid `ds64`, each chunk from the start, no `fmt `, no `data`.
 use Rattle.std.specs.Prelude.{ℕ, ◌+◌, ◌&&◌, nat_lt, nat_le, Bool, not, List, [], ◌∷◌, ◌++◌, length, drop, Option, None, Some, Result, Ok, Err, if◌then◌else◌, option_map, unwrap_or, codes, find, ◌==◌, bytes_eq}
 use Rattle.std.specs.Option.{ok_or}
 use Rattle.sound_terms.specs.declared.Chunks.{Chunks}
@@ -11,8 +11,7 @@ use Rattle.sound_terms.specs.Steps.{◌>>=◌}
 use Rattle.sound_terms.specs.Chunks.{Chunk, stands_at, padded, chunks_from, table_of, first_of, is_uncounted, has_others}
 use Rattle.sound_terms.specs.Ds64.{ds64_in, ds64_size}
 
--- fault of a chunk after the chunks in `before`: its size is unknown, or it is recognised and extends past the end of the
--- file
+-- fault of a chunk after those in `before`: its size is unknown, or it is recognised and passes the end of the file
 abbrev pub chunk_fault : ℕ → List Chunk → Chunk → Option SoundFault
 chunk_fault end before chunk = fault_by chunk.size where
   fault_by : Option ℕ → Option SoundFault
@@ -57,6 +56,7 @@ checked_chunks end chunks = checked (first_chunk_fault end [] chunks) where
 abbrev pub is_riff : List ℕ → Bool
 is_riff file = nat_le 12 (length file) && (stands_at (codes "RIFF") 0 file && stands_at (codes "WAVE") 8 file)
 
+-- the file starts with the header of RF64 WAVE
 abbrev pub is_rf64 : List ℕ → Bool
 is_rf64 file = nat_le 12 (length file) && (stands_at (codes "RF64") 0 file && stands_at (codes "WAVE") 8 file)
 
@@ -76,9 +76,11 @@ pub record Layout : Type 0 where
   pub size_of : List ℕ → ℕ → Option ℕ
   pub place : ℕ
 
+-- layout of a RIFF file
 abbrev pub riff_layout : Layout
 riff_layout = record { size_of = as_it_stands; place = 12 }
 
+-- layout of an RF64 file with these fields of `ds64`
 abbrev pub rf64_layout : List ℕ → Ds64 → Layout
 rf64_layout file ds64 = record {
   size_of = size_in ds64.data_size (table_of ds64.entries (drop 48 file));

@@ -6,15 +6,19 @@ use Rattle.byteorder.specs.Endian.{little_bytes, little_number, low_bytes, twos_
 use Rattle.sound_terms.specs.declared.Depth.{Depth}
 use Rattle.sound_terms.specs.Depth.{bits_of}
 
+-- a number as two bytes
 unfoldable pub u16_bytes : ℕ → List ℕ
 u16_bytes n = little_bytes 2 n
 
+-- a number as four bytes
 unfoldable pub u32_bytes : ℕ → List ℕ
 u32_bytes n = little_bytes 4 n
 
+-- a number as eight bytes
 unfoldable pub u64_bytes : ℕ → List ℕ
 u64_bytes n = little_bytes 8 n
 
+-- n zero bytes
 unfoldable pub zeros : ℕ → List ℕ
 zeros n = replicate n 0
 
@@ -44,9 +48,11 @@ pub record SoundInfo : Type 0 where
   pub time_reference : ℕ
   pub history : List ℕ
 
+-- number of bytes per sample frame
 abbrev pub frame_bytes : SoundInfo → ℕ
 frame_bytes info = info.channels * (bits_of info.depth / 8)
 
+-- number of bytes of the samples
 abbrev pub data_size : SoundInfo → ℕ
 data_size info = info.frames * frame_bytes info
 
@@ -91,6 +97,7 @@ format_chunk info =
     chunk_head (codes "fmt ") 16 ++ (u16_bytes 1 ++ (u16_bytes info.channels ++ (u32_bytes 48000
     ++ (u32_bytes (48000 * frame_bytes info) ++ (u16_bytes (frame_bytes info) ++ u16_bytes (bits_of info.depth))))))
 
+-- header of the `data` chunk; in RF64 its size field refers to `ds64`
 abbrev pub data_head : SoundInfo → List ℕ
 data_head info = chunk_head (codes "data") (if is_large info then 4294967295 else data_size info)
 

@@ -116,8 +116,8 @@ pub struct Span {
     pub length: u64,
 }
 
-/// Positions of the contents (without headers) of the first `fmt `, `data` and `bext` chunk in a sound file (EBU Tech 3285, EBU Tech 3306).
-/// `others` is true if the file has chunks that aren't copied.
+/// Positions of the first `fmt `, `data` and `bext` chunk in a sound file, without their headers (EBU Tech 3285, EBU
+/// Tech 3306). `others` is true if the file has chunks that aren't copied.
 #[derive(Clone, Copy, Debug, PartialEq, Eq)]
 pub struct Chunks {
     pub format: Span,
