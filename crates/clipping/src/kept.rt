@@ -1,4 +1,4 @@
-// Fast twin of [`Clips::note`] for sums stored at a depth: the tally of a whole slice, equal to noting each sum at full
+// Fast twin of `Clips::note` for sums stored at a depth: the tally of a whole slice, equal to noting each sum at full
 // scale.
 ghost use Rattle.std.specs.Prelude.{◌≡◌, ◌↔◌, ◌-◌, ◌*◌, ◌/◌, ◌^◌, ◌<◌, ◌≤◌, ◌++◌, ◌∷◌, [], ℕ, ℤ, List, IsTrue, false, length};
 ghost use Rattle.std.specs.Int.{IsBitSet};

@@ -31,7 +31,7 @@ pub fn is_file_name(name: &str) -> bool
     !is_dots(name) && name.as_bytes().iter().all(|byte| is_file_name_byte(*byte))
 }
 
-/// Checks the name. Returns `ErrorKind::InvalidFilename` if no file directly inside a folder can have it.
+/// Checks the name. Returns an error of kind `InvalidFilename` if no file directly inside a folder can have it.
 pub fn require_file_name<'a>(name: &'a str) -> io::Result<FileName<'a>>
     ensures text { IfOk result (λ named. named.text.now ≡ name.entry.now) }
     ensures named { OnOk result (spec.is_file_name name.entry.now ≡ true) }

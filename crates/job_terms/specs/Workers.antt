@@ -70,7 +70,7 @@ after_fault old ticket = cond (is_current old.board ticket)
     })
     old
 
--- any job that can be issued is issued to the worker; nothing happens if there is none
+-- the worker gets any job that can be dispatched; nothing happens if there is none
 pub data GiveStep (old : State) (hand : Hand) (new : State) (now : Hand) : Type 0 where
   Gives : (k : ℕ) → hand ≡ Nothing → can_give old.board k ≡ true → new ≡ record old { board = given_out old.board k }
       → now ≡ Holds (ticket_of old.board k) → GiveStep old hand new now
@@ -122,7 +122,7 @@ FaultStep old Nothing new now = (new ≡ old) × (now ≡ Nothing)
 FaultStep old (Holds ticket) new now = (new ≡ after_fault old ticket) × (now ≡ Nothing)
 FaultStep old (Made ticket bytes) new now = (new ≡ after_fault old ticket) × (now ≡ Nothing)
 
--- an issued job is reopened, which makes its ticket stale
+-- a dispatched job is reopened, which makes its ticket stale
 abbrev pub ReclaimStep : State → ℕ → State → Type 0
 ReclaimStep old k new = new ≡ cond (is_out (job_at old.board k).standing) (record old { board = reopened old.board k }) old
 

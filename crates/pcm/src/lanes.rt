@@ -1,5 +1,5 @@
-// Fast twin of `word`, four samples at a time: equal to [`sample_at`](crate::word::sample_at), `write_twenty_four` and
-// a comparison with zero, sample by sample.
+// Fast twin of `word`, four samples at a time: equal to `word::sample_at`, `word::write_twenty_four` and a comparison
+// with zero for each sample.
 ghost use Rattle.std.specs.Prelude.{◌≡◌, ◌*◌, ◌/◌, ◌≤◌, ◌∷◌, [], ◌↔◌, pos, length, take, IsTrue};
 ghost use Rattle.std.specs.List.{All, flat_map};
 ghost use Rattle.sound_terms.specs.Depth.{bits_of};

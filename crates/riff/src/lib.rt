@@ -1,5 +1,5 @@
-//! Chunks of RIFF WAVE and RF64 files (EBU Tech 3285, EBU Tech 3306), located without reading the samples, and the `fmt
-//! ` chunk.
+//! Chunks of RIFF WAVE and RF64 files (EBU Tech 3285, EBU Tech 3306), located without reading the samples, and the
+//! contents of the `fmt ` chunk.
 #![tactic(auto)]
 
 mod entry;

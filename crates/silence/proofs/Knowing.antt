@@ -9,7 +9,7 @@ use Rattle.silence.specs.declared.known.Known.{Known}
 use Rattle.silence.specs.Known.{IsSo, Reaches, Tells}
 use Rattle.silence.specs.Zero.{IsFirstSounding, IsZero, IsZeroAt}
 
--- the empty knowledge is correct
+-- an empty known silence is correct
 pub nothing_before : (reading : Reading) (file : ℕ) (part : Part)
     → IsSo reading (record { file = file; part = record part { to = part.from }; sounds = false })
 nothing_before reading file part = record {
@@ -49,7 +49,7 @@ module _ (reading : Reading) (known : Known) (file : ℕ) (part : Part) (reaches
       by_place (inl less) = absurd (sounds_there sounds (silent known.part.to reaches.up_to less))
       by_place (inr within) = grind (arith, nat_tests)
 
-  -- the knowledge after the next sample frames were searched, up to the end of the part or the first that is not zero
+  -- known silence extended up to the first sample frame that is not zero, or up to the end of the part
   module _ (sound : ℕ → ℕ → ℤ) (same : (channel frame : ℕ) → reading file channel frame ≡ sound channel frame)
       (less : known.part.to < part.to) where
     further : (to : ℕ) → ((frame : ℕ) → known.part.to ≤ frame → frame < to
@@ -79,7 +79,7 @@ module _ (reading : Reading) (known : Known) (file : ℕ) (part : Part) (reaches
           rw (← same (part.first + j) to, ← reaches.same_file, ← reaches.first) (silent j wider));
     }
 
--- extended knowledge still reaches the part
+-- the extended silence still reaches the part
 reaches_on : (known : Known) (file : ℕ) (part : Part) → Reaches known file part → (to : ℕ) (sounds : Bool)
     → part.from ≤ to → Reaches (record {
       file = known.file;
@@ -94,7 +94,7 @@ reaches_on known file part reaches to sounds up_to = record {
   up_to = up_to;
 }
 
--- extended knowledge decides the part
+-- the extended silence decides the part
 pub tells_then : (known : Known) (file : ℕ) (part : Part) → Reaches known file part → known.part.to < part.to
     → (is_zero : ℕ → Type 0) (found : Option ℕ) → IsFirstSounding is_zero known.part.to part.to found
     → Tells (record {

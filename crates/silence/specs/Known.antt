@@ -5,7 +5,7 @@ use Rattle.silence.specs.declared.part.Part.{Part}
 use Rattle.silence.specs.declared.known.Known.{Known}
 use Rattle.silence.specs.Zero.{IsZero, IsZeroAt}
 
--- the knowledge is correct: the part is zero, and if `sounds` is true the sample frame after it is not
+-- the known silence is correct: the part is zero, and if `sounds` is true the sample frame after it is not
 pub record IsSo (reading : Reading) (known : Known) : Type 0 where
   pub zero : IsZero (reading known.file) known.part
   pub sounds : known.sounds ≡ true → IsZeroAt (reading known.file) known.part.first known.part.width known.part.to → ⊥
@@ -18,7 +18,7 @@ pub record Reaches (known : Known) (file : ℕ) (part : Part) : Type 0 where
   pub before : known.part.from ≤ part.from
   pub up_to : part.from ≤ known.part.to
 
--- the knowledge decides whether this part of the file is silent
+-- the known silence decides whether this part of the file is silent
 pub record Tells (known : Known) (file : ℕ) (part : Part) : Type 0 where
   pub reaches : Reaches known file part
   pub decided : (part.to ≤ known.part.to) ⊎ (known.sounds ≡ true)

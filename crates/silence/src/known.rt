@@ -24,7 +24,7 @@ pub struct Known {
 }
 
 impl Known {
-    /// The empty knowledge: no part of any file.
+    /// No known silence.
     pub const NOTHING: Known = Known {
         file: 0,
         part: Part {
@@ -45,8 +45,7 @@ impl Known {
         self.file == file && same_channels && near
     }
 
-    /// Returns the knowledge that applies to this part of a file: this one if it reaches the part, otherwise an empty
-    /// one.
+    /// Returns the known silence that reaches this part of a file: `self`, or an empty part at its start.
     #[tactic(auto, using(crate::proofs::Knowing::nothing_before))]
     pub fn up_to(self, file: u32, part: &Part) -> Known
         ensures reaches { part.now.from ≤ part.now.to → Reaches result file part.now }
@@ -65,8 +64,7 @@ impl Known {
         }
     }
 
-    /// Returns the knowledge after the next sample frames before `to` were searched. `found` is the first that isn't
-    /// zero.
+    /// Extends the known silence up to `found`, the first sample frame that isn't zero, or else up to `to`.
     fn until(self, found: Option<u64>, to: u64) -> Known
         ensures { result ≡ record {
           file = self.file;

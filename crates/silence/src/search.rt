@@ -43,7 +43,7 @@ impl Model for Search {
 }
 
 impl Search {
-    /// Creates a search without any knowledge. Returns an error if out of memory.
+    /// Creates a search with no known silence. Returns an error if out of memory.
     pub fn new(alloc: Global) -> Result<Self, AllocError>
         ensures { (reading : Reading) → IfOk result (IsSearched reading) }
     {

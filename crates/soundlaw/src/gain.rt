@@ -1,5 +1,4 @@
-// Shares of samples by multiplication with a 62-bit binary fraction. Fast twin of
-// [`contribution`](crate::contribution), which divides.
+// Shares of samples by multiplication with a 62-bit binary fraction. Fast twin of `contribution`, which divides.
 ghost use Rattle.std.specs.Prelude.{◌≡◌, ◌+◌, ◌*◌, ◌^◌, ◌<◌, ◌≤◌, pos, neg_ℤ, ◌+ℤ◌, ◌*ℤ◌, ◌≤ℤ◌};
 ghost use Rattle.std.specs.Int.{int_div_euclid};
 ghost use Rattle.sampletime.specs.TimeCode.{day};
