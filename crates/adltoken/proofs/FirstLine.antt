@@ -1,4 +1,4 @@
--- The lines of a text, the first one taken off.
+-- Facts about splitting the first line off a text.
 use Rattle.std.proofs.Common.{◌≡◌, ◌≢◌, ℕ, ◌+◌, ◌-◌, ◌<◌, ◌≤◌, Bool, true, false, List, [], ◌∷◌, ◌++◌, length, get_or, take, drop, All, refl, ap, ◌∙◌, arith}
 use Rattle.std.specs.Prelude.{◌==◌, map}
 use Rattle.std.proofs.lemmas.Bool.Decides.{nat_tests}
@@ -8,7 +8,7 @@ use Rattle.std.proofs.lemmas.List.Elements.{All-head, All-tail}
 use Rattle.std.proofs.lemmas.List.Sums.{fails_before_first, passes_at_first, split_at_first}
 use Rattle.list_terms.specs.Lines.{without_cr, cut_lines, lines_in}
 
--- the byte is no LF
+-- A byte other than LF.
 abbrev pub IsNoLf : ℕ → Type 0
 IsNoLf byte = (byte == 10) ≡ false
 
@@ -24,14 +24,14 @@ cut_lines-byte : (b : ℕ) (rest : List ℕ) → IsNoLf b → cut_lines (b ∷ r
 unfolding cut_lines
 cut_lines-byte b rest h = rw h
 
--- a text goes up to its first LF
+-- The first line of a text ends at its first LF.
 cut_lines-line : (line rest : List ℕ) → All IsNoLf line → cut_lines (line ++ (10 ∷ rest)) ≡ line ∷ cut_lines rest
 cut_lines-line [] rest all = cut_lines-lf rest
 cut_lines-line (b ∷ line) rest all =
     cut_lines-byte b (line ++ (10 ∷ rest)) (All-head IsNoLf b line all)
     ∙ ap (onto_first b) (cut_lines-line line rest (All-tail IsNoLf b line all))
 
--- the last line may lack its end
+-- A last line without LF is a line.
 cut_lines-last_line : (b : ℕ) (line : List ℕ) → All IsNoLf (b ∷ line) → cut_lines (b ∷ line) ≡ (b ∷ line) ∷ []
 cut_lines-last_line b [] all = cut_lines-byte b [] (All-head IsNoLf b [] all) ∙ ap (onto_first b) cut_lines-nil
 cut_lines-last_line b (c ∷ line) all =
@@ -42,7 +42,7 @@ cut_lines-whole : (line : List ℕ) → 0 < length line → All IsNoLf line → 
 cut_lines-whole [] h all = absurd (omega arith)
 cut_lines-whole (b ∷ line) h all = cut_lines-last_line b line all
 
--- a text without CR at its end stays
+-- Text that doesn't end with CR is kept whole.
 pub without_cr-other : (text : List ℕ) → ((front : List ℕ) → text ≢ front ++ (13 ∷ [])) → without_cr text ≡ text
 without_cr-other [] h = refl
 without_cr-other (b ∷ []) h =
@@ -54,7 +54,7 @@ without_cr-other (b ∷ c ∷ text) h =
 abbrev is_lf : ℕ → Bool
 is_lf byte = byte == 10
 
--- no LF stands before the first one
+-- There is no LF before the first LF.
 no_lf_before : (text : List ℕ) → All IsNoLf (before_first is_lf text)
 no_lf_before text k d h =
     let inside : k < position_or_len is_lf text = omega (arith, length-take (position_or_len is_lf text) text) in
@@ -90,7 +90,7 @@ pub lines_in-only :
 lines_in-only text end some at past =
     ap (map without_cr) (cut_lines-whole text some (λ k d h. fails_before_first is_lf text k d (omega arith)))
 
--- a line, the LF behind it, and what follows
+-- Splitting off a line that ends with LF.
 pub lines_in-cut :
     (text line after cut : List ℕ) (end : ℕ) → end ≡ position_or_len is_lf text → line ≡ take end text
     → after ≡ drop end text
@@ -100,7 +100,7 @@ lines_in-cut text line after cut end at front back trim some =
     let first = lines_in-first text end at inside in
     rw (trim, front, take_rest after 1, back, drop-drop 1 end text) first
 
--- the last line, and nothing behind it
+-- Splitting off a last line without LF.
 pub lines_in-last :
     (text line after cut : List ℕ) (end : ℕ) → 0 < length text → end ≡ position_or_len is_lf text → line ≡ take end text
     → after ≡ drop end text

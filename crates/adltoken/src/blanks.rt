@@ -3,14 +3,14 @@ ghost use Rattle.std.specs.Prelude.{◌≡◌, ◌≤◌, length};
 ghost use Rattle.std.specs.List.{prefix_len};
 ghost use Rattle.list_terms.specs.Tokens as spec;
 
-/// Whether a byte is a space or a tab.
+/// Returns whether a byte is a space or a tab.
 pub fn is_blank(byte: u8) -> bool
     ensures { result ≡ spec.is_blank byte }
 {
     byte == b' ' || byte == b'\t'
 }
 
-/// The text behind the spaces and tabs that it begins with.
+/// Returns the text without its leading spaces and tabs.
 pub fn skip_blanks(text: &[u8]) -> &[u8]
     ensures rest { result.now ≡ spec.behind_blanks text.now }
     ensures shorter { length result.now ≤ length text.now }
@@ -19,7 +19,7 @@ pub fn skip_blanks(text: &[u8]) -> &[u8]
     text.split_at(blanks).1
 }
 
-/// How many spaces and tabs the text begins with.
+/// Returns the number of leading spaces and tabs.
 fn leading_blanks(text: &[u8]) -> usize
     ensures count { result ≡ prefix_len spec.is_blank text.now }
     ensures inside { result ≤ length text.now }
@@ -27,14 +27,13 @@ fn leading_blanks(text: &[u8]) -> usize
     text.iter().take_while(|byte| is_blank(**byte)).count()
 }
 
-/// The text without spaces and tabs at both ends.
+/// Returns the text without leading and trailing spaces and tabs.
 pub fn trimmed(text: &[u8]) -> &[u8]
     ensures { result.now ≡ spec.trimmed text.now }
 {
     without_last_blanks(skip_blanks(text))
 }
 
-/// The text before the spaces and tabs that it ends with.
 fn without_last_blanks(text: &[u8]) -> &[u8]
     ensures { result.now ≡ spec.before_blanks text.now }
 {

@@ -1,4 +1,4 @@
-// Tokens as keywords.
+// Recognition of keywords.
 ghost use Rattle.std.specs.Prelude.{◌≡◌};
 ghost use Rattle.list_terms.specs.EntryLines as lines;
 ghost use Rattle.list_terms.specs.Fields as fields;
@@ -9,7 +9,7 @@ use crate::tokens::Token;
 use list_terms::{EntryKeyword, TokenKind};
 
 impl Token<'_> {
-    /// Whether it is the keyword of this name, in any case.
+    /// Returns whether this token is the given keyword. Letters match in either case.
     pub fn is_keyword(&self, name: &[u8]) -> bool
         ensures { result ≡ fields.is_keyword name.now (token_view self.now) }
     {
@@ -19,7 +19,8 @@ impl Token<'_> {
         }
     }
 
-    /// Which line behind an entry's own begins with it; `None` where it begins none that can be honoured.
+    /// Returns the kind of entry line that this keyword starts, or `None` if it isn't `(Infade)`, `(Outfade)`,
+    /// `(Rem)` or `(Gain)`.
     #[tactic(auto, unfolding(list_terms::specs::EntryLines::entry_keyword))]
     pub fn entry_keyword(&self) -> Option<EntryKeyword>
         ensures { result ≡ lines.entry_keyword (token_view self.now) }

@@ -1,7 +1,7 @@
-//! The lines of a list and their tokens, cut from its text one after another. Nothing is copied.
+//! A tokenizer for audio decision lists: splits text into lines and lines into tokens without copying.
 //!
-//! A line ends with LF, and one CR before that belongs to the end. A token is quoted text, a keyword in parentheses or
-//! a word; any number of spaces and tabs, also none, stands between tokens.
+//! A line ends with LF or CR LF; the last line may lack its end. A token is `"..."`, `(...)` or a word of printable
+//! ASCII. Tokens are separated by any number of spaces and tabs, including none.
 #![tactic(auto)]
 
 mod blanks;

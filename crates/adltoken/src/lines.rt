@@ -1,4 +1,4 @@
-// The lines of a text, one after another.
+// Iteration over the lines of a text.
 ghost use Rattle.std.specs.Prelude.{◌≡◌, ◌≤◌, ◌<◌, ◌+◌, ◌==◌, [], ◌∷◌, MatchOption, length};
 ghost use Rattle.std.specs.List.{list_any, position_or_len};
 ghost use Rattle.list_terms.specs.Lines.{lines_in, lines_of, byte_order_mark};
@@ -7,7 +7,7 @@ ghost use Rattle.list_terms.specs.Lines as spec;
 use crate::names::length_before;
 use std::marker::Model;
 
-/// How far a text is read: what follows, and the number of the line that was read last, 0 before the first.
+/// A reader of lines: the unread text, and the number of the last line read (0 before the first).
 #[derive(Drop)]
 pub struct Lines<'a> {
     rest: &'a [u8],
@@ -26,7 +26,7 @@ impl<'a> Model for Lines<'a> {
 }
 
 impl<'a> Lines<'a> {
-    /// The lines of the text, from the first one on. A byte order mark in front is no part of them.
+    /// Starts at the first line of a text, after a byte order mark if there is one.
     #[tactic(auto, unfolding(list_terms::specs::Lines::lines_of))]
     pub fn new(text: &'a [u8]) -> Self
         ensures { result ≡ record { number = 0; lines = lines_of text.now } }
@@ -37,7 +37,7 @@ impl<'a> Lines<'a> {
         }
     }
 
-    /// The next line without its end; `None` where the text ends.
+    /// Returns the next line without its line end, or `None` at the end of the text.
     pub fn next_line(&mut self) -> Option<&'a [u8]>
         ensures line { MatchOption result ((self.old.lines ≡ []) × (self.new ≡ self.old))
             (λ line. (self.old.lines ≡ line.now ∷ self.new.lines) × (self.new.number ≡ self.old.number + 1)) }
@@ -51,7 +51,7 @@ impl<'a> Lines<'a> {
         Some(line)
     }
 
-    /// The number of the line that was read last, counted from 1; 0 before the first.
+    /// Returns the number of the last line read, counted from 1, or 0 before the first line.
     pub fn number(&self) -> u64
         ensures { result ≡ self.now.number }
     {
@@ -59,7 +59,7 @@ impl<'a> Lines<'a> {
     }
 }
 
-/// The text behind a byte order mark.
+/// Strips a leading UTF-8 byte order mark.
 fn without_mark(text: &[u8]) -> &[u8]
     ensures mark { result.now ≡ spec.without_mark text.now }
     ensures shorter { length result.now ≤ length text.now }
@@ -67,7 +67,7 @@ fn without_mark(text: &[u8]) -> &[u8]
     text.strip_prefix(b"\xEF\xBB\xBF").unwrap_or(text)
 }
 
-/// The first line of a text without its end, and what follows.
+/// Splits a text after its first line. The line comes without its end.
 fn first_line(text: &[u8]) -> (&[u8], &[u8])
     requires { 0 < length text.now }
     ensures line { lines_in text.now ≡ result.0.now ∷ lines_in result.1.now }
@@ -80,8 +80,8 @@ fn first_line(text: &[u8]) -> (&[u8], &[u8])
     }
 }
 
-/// How many bytes the first line of a text has before its line feed. Eight are looked at together, as long as none of
-/// them is one.
+/// Returns the length of the first line, excluding its LF. Equal to `length_before(b'
+/// ', text)`, but tests eight bytes at a time.
 fn line_length(text: &[u8]) -> usize
     ensures position { result ≡ position_or_len (λ byte. byte == 10) text.now }
     ensures inside { result ≤ length text.now }
@@ -98,7 +98,6 @@ fn line_length(text: &[u8]) -> usize
     before + length_before(b'\n', rest)
 }
 
-/// Whether one of these bytes is a line feed.
 #[inline(always)]
 fn has_line_feed(bytes: [u8; 8]) -> bool
     ensures { result ≡ list_any (λ byte. byte == 10) bytes }
@@ -109,7 +108,6 @@ fn has_line_feed(bytes: [u8; 8]) -> bool
     first | second
 }
 
-/// The text without a carriage return at its end.
 fn without_cr(text: &[u8]) -> &[u8]
     ensures { result.now ≡ spec.without_cr text.now }
 {

@@ -1,4 +1,4 @@
-// The tokens of a line, one after another.
+// Iteration over the tokens of a line.
 ghost use Rattle.std.specs.Prelude.{◌≡◌, ◌≤◌, ◌<◌, ◌+◌, ◌^◌, ◌++◌, ℕ, List, IfErr, IfOk, IfSome, None, Ok, OnErr, Some, length, option_map};
 ghost use Rattle.std.specs.List.{prefix_len};
 ghost use Rattle.std.proofs.Props.{props};
@@ -13,8 +13,8 @@ use crate::TokenFault;
 use crate::blanks::{is_blank, skip_blanks};
 use list_terms::{TextFault, TokenKind};
 
-/// A token: what it is written as, what stands inside its quotes or parentheses, or the word, the token as it stands in
-/// its line, and how many bytes of the line stand before it.
+/// A token of a line: its kind, the content without quotes or parentheses, the full text, and its offset in the
+/// line in bytes.
 #[derive(Clone, Copy, Debug)]
 pub struct Token<'a> {
     pub kind: TokenKind,
@@ -23,7 +23,7 @@ pub struct Token<'a> {
     pub at: usize,
 }
 
-/// Where a part of a line stands: how many bytes of the line stand before it, and its length in bytes.
+/// A byte range of a line: its offset from the start of the line, and its length.
 #[derive(Clone, Copy, Debug, PartialEq, Eq)]
 pub struct Span {
     pub at: usize,
@@ -31,7 +31,7 @@ pub struct Span {
 }
 
 impl<'a> Token<'a> {
-    /// Where the token stands in its line.
+    /// Returns the byte range of this token.
     pub fn span(&self) -> Span
         ensures { result ≡ record { at = self.now.at; length = length self.now.text.now } }
     {
@@ -42,8 +42,8 @@ impl<'a> Token<'a> {
     }
 }
 
-/// The number of a line, what is left of it, how many of its bytes were cut off, and where the token stands that was asked
-/// for last, if one was.
+/// A reader of tokens: the line's number, the unread rest of the line, its offset in bytes, and the byte range of
+/// the last token requested, if any.
 #[derive(Drop)]
 pub struct Tokens<'a> {
     pub number: u64,
@@ -55,7 +55,7 @@ pub struct Tokens<'a> {
 }
 
 impl<'a> Tokens<'a> {
-    /// The tokens of a line, from its first byte on, of which nobody asks for the number: its faults name line 0.
+    /// Starts at the first byte of a line whose number doesn't matter. Faults name line 0.
     pub fn new(line: &'a [u8]) -> Self
         ensures rest { result.rest.now ≡ line.now }
         ensures at { result.at ≡ 0 }
@@ -64,7 +64,7 @@ impl<'a> Tokens<'a> {
         Tokens::numbered(line, 0)
     }
 
-    /// The tokens of the line of this number, from its first byte on.
+    /// Starts at the first byte of the line with the given number, which faults report.
     pub fn numbered(line: &'a [u8], number: u64) -> Self
         ensures number { result.number ≡ number }
         ensures rest { result.rest.now ≡ line.now }
@@ -79,8 +79,9 @@ impl<'a> Tokens<'a> {
         }
     }
 
-    /// Where the reader of the line stands: the token that was asked for last, or the first one where none was. Where
-    /// none can be cut there, it is all that is left, and where the line ends, nothing at its end.
+    /// Returns the byte range to blame for a fault: the last token requested, or the first token if none was
+    /// requested yet. If no token can be cut there, the range is the rest of the line without leading blanks; at
+    /// the end of the line it is empty.
     pub fn stood(&self) -> Span
         ensures last { IfSome self.now.last (λ span. result ≡ span) }
         ensures first { self.now.last ≡ None → result ≡ first_span self.now.at self.now.rest.now }
@@ -92,7 +93,10 @@ impl<'a> Tokens<'a> {
         }
     }
 
-    /// The next token; `None` where only spaces and tabs are left. Nothing is cut off where there is none or a fault.
+    /// Returns the next token, or `None` if only spaces and tabs are left.
+    ///
+    /// Returns a `TokenFault` with this line's number if the text there isn't a token. After a fault or `None` the
+    /// reader stays in place.
     pub fn next_token(&mut self) -> Result<Option<Token<'a>>, TokenFault>
         ensures exact { err_map text_fault (ok_map (λ next. option_map (λ token. (token_view token, self.new.rest.now)) next)
             result) ≡ spec.token_at self.old.rest.now }
@@ -115,7 +119,7 @@ impl<'a> Tokens<'a> {
         }
     }
 
-    /// The next token, as `next_token` gives it, and of a fault what is wrong with the text.
+    /// Returns the next token like `next_token`, but with a fault that names no line.
     #[tactic(auto, unfolding(list_terms::specs::Tokens::token_at))]
     pub fn cut_next(&mut self) -> Result<Option<Token<'a>>, TextFault>
         ensures exact { ok_map (λ next. option_map (λ token. (token_view token, self.new.rest.now)) next) result
@@ -158,8 +162,7 @@ impl<'a> Tokens<'a> {
     }
 }
 
-/// Where the first token of this part of a line stands, behind so many bytes: all of it but the blanks in front where
-/// none can be cut, nothing at its end where there is none.
+/// Returns the byte range of the first token in the rest of a line, which starts at offset `before`.
 #[tactic(auto, unfolding(list_terms::specs::Tokens::token_at))]
 fn span_of_first(rest: &[u8], before: usize) -> Span
     requires { before + length rest.now < 2 ^ 64 }
@@ -175,7 +178,7 @@ fn span_of_first(rest: &[u8], before: usize) -> Span
     Span { at, length }
 }
 
-/// The line without what follows its first token.
+/// Removes `rest` from the end of a line.
 fn without_end<'a>(line: &'a [u8], rest: &[u8]) -> &'a [u8]
     requires { length rest.now ≤ length line.now }
     ensures front { (front : List ℕ) → line.now ≡ front ++ rest.now → result.now ≡ front }
@@ -185,7 +188,7 @@ fn without_end<'a>(line: &'a [u8], rest: &[u8]) -> &'a [u8]
     line.split_at(length).0
 }
 
-/// A token that is cut off a line, and what follows.
+/// A token cut off the front of a line, and the rest of the line.
 #[derive(Clone, Copy)]
 pub struct Cut<'a> {
     kind: TokenKind,
@@ -193,7 +196,7 @@ pub struct Cut<'a> {
     rest: &'a [u8],
 }
 
-/// The token that a line begins with; `None` in an empty line.
+/// Cuts the first token off a line without leading blanks. Returns `None` if the line is empty.
 #[inline(always)]
 fn first_token(line: &[u8]) -> Result<Option<Cut<'_>>, TextFault>
     ensures fault { IfErr result IsTokenFault }
@@ -221,7 +224,7 @@ fn first_token(line: &[u8]) -> Result<Option<Cut<'_>>, TextFault>
     }
 }
 
-/// The quoted text behind a quotation mark.
+/// Cuts quoted text off a line, starting after the opening quotation mark.
 fn quoted(line: &[u8]) -> Result<Cut<'_>, TextFault>
     ensures fault { IfErr result IsTokenFault }
     ensures exact { ok_map (λ cut. Some (cut_view cut)) result ≡ spec.quoted line.now }
@@ -231,7 +234,7 @@ fn quoted(line: &[u8]) -> Result<Cut<'_>, TextFault>
     closed(TokenKind::Quoted, b'"', content, rest)
 }
 
-/// The keyword behind an opening parenthesis.
+/// Cuts a keyword off a line, starting after the opening parenthesis.
 fn keyword(line: &[u8]) -> Result<Cut<'_>, TextFault>
     ensures fault { IfErr result IsTokenFault }
     ensures exact { ok_map (λ cut. Some (cut_view cut)) result ≡ spec.keyword line.now }
@@ -244,7 +247,7 @@ fn keyword(line: &[u8]) -> Result<Cut<'_>, TextFault>
     closed(TokenKind::Keyword, b')', content, rest)
 }
 
-/// The word that a line begins with.
+/// Cuts off a word.
 fn word(line: &[u8]) -> Cut<'_>
     ensures exact { cut_view result ≡ spec.word line.now }
 {
@@ -256,7 +259,7 @@ fn word(line: &[u8]) -> Cut<'_>
     }
 }
 
-/// A token of this content, where this byte closes it.
+/// Completes a token if the rest starts with its closing byte.
 fn closed<'a>(
     kind: TokenKind,
     close: u8,
@@ -277,7 +280,6 @@ fn closed<'a>(
     }
 }
 
-/// How many bytes of quoted text the line begins with.
 fn quoted_length(line: &[u8]) -> usize
     ensures count { result ≡ prefix_len spec.is_quoted_byte line.now }
     ensures inside { result ≤ length line.now }
@@ -287,7 +289,6 @@ fn quoted_length(line: &[u8]) -> usize
         .count()
 }
 
-/// How many bytes of words the line begins with.
 fn word_length(line: &[u8]) -> usize
     ensures count { result ≡ prefix_len spec.is_word_byte line.now }
     ensures inside { result ≤ length line.now }
@@ -295,22 +296,20 @@ fn word_length(line: &[u8]) -> usize
     line.iter().take_while(|byte| is_word_byte(**byte)).count()
 }
 
-/// Whether a byte may stand in a word or a keyword. Nearly all that may stand behind the parentheses, so that is asked
-/// first.
+/// Returns whether a byte may occur in a word or keyword. Most such bytes are above `)`, so that test comes first.
 fn is_word_byte(byte: u8) -> bool
     ensures { result ≡ spec.is_word_byte byte }
 {
     (byte > b')' && byte < 127) || matches!(byte, b'!' | b'#'..=b'\'')
 }
 
-/// Whether a byte may stand in quoted text.
 fn is_quoted_byte(byte: u8) -> bool
     ensures { result ≡ spec.is_quoted_byte byte }
 {
     !matches!(byte, b'"' | b'\r')
 }
 
-/// The fault of a token that these bytes don't go on with: of the first one, or of the line's end.
+/// Returns the fault of an unfinished token: an invalid byte, or the end of the line.
 fn fault_at(rest: &[u8]) -> TextFault
     ensures fault { IsTokenFault result }
     ensures exact { result ≡ spec.open_fault rest.now }
@@ -321,7 +320,6 @@ fn fault_at(rest: &[u8]) -> TextFault
     }
 }
 
-/// The fault of a byte that can't stand where it stands.
 fn byte_fault(byte: u8) -> TextFault
     ensures fault { IsTokenFault result }
     ensures exact { result ≡ spec.byte_fault byte }

@@ -3,7 +3,7 @@ use Rattle.std.specs.List.{suffix_len}
 use Rattle.list_terms.specs.Tokens.{is_blank}
 use Rattle.adltoken.proofs.blanks.without_last_blanks.Given as goal
 
--- behind the end stand blanks alone
+-- Only blanks are after `end`.
 abbrev pub invariant-loop-end : goal.invariant-loop-end
 invariant-loop-end l = record {
   inside : l.end ≤ length l.text;

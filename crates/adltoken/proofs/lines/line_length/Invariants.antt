@@ -2,7 +2,7 @@ use Rattle.std.proofs.Common.{◌≡◌, ◌+◌, ◌==◌, length}
 use Rattle.std.specs.List.{position_or_len}
 use Rattle.adltoken.proofs.lines.line_length.Given as goal
 
--- no line feed was passed
+-- No LF has been skipped.
 abbrev pub invariant-loop-rest : goal.invariant-loop-rest
 invariant-loop-rest l = record {
   passed : l.before + length l.rest ≡ length l.text;

@@ -2,7 +2,7 @@ use Rattle.std.proofs.Common.{◌≡◌, length}
 use Rattle.list_terms.specs.Names as spec
 use Rattle.adltoken.proofs.names.behind_byte.Given as goal
 
--- the byte was not passed
+-- The byte hasn't been skipped.
 abbrev pub invariant-loop-text : goal.invariant-loop-text
 invariant-loop-text l = spec.behind_byte l.sought l.text ≡ spec.behind_byte l.sought l.fn.text
 
