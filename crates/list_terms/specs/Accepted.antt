@@ -1,4 +1,4 @@
--- The first entry of a bound project that is at fault, and what may be chosen of its rendering.
+-- The first faulty entry of a bound project, and the render options with their defaults.
 use Rattle.std.specs.Prelude.{ℕ, ◌+◌, ◌-◌, ◌&&◌, ◌||◌, nat_lt, Bool, false, List, [], ◌∷◌, Option, None, Some, if◌then◌else◌, slice_get, option_map, min, max}
 use Rattle.sound_terms.specs.declared.Depth.{Depth}
 use Rattle.sound_terms.specs.declared.Event.{Event}
@@ -10,13 +10,14 @@ use Rattle.work_terms.specs.Refusals.{Refusal, Entry}
 use Rattle.list_terms.specs.Project.{ListProject}
 use Rattle.list_terms.specs.Binding.{Binding, OpenedFile}
 
--- the frames that an event plays don't all lie in those that its index can address
+-- Whether an event plays a sample frame that its index can't address.
 abbrev pub is_outside : BoundIndex → Event → Bool
 is_outside index event =
     nat_lt event.dest_in event.dest_out && (nat_lt event.source_in index.base
     || nat_lt index.addressable ((event.source_in - index.base) + (event.dest_out - event.dest_in)))
 
--- 42 ends before it starts, 43 fades too long, 44 no such source channel, 46 frames that can't be addressed
+-- The fault of an event's span: 42 ends before it starts, 43 fades too long, 44 no such source channel, 46 samples
+-- out of reach.
 abbrev pub span_fault : BoundIndex → SoundFacts → Event → Option ℕ
 span_fault index facts event =
     if nat_lt event.dest_out event.dest_in then Some 42
@@ -25,7 +26,7 @@ span_fault index facts event =
     else if is_outside index event then Some 46
     else None
 
--- 41: no bound index has the event's number; else the fault of its span
+-- The fault of an event: 41 if no bound index has its number, or else the fault of its span.
 abbrev pub entry_fault : Binding → Event → Option ℕ
 entry_fault binding event = of_index (index_of binding.indexes event.index) where
   of_file : BoundIndex → Option OpenedFile → Option ℕ
@@ -36,42 +37,46 @@ entry_fault binding event = of_index (index_of binding.indexes event.index) wher
   of_index None = Some 41
   of_index (Some index) = of_file index (slice_get binding.files index.file)
 
--- the earlier of two faults
+-- The earlier of two faults.
 abbrev pub first_fault : Option Refusal → Option Refusal → Option Refusal
 first_fault None later = later
 first_fault (Some refusal) later = Some refusal
 
+-- The refusal of an entry with this fault number.
 abbrev pub entry_refusal : Event → ℕ → Refusal
 entry_refusal event number = record { number = number; location = Entry event.number; late = false }
 
--- the first of these faults in the order of the entries
+-- The first fault of the events, in list order.
 abbrev pub event_fault : Binding → List Event → Option Refusal
 event_fault binding [] = None
 event_fault binding (event ∷ events) =
     first_fault (option_map (entry_refusal event) (entry_fault binding event)) (event_fault binding events)
 
--- what may be chosen of a rendering
+-- The options of a rendering; the default applies to those that aren't given.
 pub record OptionValues : Type 0 where
   pub from : Option ℕ
   pub to : Option ℕ
   pub channels : Option ℕ
   pub depth : Depth
 
--- the least of `f` over the events, 0 without one; the greatest likewise
+-- The minimum of `f` over the events, or 0 if there are none.
 abbrev pub least_of : (Event → ℕ) → List Event → ℕ
 least_of f [] = 0
 least_of f (event ∷ []) = f event
 least_of f (event ∷ other ∷ events) = min (f event) (least_of f (other ∷ events))
 
+-- The maximum of `f` over the events, or 0 if there are none.
 abbrev pub greatest_of : (Event → ℕ) → List Event → ℕ
 greatest_of f [] = 0
 greatest_of f (event ∷ events) = max (f event) (greatest_of f events)
 
+-- The value of an option, or its default.
 abbrev pub chosen : Option ℕ → ℕ → ℕ
 chosen None default = default
 chosen (Some value) default = value
 
--- what is rendered: by default from the first event's in to the last one's out, on all channels, at least one
+-- The range rendered: by default from the earliest destination in to the latest destination out, on all channels,
+-- at least one.
 abbrev pub range_of : ListProject → OptionValues → Range
 range_of project options = record {
   from = chosen options.from (least_of (λ event. event.dest_in) project.events);

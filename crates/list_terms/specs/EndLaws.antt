@@ -1,4 +1,4 @@
--- The tokens up to the end of a line, and what is cut whole.
+-- Laws of line ends and of lines that consist of whole tokens.
 use Rattle.std.specs.Prelude.{◌≡◌, ◌<◌, ◌≤◌, ℕ, zero, suc, Bool, true, false, List, [], ◌∷◌, ◌++◌, length, Option, None, Some, Result, Ok, Err, ok_or, refl}
 use Rattle.std.specs.List.{take_while}
 use Rattle.std.proofs.Common.{◌∙◌, ap, arith, length-append, sym}
@@ -75,7 +75,7 @@ pub token_at-nil : token_at [] ≡ Ok None
 unfolding token_at
 token_at-nil = refl
 
--- a line that is cut whole in enough steps is cut whole in any number of them
+-- The step count doesn't matter: a line cut whole in enough steps is cut whole in any number of steps.
 cut_anyhow :
     (n enough : ℕ) (line : List ℕ) → length line ≤ enough → all_tokens (λ t. true) enough line ≡ Ok tt
     → all_tokens (λ t. true) n line ≡ Ok tt
@@ -100,7 +100,7 @@ cut_anyhow (suc n) enough line short e =
           all_tokens-step (λ t. true) n line rest token t refl
           ∙ ih rest m (omega arith) (sym (all_tokens-step (λ t. true) m line rest token t refl) ∙ e)
 
--- what allows fewer tokens cuts the line whole
+-- A line that consists of allowed tokens consists of whole tokens.
 pub cut_allowed :
     (allowed : TokenText → Bool) (n : ℕ) (line : List ℕ) → all_tokens allowed n line ≡ Ok tt
     → all_tokens (λ t. true) n line ≡ Ok tt
@@ -121,7 +121,7 @@ cut_allowed allowed (suc n) line e =
             ∙ ih rest (sym (all_tokens-step allowed n line rest token t a) ∙ e)
         by_test false a = absurd (let no = sym (all_tokens-refused allowed n line rest token t a) ∙ e in cc)
 
--- a line of one token and of what is cut whole behind it is cut whole
+-- A token followed by whole tokens makes a line of whole tokens.
 pub whole-token :
     (line rest : List ℕ) (token : TokenText) → token_at line ≡ Ok (Some (token, rest)) → end_line rest ≡ Ok tt
     → end_line line ≡ Ok tt

@@ -1,4 +1,4 @@
--- Laws of channels that are spelled by digits, with a tilde between them or without one.
+-- Laws of channel fields: digits, with or without a tilde between them.
 use Rattle.std.specs.Prelude.{◌≡◌, ◌==◌, ℕ, true, false, not, List, [], ◌∷◌, ◌++◌, None, Some, refl}
 use Rattle.std.specs.List.{before_first, list_all, prefix_len}
 use Rattle.std.proofs.Common.{ap, ◌∙◌, arith}

@@ -1,4 +1,4 @@
--- Laws of any form of lines.
+-- Laws of reading lines of any form.
 use Rattle.std.specs.Prelude.{◌≡◌, ℕ, Bool, true, false, List, length, Option, None, Some, Result, Ok, Err, if◌then◌else◌, refl, ⊤}
 use Rattle.std.proofs.Common.{◌∙◌, ap}
 use Rattle.list_terms.specs.declared.TextFault.{TextFault}
@@ -9,7 +9,7 @@ use Rattle.list_terms.specs.StepLaws.{chain, ok_same, unless_ok}
 use Rattle.list_terms.specs.Steps.{◌>>=◌, ok_map}
 use Rattle.list_terms.specs.Tokens.{Cut, TokenText, all_tokens, token_at}
 
--- a field that was read: its token, what this says, and what follows
+-- A field that was read: its token, the token's value, and the rest of the line.
 pub record IsFound (f : Field) (line : List ℕ) (next : Value f × List ℕ) : Type 0 where
   pub token : TokenText
   pub at : token_at line ≡ Ok (Some (token, next.1))
@@ -23,14 +23,14 @@ found f line next e =
     let same : (d.value, c.value.1) ≡ next = ok_same _ _ d.others in
     rw (← same) (record { token = c.value.0; at = field_at line c.value c.is; is = d.is })
 
--- a test that gave a value was passed
+-- If a guarded result is a value, the guard held.
 passed_ok :
     {X E : Type 0} (test : Bool) (r : Result X E) (fault : E) (x : X) → (if test then r else Err fault) ≡ Ok x
     → (test ≡ true) × (r ≡ Ok x)
 passed_ok true r fault x e = (refl, e)
 passed_ok false r fault x e = absurd (cc)
 
--- a line that may end where another token stood
+-- The end of a line where one token is optional: there is none, or it passes the test.
 pub data IsMay (test : TokenText → Bool) (line : List ℕ) : Type 0 where
   Nothing : token_at line ≡ Ok None → IsMay test line
   Passed : (token : TokenText) (rest : List ℕ) → token_at line ≡ Ok (Some (token, rest)) → test token ≡ true
@@ -51,14 +51,14 @@ may_whole : (test : TokenText → Bool) (line : List ℕ) → IsMay test line �
 may_whole test line (Nothing t) = whole-none line t
 may_whole test line (Passed token rest t passes ends) = whole-token line rest token t ends
 
--- what may stand behind a keyword, where it was read
+-- The inversion of an optional token at the end of a line.
 pub reads_may :
     {A : Type 0} (test : TokenText → Bool) (fault : TextFault) (y x : A) (line : List ℕ)
     → reads (May test fault y) line ≡ Ok x → IsMay test line × (y ≡ x)
 unfolding reads
 reads_may test fault y x line e = may_is test fault y x line (token_at line) refl e
 
--- a line that is read in some form is cut whole into tokens
+-- A line that can be read in any form consists of whole tokens.
 pub reads_whole : {A : Type 0} (form : Form A) (line : List ℕ) (x : A) → reads form line ≡ Ok x → end_line line ≡ Ok tt
 unfolding reads end_line
 reads_whole (Done test y) line x e =
@@ -82,7 +82,7 @@ line_whole blank form line x (Ok None) t e = whole-none line t
 line_whole blank form line x (Ok (Some (token, rest))) t e =
     whole-token line rest token t (reads_whole (form token) rest x e)
 
--- a step whose outcomes are seen by f
+-- Mapping the outcome of a second step maps the outcome of both.
 step_mapped :
     {A B C E : Type 0} (step : Result A E) (f : B → C) (next : A → Result B E) (seen : A → Result C E)
     → ((x : A) → seen x ≡ ok_map f (next x)) → (step >>= seen) ≡ ok_map f (step >>= next)
@@ -122,7 +122,7 @@ pub is_found :
 unfolding value_at
 is_found f line rest token x at is = rw (at_field line (token, rest) at, is) refl
 
--- what holds of all that a form may say
+-- A property of every value that a form can yield.
 abbrev pub Always : {A : Type 0} → (A → Type 0) → Form A → Type 0
 Always P (Done test x) = P x
 Always P (Then field more) = (value : Value field) → Always P (more value)
@@ -145,7 +145,7 @@ always P (Refused fault) line x h e = absurd (cc)
 
 -- ---- steps of reading
 
--- a number, and what its line says behind it
+-- A number, and the value of the fields after it.
 pub record IsNumbered {A : Type 0} (fields : ℕ → Form A) (text : List ℕ) (x : A) : Type 0 where
   pub number : ℕ
   pub rest : List ℕ
@@ -176,7 +176,7 @@ pub reads_all :
 unfolding reads
 reads_all test x line e = rw e refl
 
--- the line ends with tokens that pass
+-- The inversion of a line's end: all its tokens pass the test.
 pub ends :
     {A : Type 0} (test : TokenText → Bool) (y x : A) (line : List ℕ) → reads (Done test y) line ≡ Ok x
     → (all_tokens test (length line) line ≡ Ok tt) × (y ≡ x)
@@ -196,7 +196,7 @@ pub unless_read :
 unfolding reads
 unless_read wrong fault form line x e = unless_ok wrong fault (reads form line) x e
 
--- what is said by f, where nothing forbids it
+-- Reading a guarded, mapped form if the guard doesn't apply.
 pub told_read :
     {A B : Type 0} (f : A → B) (wrong : Bool) (fault : TextFault) (form : Form A) (line : List ℕ) (x : A) → wrong ≡ false
     → reads form line ≡ Ok x → reads (Unless wrong fault (mapped f form)) line ≡ Ok (f x)

@@ -1,4 +1,4 @@
--- Laws of the sections of a header: where their lines are kept, and which rates these tell.
+-- Laws of the header's sections: the place of their lines, and the rates that these give.
 use Rattle.std.specs.Prelude.{◌≡◌, ℕ, true, List, [], ◌∷◌, ◌++◌, Option, None, Some, Result, Ok, Err, is_ok, is_some, not, refl}
 use Rattle.std.specs.List.{list_all}
 use Rattle.std.proofs.Common.{ap}
@@ -14,7 +14,7 @@ use Rattle.list_terms.specs.Steps.{◌>>=◌}
 use Rattle.list_terms.specs.Text.{Context, in_header, in_section, is_opened, is_tag, keep, rates_with, sequence_rates, system_rates, with_lines, with_section}
 use Rattle.list_terms.specs.WholeProject.{both_rates, is_system_line, lines_of_section, no_rates, told_rates}
 
--- the lines that a header keeps of this section
+-- The lines of a section in a header.
 abbrev pub lines_at : Section → Header → Option (List (List ℕ))
 lines_at section.Version h = h.version
 lines_at section.Project h = h.project
@@ -26,7 +26,7 @@ lines_at section.EventList h = None
 lines_at section.Skipped h = None
 lines_at section.Unsupported h = None
 
--- the header with these lines there
+-- The header with these lines in a section.
 abbrev pub put_lines : Section → Option (List (List ℕ)) → Header → Header
 put_lines section.Version lines h = record h { version = lines }
 put_lines section.Project lines h = record h { project = lines }
@@ -38,7 +38,7 @@ put_lines section.EventList lines h = h
 put_lines section.Skipped lines h = h
 put_lines section.Unsupported lines h = h
 
--- the header keeps the lines of this section
+-- A section whose lines the header keeps.
 pub record IsKept (s : Section) : Type 0 where
   pub read : (rate : ℕ) (c : Context) (n : ℕ) (text : List ℕ) → in_section rate c n text s ≡ in_header rate c n text s
   pub opened : (c : Context) → is_opened c s ≡ is_some (lines_at s c.header.lines)
@@ -72,19 +72,19 @@ unfolding in_section
 track_list_kept =
     record { read = λ rate c n text. refl; opened = λ c. refl; begun = λ c n. refl; keeps = λ h front text. refl }
 
--- ---- the rates that lines tell
+-- ---- the rates that lines give
 
 pub was_ok : (r : Result (Unit {0}) TextFault) → is_ok r ≡ true → r ≡ Ok tt
 was_ok (Ok u) h = refl
 was_ok (Err fault) h = absurd (cc)
 
 module _ (rate : ℕ) where
-  -- the rates that lines of this section tell behind others
+  -- The rates after these lines of a section.
   abbrev pub told_in : Section → Rates → List (List ℕ) → Result Rates TextFault
   told_in s rates [] = Ok rates
   told_in s rates (text ∷ lines) = rates_with rate s rates text >>= (λ next. told_in s next lines)
 
-  -- lines of a section that tells none
+  -- A section whose lines give no rate leaves the rates unchanged.
   pub told_in-none :
       (s : Section) → ((rates : Rates) (text : List ℕ) → rates_with rate s rates text ≡ Ok rates)
       → (rates : Rates) (lines : List (List ℕ)) → told_in s rates lines ≡ Ok rates
@@ -119,7 +119,7 @@ module _ (rate : ℕ) where
         by_first (Ok next) e ih = rw e (ih next)
         by_first (Err fault) e ih = rw e refl
 
--- SEQUENCE is there, since it tells both rates
+-- A header that gives both rates has a SEQUENCE.
 pub has_sequence :
     (rate : ℕ) (sequence : Option (List (List ℕ)))
     → told_rates rate no_rates (lines_of_section sequence) ≡ Ok both_rates → is_some sequence ≡ true

@@ -1,4 +1,4 @@
--- A token is the keyword of one name alone.
+-- Keywords with different names are different.
 use Rattle.std.proofs.Common.{◌≡◌, ℕ, true, false, List, ap, ◌∙◌}
 use Rattle.std.specs.Prelude.{bytes_eq}
 use Rattle.std.specs.Str.{str_to_ascii_lowercase}
@@ -8,7 +8,7 @@ use Rattle.facts.specs.Tests.{and_right}
 use Rattle.list_terms.specs.Tokens.{TokenText}
 use Rattle.list_terms.specs.Fields.{is_keyword, is_same_name}
 
--- names that differ but for case
+-- Two names that differ in more than case aren't the same keyword.
 pub other_keyword :
     (name other : List ℕ) (token : TokenText)
     → bytes_eq (str_to_ascii_lowercase name) (str_to_ascii_lowercase other) ≡ false

@@ -1,9 +1,9 @@
--- Laws of the ends of lines.
+-- Laws of line ends.
 use Rattle.std.specs.Prelude.{◌≡◌, ℕ, List, [], ◌∷◌, ◌++◌, refl}
 use Rattle.std.proofs.Common.{ap}
 use Rattle.list_terms.specs.Lines.{without_cr}
 
--- CR at the end goes
+-- A CR at the end of a line is removed.
 pub without_cr-cr : (text : List ℕ) → without_cr (text ++ (13 ∷ [])) ≡ text
 without_cr-cr [] = refl
 without_cr-cr (b ∷ []) = refl

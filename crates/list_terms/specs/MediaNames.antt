@@ -1,5 +1,5 @@
--- Laws of the names of media: different numbers have different names, none is that of the list, their URLs name them,
--- and they are printed so.
+-- Laws of media file names: different numbers have different names, none is the list's name, the URL of a medium
+-- names it, and formatting prints it.
 use Rattle.std.proofs.Common.{◌≡◌, ◌≢◌, ℕ, ◌+◌, ◌/◌, ◌%◌, ◌-◌, ◌^◌, ◌<◌, ◌≤◌, Bool, true, false, not, List, [], ◌∷◌, ◌++◌, length, drop, All, Some, refl, sym, ap, ◌∙◌, ⊎_elim, arith, bytes_eq}
 use Rattle.std.specs.Prelude.{codes, decimal, ◌||◌, ◌&&◌, ◌==◌, nat_le, nat_lt}
 use Rattle.std.specs.Fmt.{char_count, format_spec, padded_integral}
@@ -21,7 +21,7 @@ use Rattle.percent_encoding.proofs.PercentLemmas.{percent_decode-nil, percent_de
 use Rattle.list_terms.specs.Names.{is_media_name, place_of_path, place_of_url}
 use Rattle.list_terms.specs.Renewed.{media_name}
 
--- the name by five digits
+-- The media file name with these five digits.
 abbrev five_digits : (a b c d e : ℕ) → List ℕ
 five_digits a b c d e = 77 ∷ a ∷ b ∷ c ∷ d ∷ e ∷ 46 ∷ 119 ∷ 97 ∷ 118 ∷ []
 
@@ -29,10 +29,11 @@ same_five : (a b c d e a' b' c' d' e' : ℕ) → a ≡ a' → b ≡ b' → c ≡
     → five_digits a b c d e ≡ five_digits a' b' c' d' e'
 same_five a b c d e a' b' c' d' e' ea eb ec ed ee = cc
 
+-- The media file name of a number below 100,000.
 abbrev name_of : ℕ → List ℕ
 name_of n = five_digits (48 + n / 10000) (48 + n / 1000 % 10) (48 + n / 100 % 10) (48 + n / 10 % 10) (48 + n % 10)
 
--- a number below 100000 has five digits
+-- The name of a medium below 100,000 has exactly five digits.
 media_name-five : (n : ℕ) → n < 100000 → media_name n ≡ name_of n
 unfolding media_name
 media_name-five n h =
@@ -55,18 +56,18 @@ media_name-five n h =
     (cases_lt n 100))
     (cases_lt n 10)
 
--- equal names have equal digits
+-- Equal names have equal digits.
 same_digits : (a b c d e a' b' c' d' e' : ℕ) → five_digits a b c d e ≡ five_digits a' b' c' d' e'
     → (a ≡ a') × (b ≡ b') × (c ≡ c') × (d ≡ d') × (e ≡ e')
 same_digits a b c d e a' b' c' d' e' same = (cc, cc, cc, cc, cc)
 
--- a name tells its number
+-- The name of a medium determines its number.
 pub media_name-injective : (m n : ℕ) → m < 100000 → n < 100000 → media_name m ≡ media_name n → m ≡ n
 media_name-injective m n few many same =
     let digits = same_digits _ _ _ _ _ _ _ _ _ _ (sym (media_name-five m few) ∙ same ∙ media_name-five n many) in
     omega (arith, digits)
 
--- another number has another name
+-- Different numbers have different names.
 pub other_media_name : (m n : ℕ) → m < 100000 → n < 100000 → m ≢ n → bytes_eq (media_name m) (media_name n) ≡ false
 other_media_name m n few many other = by_test (bytes_eq (media_name m) (media_name n)) refl where
   by_test : (same : Bool) → bytes_eq (media_name m) (media_name n) ≡ same → same ≡ false
@@ -76,7 +77,7 @@ other_media_name m n few many other = by_test (bytes_eq (media_name m) (media_na
 
 -- ---- their URLs
 
--- a byte that stands for itself in a path
+-- A byte that needs no escape in a path.
 record IsPlainByte (byte : ℕ) : Type 0 where
   ascii : byte < 128
   no_percent : byte ≢ 37
@@ -94,11 +95,11 @@ plain b low high other = record {
 digit : (d : ℕ) → d < 10 → IsPlainByte (48 + d)
 digit d below = plain (48 + d) (omega arith) (omega arith) (λ same. omega (arith, same))
 
--- a byte that is a letter or a full stop
+-- Letters and the full stop need no escape.
 letter : (b : ℕ) → (nat_le 40 b && (nat_lt b 128 && not (b == 47))) ≡ true → IsPlainByte b
 letter b is = plain b (grind (arith, nat_tests)) (grind (arith, nat_tests)) (λ same. grind (arith, nat_tests))
 
--- what stands behind the digits
+-- The ending `.wav` after the digits.
 abbrev behind : List ℕ
 behind = 46 ∷ 119 ∷ 97 ∷ 118 ∷ []
 
@@ -151,15 +152,15 @@ place_of_path-of_number n h =
     let all = plain_name n h in
     rw (after_last-plain (name_of n) all, percent_decode-plain (name_of n) all, is_media_name-of_number n h) refl
 
--- the URL of a medium names it
+-- The URL of a medium names that medium.
 pub media_place : (n : ℕ) → n < 100000
     → place_of_url (codes "URL:file://localhost/" ++ media_name n)
     ≡ Some (record { path = media_name n; name = media_name n })
 media_place n h = rw (media_name-five n h) (place_of_path-of_number n h)
 
--- ---- how they are printed
+-- ---- printing
 
--- five digits, by zeros in front, between the letter and the ending
+-- Formatting with zeros to five digits prints the media file name.
 pub name_printed : (n : ℕ) → codes "M" ++ (padded_integral (format_spec 32 0 4 5 (2 ^ 64 - 1)) false [] (decimal n)
     ++ codes ".wav") ≡ media_name n
 unfolding media_name padded_integral char_count

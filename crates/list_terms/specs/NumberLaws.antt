@@ -1,4 +1,4 @@
--- Digits spell the number that they print, with zeros in front.
+-- Laws of decimal numbers: the digits that print a number spell it, also with zeros in front.
 use Rattle.std.proofs.Common.{◌≡◌, ℕ, zero, suc, ◌+◌, ◌-◌, ◌*◌, ◌/◌, ◌%◌, ◌<◌, ◌≤◌, Bool, true, false, List, [], ◌∷◌, ◌++◌, length, Option, None, Some, refl, ap, sym, subst, ◌∙◌, append_assoc, length-append, arith}
 use Rattle.std.specs.Prelude.{decimal, if◌then◌else◌, nat_le, replicate, unwrap_or, ◌==◌, ◌&&◌}
 use Rattle.std.specs.List.{before_first, fold, list_all}
@@ -15,7 +15,7 @@ use Rattle.list_terms.specs.FieldLaws.{before_more, before_none, before_tilde, b
 use Rattle.list_terms.specs.Names.{behind_byte}
 use Rattle.list_terms.specs.Spelling.{ChannelRun, IsNumber, OneChannel, SpellsChannels}
 
--- one digit more
+-- The number with one more digit.
 abbrev with_digit : ℕ → ℕ → ℕ
 with_digit n digit = n * 10 + (digit - 48)
 
@@ -50,7 +50,7 @@ more_digits a (d ∷ digits) some all small =
     (last_digit a d some (digit_low d is) (digit_high d is) (omega (arith, under, small)))
     ∙ append_assoc (decimal a) (d ∷ []) digits
 
--- digits are zeros and what prints the number
+-- Digits are zeros followed by the number's decimal form.
 record IsPrinted (text : List ℕ) : Type 0 where
   zeros : ℕ
   is : text ≡ replicate zeros 48 ++ decimal (spelled text)
@@ -84,7 +84,7 @@ printed (d ∷ text) all some small = by_zero (d == 48) refl (λ s m. printed te
       let one : decimal a ≡ d ∷ [] = decimal_digit a (omega arith) ∙ ap (λ x. x ∷ []) (omega arith) in
       record { zeros = 0; is = sym (more_digits a text (omega arith) others small ∙ ap (λ front. front ++ text) one) }
 
--- ---- what is printed is spelled
+-- ---- printed numbers are read back
 
 spelled-zeros : (zeros : ℕ) (text : List ℕ) → spelled (replicate zeros 48 ++ text) ≡ spelled text
 spelled-zeros zero text = refl
@@ -101,7 +101,7 @@ all_zeros (suc zeros) = all_zeros zeros
 is_one_digit : (d : ℕ) → d < 10 → is_digit (48 + d) ≡ true
 is_one_digit d h = grind (arith, nat_tests)
 
--- digits that print a number spell it
+-- Digits that spell the number they print.
 record Prints (n : ℕ) (text : List ℕ) : Type 0 where
   value : spelled text ≡ n
   digits : list_all is_digit text ≡ true
@@ -156,7 +156,7 @@ number_told limit n text low e =
       below = omega (arith, below, t.1);
     }
 
--- the text of a number is one to six digits, which spell it
+-- A number in one to six digits.
 record HasDigits (text : List ℕ) (n : ℕ) : Type 0 where
   digits : are_digits text ≡ true
   value : spelled text ≡ n
@@ -217,7 +217,7 @@ channels_read text channels (ChannelRun front back c a b order) =
       is_up_to c.first c.last order,
     ) refl
 
--- the text has no tilde, or stands around its first one
+-- Either the text has no tilde, or the text is split at its first one.
 abbrev IsSplit : List ℕ → Option (List ℕ) → Type 0
 IsSplit text None = before_first is_tilde text ≡ text
 IsSplit text (Some back) = text ≡ before_first is_tilde text ++ (126 ∷ back)

@@ -1,9 +1,9 @@
--- A project as an AES31-3 audio decision list spells it: its header, its sources and its events.
+-- A project as an AES31-3 audio decision list spells it: header, sources and events.
 use Rattle.std.specs.Prelude.{ℕ, List, Option}
 use Rattle.sound_terms.specs.declared.Event.{Event}
 use Rattle.list_terms.specs.declared.Notice.{Notice}
 
--- the lines of the five sections that are kept as they stand
+-- The five header sections whose lines are kept verbatim.
 pub record Header : Type 0 where
   pub version : Option (List (List ℕ))
   pub project : Option (List (List ℕ))
@@ -11,7 +11,8 @@ pub record Header : Type 0 where
   pub sequence : Option (List (List ℕ))
   pub track_list : Option (List (List ℕ))
 
--- a line of the source index: where the file is, and the time of its first frame where the list tells it
+-- A line of SOURCE_INDEX: the URL of the file, and the time of its first sample if the list gives it. Times and
+-- lengths are in samples.
 pub record Source : Type 0 where
   pub number : ℕ
   pub url : List ℕ
@@ -19,7 +20,7 @@ pub record Source : Type 0 where
   pub start : Option ℕ
   pub length : Option ℕ
 
--- the whole project, at a rate of frames; sources and events in the order of their lines
+-- A whole project at a frame rate; sources and events are in line order.
 pub record ListProject : Type 0 where
   pub header : Header
   pub rate : ℕ

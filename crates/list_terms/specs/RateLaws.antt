@@ -1,4 +1,4 @@
--- A list that is read at a rate of frames tells this rate.
+-- A list that can be read at a frame rate has that rate.
 use Rattle.std.specs.Prelude.{◌≡◌, ◌+◌, ◌==◌, ◌&&◌, ◌⊎◌, ℕ, Bool, true, false, not, List, [], ◌∷◌, Option, None, Some, Result, Ok, Err, codes, if◌then◌else◌, is_ok, is_some, option_and_then, option_map, unwrap_or, refl}
 use Rattle.std.proofs.Common.{◌∙◌, ap, inl, inr, sym, arith}
 use Rattle.std.proofs.lemmas.Bool.{not-false}
@@ -40,9 +40,9 @@ pub rate_from-next :
 unfolding rate_from
 rate_from-next o next text lines e f = rw (e, f, rate_from)
 
--- ---- a line that is read is passed
+-- ---- a line that was read is in the outline too
 
--- the frame rate was told
+-- Whether SEQUENCE has given the frame rate.
 abbrev has_rate : Context → Bool
 has_rate c = c.header.rates.frame_rate
 
@@ -64,7 +64,7 @@ module _ (rate : ℕ) where
       let l = chain (system_line rate text) (λ _. Ok rates) told u.1 in
       (whole_line text u.0 (line_whole tt (system_fields rate) text l.value (token_at text) refl l.is), ok_same _ _ l.others)
 
-  -- what a line of SEQUENCE says of the rate: this one, or nothing
+  -- The frame rate given by a line of SEQUENCE: the list's rate, or none.
   abbrev SaysRate : Rates → Rates → List ℕ → Type 0
   SaysRate rates told text =
       (rate_of_line text ≡ Some rate) ⊎ ((rate_of_line text ≡ None) × (told.frame_rate ≡ rates.frame_rate))
@@ -79,7 +79,7 @@ module _ (rate : ℕ) where
     by_told None f = absurd (let no : false ≡ true = rw f at h in cc)
     by_told (Some told) f = f ∙ ap Some (same_rate told rate (rw f at h))
 
-  -- the rate that is told behind the keyword
+  -- The rate after `(SEQ_FRAME_RATE)`.
   rate_tells :
       (rates told : Rates) (line : List ℕ)
       → reads (Then (form.Passes (tells_rate rate) fault.WrongSequence) (λ _. Done any rates)) line ≡ Ok told
@@ -90,7 +90,7 @@ module _ (rate : ℕ) where
       let f = found (form.Passes (tells_rate rate) fault.WrongSequence) line c.value c.is in
       rw f.at (tells_is f.token.content (if_ok (tells_rate rate f.token) tt fault.WrongSequence c.value.0 f.is).0)
 
-  -- a line of SEQUENCE that was read
+  -- A line of SEQUENCE that was read.
   record IsSequenceLine (rates told : Rates) (text : List ℕ) : Type 0 where
     whole : end_line text ≡ Ok tt
     says : SaysRate rates told text
@@ -137,7 +137,7 @@ module _ (rate : ℕ) where
           (is_keyword (codes "SEQ_FRAME_RATE") token) refl o;
     }
 
-  -- a line of the source index may stand there, and leaves the rate as it is
+  -- A line of SOURCE_INDEX that was read is allowed there, and leaves the frame rate unchanged.
   source_stands :
       {c next : Context} {n : ℕ} (text : List ℕ) → is_tag text ≡ false → IsSourceLine rate c n text next
       → (is_cut_whole text ≡ true) × (has_rate next ≡ has_rate c)
@@ -146,7 +146,7 @@ module _ (rate : ℕ) where
   source_stands text t (DroppedSource token rest at other ends) =
       (whole_line text t (whole-token text rest token at ends), refl)
 
-  -- and so does a line of the event list
+  -- A line of EVENT_LIST that was read is allowed there, and leaves the frame rate unchanged.
   event_stands :
       {c next : Context} (text : List ℕ) → is_tag text ≡ false → IsEventLine rate c text next
       → (is_cut_whole text ≡ true) × (has_rate next ≡ has_rate c)
@@ -159,17 +159,17 @@ module _ (rate : ℕ) where
     refl,
   )
 
-  -- a kept line that tells no rate
+  -- A kept line that gives no rate leaves the frame rate unchanged.
   rate_stays :
       (s : Section) (c next : Context) (text : List ℕ) (h : IsHeaderLine rate s c next text) → c.header.rates ≡ h.rates
       → has_rate next ≡ has_rate c
   rate_stays s c next text h same = ap has_rate h.is ∙ ap (λ (r : Rates). r.frame_rate) (sym same)
 
-  -- this rate is told, or none, and then it is told as it was
+  -- Either this rate was given now, or none was and nothing changed.
   abbrev Tells : Context → Context → Option ℕ → Type 0
   Tells c next found = (found ≡ Some rate) ⊎ ((found ≡ None) × (has_rate next ≡ has_rate c))
 
-  -- what a line says of the rate, and that it is passed
+  -- The outline after a line that was read, and the frame rate that the line gives.
   abbrev Passes : Context → Context → List ℕ → Type 0
   Passes c next text =
       (rate_in (outline_of c) text ≡ Some rate)
@@ -179,7 +179,7 @@ module _ (rate : ℕ) where
   abbrev inside : Section → Context → Context
   inside s c = record c { stage = stage.Inside s }
 
-  -- what a line that was read says of the rate, and that it may stand there
+  -- A line of a section that was read is allowed there, and gives this rate or none.
   abbrev Stands : Section → Context → Context → List ℕ → Type 0
   Stands s c next text = (may_stand s text ≡ true) × Tells c next (rate_in (outline_of (inside s c)) text)
 
@@ -243,7 +243,7 @@ module _ (rate : ℕ) where
 
   -- ---- lines outside every section
 
-  -- a section that begins is opened, and tells no rate
+  -- A section that opens is marked as opened, and gives no rate.
   record IsBegun (c : Context) (n : ℕ) (s : Section) : Type 0 where
     opened : has_opened (outline_of c).opened s ≡ is_opened c s
     marked : with_opened (outline_of c).opened s ≡ (outline_of (with_section c n s)).opened
@@ -330,7 +330,7 @@ module _ (rate : ℕ) where
           by_stage false b =
               rate_from-next (outline_of c) (outline_of next) text lines none goes ∙ ih b (same ∙ untold) (rw b at g)
 
--- a text that is read at a rate has this rate
+-- A text that can be read at a frame rate has that rate.
 pub rate_of-read :
     (rate : ℕ) (text : List ℕ) (p : ListProject) → read_from rate nothing_read 0 (lines_of text) ≡ Ok p
     → rate_of text ≡ rate

@@ -1,4 +1,4 @@
--- What a line says that was read: one inversion for each section, and one for each stage.
+-- Inversions of reading: the line that was read, for each section and each stage.
 use Rattle.std.specs.Prelude.{◌≡◌, ◌+◌, ◌==◌, ℕ, Bool, true, false, List, [], ◌∷◌, ◌++◌, length, Option, None, Some, Result, Ok, Err, codes, if◌then◌else◌, is_some, nat_le, refl}
 use Rattle.std.specs.List.{list_any}
 use Rattle.std.proofs.Common.{◌∙◌, ap, subst, sym}
@@ -21,7 +21,7 @@ use Rattle.list_terms.specs.Steps.{err_map, ok_map}
 use Rattle.list_terms.specs.Text.{Context, Entries, LocatedFault, Outline, all_events, at_entry, at_index, at_line, at_open, before_list, dropped_line, entry_line, entry_of, further_line, in_event_list, in_header, in_section, in_source_index, in_unsupported, index_line, is_end, is_list_begin, is_opened, is_tag, keep, kept_line, opened, opened_name, outside, rates_with, section_of, source_with, with_event, with_notice, with_section, with_text}
 use Rattle.list_terms.specs.Tokens.{Cut, TokenText, token_at, trimmed}
 
--- how far the sections are passed where so much was read
+-- The outline of the text read so far.
 abbrev pub outline_of : Context → Outline
 outline_of c = record {
   stage = c.stage;
@@ -40,9 +40,9 @@ outline_of c = record {
 abbrev pub begun : Context → ℕ → Section → List ℕ → Context
 begun c n s name = record (with_section c n s) { stage = stage.Inside s; name = name }
 
--- ---- a line behind its keyword
+-- ---- a line after its keyword
 
--- the keyword of a line, and what follows it, which says this
+-- A line with this keyword, whose fields yield `x`.
 pub record IsNamed {A : Type 0} (name : List ℕ) (form : Form A) (text : List ℕ) (x : A) : Type 0 where
   pub keyword : TokenText
   pub rest : List ℕ
@@ -79,7 +79,7 @@ kept_outline section.EventList c text kept rates = refl
 kept_outline section.Skipped c text kept rates = refl
 kept_outline section.Unsupported c text kept rates = refl
 
--- a line before the list: a blank one, or `<ADL>`
+-- A line before the list: blank, or `<ADL>`.
 pub data IsBeforeLine (c : Context) (text : List ℕ) : Context → Type 0 where
   BlankBefore : (length (trimmed text) == 0) ≡ true → IsBeforeLine c text c
   Begins :
@@ -100,7 +100,7 @@ before_is c next n text e = by_tests (length (trimmed text) == 0) refl (is_list_
       absurd (let no : ◌≡◌ {A = Result Context LocatedFault} (Err (at_line n fault.SectionMismatch)) (Ok next) =
       rw (b, g) at e in cc)
 
--- a line between sections: a blank one, `</ADL>`, or one that opens a section for the first time
+-- A line between sections: blank, `</ADL>`, or the first opening of a section.
 pub data IsOutsideLine (c : Context) (n : ℕ) (text : List ℕ) : Context → Type 0 where
   BlankOutside : (length (trimmed text) == 0) ≡ true → IsOutsideLine c n text c
   Ends :
@@ -135,7 +135,7 @@ outside_is c next n text e =
 -- ---- one line of a section
 
 module _ (rate : ℕ) where
-  -- a line of the header that was read
+  -- A header line that was read.
   pub record IsHeaderLine (s : Section) (c next : Context) (text : List ℕ) : Type 0 where
     pub rates : Rates
     pub room : nat_le 65535 c.header.kept ≡ false
@@ -158,7 +158,7 @@ module _ (rate : ℕ) where
         is = sym f.same ∙ ap (λ header. record c { header = header }) (sym k.same);
       }
 
-  -- a line of the source index: a blank one, a source under a number of its own, or one that is dropped
+  -- A line of SOURCE_INDEX: blank, a source with a new number, or a dropped line.
   pub data IsSourceLine (c : Context) (n : ℕ) (text : List ℕ) : Context → Type 0 where
     BlankSource : token_at text ≡ Ok None → IsSourceLine c n text c
     ToldSource :
@@ -170,7 +170,7 @@ module _ (rate : ℕ) where
         → is_keyword (codes "Index") token ≡ false → end_line rest ≡ Ok tt
         → IsSourceLine c n text (with_notice c 2 n)
 
-  -- a source has the number of its line
+  -- A source has the number in its line.
   pub source_number :
       (n : ℕ) (line : List ℕ) (source : Source) → reads (source_fields rate n) line ≡ Ok source → source.number ≡ n
   source_number n line source e =
@@ -231,8 +231,8 @@ module _ (rate : ℕ) where
     by_cut false t (Ok (Some (token, rest))) f =
         (t, by_test token rest f (is_keyword (codes "Index") token) refl (rw (t, f) at e))
 
-  -- a line of the event list: a blank one, an entry under a number of its own, a remark before the first entry, or what
-  -- is said of the entry before it
+  -- A line of EVENT_LIST: blank, an entry with a new number, a remark before the first entry, or a line of the
+  -- entry before it.
   pub data IsEventLine (c : Context) (text : List ℕ) : Context → Type 0 where
     BlankEvent : token_at text ≡ Ok None → IsEventLine c text c
     ToldEntry :
@@ -248,7 +248,7 @@ module _ (rate : ℕ) where
         → c.entries.entry ≡ Some entry → reads (entry_with rate entry token) rest ≡ Ok new
         → IsEventLine c text (record c { entries = record c.entries { entry = Some new } })
 
-  -- an entry has the number of its line
+  -- An entry has the number in its line.
   pub entry_number :
       (n : ℕ) (line : List ℕ) (g : Event × List ℕ) → reads (event_fields rate n) line ≡ Ok g → g.0.number ≡ n
   entry_number n line g e =
@@ -319,7 +319,7 @@ module _ (rate : ℕ) where
     by_cut false t (Ok (Some (token, rest))) f =
         (t, by_test token rest f (is_keyword (codes "Entry") token) refl (rw (t, f) at e))
 
-  -- ---- a line inside a section leaves it open
+  -- ---- a line inside a section leaves the outline unchanged
 
   header_line_leaves :
       (s : Section) (c next : Context) (n : ℕ) (text : List ℕ) → in_header rate c n text s ≡ Ok next
@@ -354,7 +354,7 @@ module _ (rate : ℕ) where
   line_leaves section.Skipped c next n text e = ap outline_of (sym (ok_same {E = LocatedFault} c next e))
   line_leaves section.Unsupported c next n text e = ap outline_of (sym (unsupported_line_is c next n text e).1)
 
-  -- a line inside a section ends it, or belongs to it
+  -- A line inside a section closes it or belongs to it.
   pub data IsInsideLine (s : Section) (c : Context) (n : ℕ) (text : List ℕ) (next : Context) : Type 0 where
     Closes : is_end c.name (trimmed text) ≡ true → record c { stage = stage.Outside } ≡ next
         → IsInsideLine s c n text next

@@ -1,8 +1,8 @@
--- How digits spell numbers and channels, without a reader.
+-- The spelling of numbers and channels.
 use Rattle.std.specs.Prelude.{◌≡◌, ℕ, ◌≤◌, ◌++◌, decimal, length, replicate, List, ◌∷◌}
 use Rattle.sound_terms.specs.declared.Channels.{Channels}
 
--- the digits of a number from 1 up to a limit, at most six with the zeros in front
+-- The spelling of a number from 1 to `limit`: at most six digits, including leading zeros.
 pub record IsNumber (limit : ℕ) (text : List ℕ) (number : ℕ) : Type 0 where
   pub zeros : ℕ
   pub digits : text ≡ replicate zeros 48 ++ decimal number
@@ -10,7 +10,7 @@ pub record IsNumber (limit : ℕ) (text : List ℕ) (number : ℕ) : Type 0 wher
   pub above : 1 ≤ number
   pub below : number ≤ limit
 
--- `n` for one channel of 64, `a~b` for those from a to b
+-- The spelling of channels: `n` for one channel of 64, `a~b` for channels a to b.
 pub data SpellsChannels : List ℕ → Channels → Type 0 where
   OneChannel : (text : List ℕ) (channel : ℕ) → IsNumber 64 text channel
       → SpellsChannels text (record { first = channel; last = channel })

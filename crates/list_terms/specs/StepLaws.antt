@@ -1,9 +1,9 @@
--- Steps that gave a value: each of them gave one.
+-- Inversions of chained steps that succeed.
 use Rattle.std.specs.Prelude.{◌≡◌, Bool, true, false, Option, None, Some, Result, Ok, Err, ok_or, if◌then◌else◌, refl}
 use Rattle.std.proofs.Common.{ap}
 use Rattle.list_terms.specs.Steps.{◌>>=◌, err_map, ok_map}
 
--- a chain of steps that gave a value: the first gave one, and so did the others
+-- A chain that succeeds: its first step yields a value, and so do the others.
 pub record IsChain {A B E : Type 0} (first : Result A E) (next : A → Result B E) (last : B) : Type 0 where
   pub value : A
   pub is : first ≡ Ok value
@@ -35,14 +35,14 @@ pub ok_or_some : {A E : Type 0} (found : Option A) (fault : E) (x : A) → ok_or
 ok_or_some None fault x e = absurd (cc)
 ok_or_some (Some y) fault x e = let same : y ≡ x = cc in ap Some same
 
--- a test that gave a value was passed
+-- If a guarded value is returned, the test holds.
 pub if_ok :
     {X E : Type 0} (test : Bool) (x : X) (fault : E) (y : X) → (if test then Ok x else Err fault) ≡ Ok y
     → (test ≡ true) × (x ≡ y)
 if_ok true x fault y e = (refl, cc)
 if_ok false x fault y e = absurd (cc)
 
--- a test that stood in the way was not passed
+-- If a value is returned despite a guard, the guard doesn't hold.
 pub unless_ok :
     {X E : Type 0} (test : Bool) (fault : E) (r : Result X E) (y : X) → (if test then Err fault else r) ≡ Ok y
     → (test ≡ false) × (r ≡ Ok y)

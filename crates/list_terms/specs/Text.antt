@@ -1,4 +1,4 @@
--- The project that the text of a list spells, or its first fault: the line, and the leftmost fault of that line.
+-- The project that a text spells, or its first fault: the first faulty line, and the leftmost fault in it.
 use Rattle.std.specs.Prelude.{ℕ, ◌+◌, ◌==◌, ◌&&◌, ◌||◌, not, max, nat_le, Bool, true, false, List, [], ◌∷◌, ◌++◌, length, Option, None, Some, Result, Ok, Err, if◌then◌else◌, codes, option_and_then, option_map, unwrap_or, is_ok, is_some}
 use Rattle.std.specs.Char.{is_ascii_alphanumeric}
 use Rattle.std.specs.List.{list_all, list_any}
@@ -26,34 +26,36 @@ use Rattle.list_terms.specs.declared.OpenEntry.{OpenEntry}
 use Rattle.list_terms.specs.declared.Rates.{Rates}
 use Rattle.list_terms.specs.EntryLines.{source_fields, event_fields, entry_with, remark, sequence_line, system_line}
 
--- a fault, and where it stands
+-- A fault and its location.
 pub record LocatedFault : Type 0 where
   pub fault : TextFault
   pub location : Location
 
+-- A fault in a line.
 abbrev pub at_line : ℕ → TextFault → LocatedFault
 at_line line fault = record { fault = fault; location = location.Line line }
 
+-- A fault in the line of an index.
 abbrev pub at_index : ℕ → ℕ → TextFault → LocatedFault
 at_index line index fault = record { fault = fault; location = location.Index line index }
 
+-- A fault in a line of an entry.
 abbrev pub at_entry : ℕ → ℕ → TextFault → LocatedFault
 at_entry line entry fault = record { fault = fault; location = location.Entry line entry }
 
--- the header so far: its kept lines and their count, and the rates that it told
+-- The header so far: its lines, their number, and the rates given.
 pub record HeaderRead : Type 0 where
   pub lines : Header
   pub kept : ℕ
   pub rates : Rates
 
--- the event list so far: the events whose lines are all read, the last entry, and the separators of the first one's
--- destination in
+-- The event list so far: the complete events, the last entry, and the separators of the first destination in.
 pub record Entries : Type 0 where
   pub events : List Event
   pub entry : Option OpenEntry
   pub separators : Option (List ℕ)
 
--- what was read so far: the stage, the name of the section that is open, and what the project has by now
+-- The state of reading: the stage, the name of the open section, and the project so far.
 pub record Context : Type 0 where
   pub stage : Stage
   pub name : List ℕ
@@ -64,6 +66,7 @@ pub record Context : Type 0 where
   pub entries : Entries
   pub notices : List Notice
 
+-- The header before any section.
 abbrev pub no_header : HeaderRead
 no_header = record {
   lines = record { version = None; project = None; system = None; sequence = None; track_list = None };
@@ -71,9 +74,11 @@ no_header = record {
   rates = record { sample_rate = false; frame_rate = false };
 }
 
+-- The event list before any entry.
 abbrev pub no_entry : Entries
 no_entry = record { events = []; entry = None; separators = None }
 
+-- The state before the first line.
 abbrev pub nothing_read : Context
 nothing_read = record {
   stage = stage.Before;
@@ -88,18 +93,18 @@ nothing_read = record {
 
 -- ---- sections
 
--- what stands before a last `>`
+-- The text before a final `>`.
 abbrev pub before_close : List ℕ → Option (List ℕ)
 before_close [] = None
 before_close (byte ∷ []) = if byte == 62 then Some [] else None
 before_close (byte ∷ next ∷ rest) = option_map (λ text. byte ∷ text) (before_close (next ∷ rest))
 
--- what stands between `<` and a last `>`
+-- The text between `<` and a final `>`.
 abbrev pub tag_of : List ℕ → Option (List ℕ)
 tag_of [] = None
 tag_of (byte ∷ rest) = if byte == 60 then before_close rest else None
 
--- the line `</NAME>` of this name
+-- The line `</NAME>`, in any case.
 abbrev pub is_end : List ℕ → List ℕ → Bool
 is_end name text = ends (tag_of text) where
   begins : List ℕ → Bool
@@ -110,37 +115,39 @@ is_end name text = ends (tag_of text) where
   ends None = false
   ends (Some tag) = begins tag
 
+-- A letter, a digit or `_`.
 abbrev pub is_name_byte : ℕ → Bool
 is_name_byte byte = is_ascii_alphanumeric byte || byte == 95
 
--- letters, digits and `_`
+-- A section name: letters, digits and `_`.
 abbrev pub is_section_name : List ℕ → Bool
 is_section_name name = nat_le 1 (length name) && list_all is_name_byte name
 
--- the name of a section that this line opens
+-- The name of the section that a line opens.
 abbrev pub opened_name : List ℕ → Option (List ℕ)
 opened_name text = named (tag_of text) where
   named : Option (List ℕ) → Option (List ℕ)
   named None = None
   named (Some name) = if is_section_name name then Some name else None
 
--- the line `<ADL>`
+-- The line `<ADL>`.
 abbrev pub is_list_begin : List ℕ → Bool
 is_list_begin text = named (opened_name text) where
   named : Option (List ℕ) → Bool
   named None = false
   named (Some name) = is_same_name name (codes "ADL")
 
--- some part of the name is this word
+-- Whether the name contains this word.
 abbrev pub has_word : List ℕ → List ℕ → Bool
 has_word word [] = false
 has_word word (byte ∷ rest) = begins_with word (byte ∷ rest) || has_word word rest
 
+-- A section name that contains GAIN, AUTOMATION, PAN, MUTE or FADE.
 abbrev pub is_unsupported : List ℕ → Bool
 is_unsupported name = has_word (codes "GAIN") name || has_word (codes "AUTOMATION") name || has_word (codes "PAN") name
     || has_word (codes "MUTE") name || has_word (codes "FADE") name
 
--- the section of this name
+-- The section with this name.
 unfoldable pub section_of : List ℕ → Section
 section_of name =
     if is_same_name name (codes "VERSION") then section.Version
@@ -153,6 +160,7 @@ section_of name =
     else if is_unsupported name then section.Unsupported
     else section.Skipped
 
+-- Whether a section has been opened.
 abbrev pub is_opened : Context → Section → Bool
 is_opened c section.Version = is_some c.header.lines.version
 is_opened c section.Project = is_some c.header.lines.project
@@ -164,13 +172,15 @@ is_opened c section.EventList = c.has_events
 is_opened c section.Skipped = false
 is_opened c section.Unsupported = false
 
+-- The state with these header lines.
 abbrev pub with_lines : Context → Header → Context
 with_lines c lines = record c { header = record c.header { lines = lines } }
 
+-- The state with one more notice at a line.
 abbrev pub with_notice : Context → ℕ → ℕ → Context
 with_notice c kind line = record c { notices = c.notices ++ record { kind = kind; at = line } ∷ [] }
 
--- a section begins; one that is passed over gives notice 1
+-- The state after a section is opened; an unknown section adds notice 1.
 abbrev pub with_section : Context → ℕ → Section → Context
 with_section c line section.Version = with_lines c (record c.header.lines { version = Some [] })
 with_section c line section.Project = with_lines c (record c.header.lines { project = Some [] })
@@ -182,20 +192,20 @@ with_section c line section.EventList = record c { has_events = true }
 with_section c line section.Skipped = with_notice c 1 line
 with_section c line section.Unsupported = with_notice c 1 line
 
--- the section of this name begins
+-- Opening a section by its name, which is refused for a second time.
 unfoldable pub opened : Context → ℕ → List ℕ → Result Context LocatedFault
 opened c line name =
     if is_opened c (section_of name) then Err (at_line line fault.RepeatedSection)
     else Ok (record (with_section c line (section_of name)) { stage = stage.Inside (section_of name); name = name })
 
--- before the list: blank lines, and `<ADL>`
+-- A line before the list: blank, or `<ADL>`.
 unfoldable pub before_list : Context → ℕ → List ℕ → Result Context LocatedFault
 before_list c line text =
     if length text == 0 then Ok c
     else if is_list_begin text then Ok (record c { stage = stage.Outside })
     else Err (at_line line fault.SectionMismatch)
 
--- between sections: blank lines, `</ADL>`, and lines that open a section
+-- A line between sections: blank, `</ADL>`, or the opening of a section.
 unfoldable pub outside : Context → ℕ → List ℕ → Result Context LocatedFault
 outside c line text =
     if length text == 0 then Ok c
@@ -207,17 +217,18 @@ outside c line text =
 
 -- ---- lines of sections
 
--- the line begins with `<`, so it can't be cut into tokens
+-- Whether the line begins with `<`.
 abbrev pub is_tag : List ℕ → Bool
 is_tag line = begins (behind_blanks line) where
   begins : List ℕ → Bool
   begins [] = false
   begins (byte ∷ rest) = byte == 60
 
--- the lines of a section with one more
+-- The lines of a section with one more.
 abbrev pub with_text : List ℕ → Option (List (List ℕ)) → Option (List (List ℕ))
 with_text text lines = option_map (λ front. front ++ text ∷ []) lines
 
+-- The header with one more line in a section.
 abbrev pub keep : Section → List ℕ → Header → Header
 keep section.Version text h = record h { version = with_text text h.version }
 keep section.Project text h = record h { project = with_text text h.project }
@@ -229,23 +240,25 @@ keep section.EventList text h = h
 keep section.Skipped text h = h
 keep section.Unsupported text h = h
 
--- a line of the header is kept as it stands, where it says nothing that isn't supported; at most 65535 are kept
+-- A header line is kept verbatim unless it is unsupported; at most 65,535 are kept.
 unfoldable pub kept_line : HeaderRead → Section → List ℕ → Result Rates TextFault → Result HeaderRead TextFault
 kept_line header section text said =
     if nat_le 65535 header.kept then Err fault.TooMany
     else ok_map (λ rates. record { lines = keep section text header.lines; kept = header.kept + 1; rates = rates }) said
 
--- a line that is cut into tokens doesn't begin as one that opens or ends a section
+-- In a section that is cut into tokens, no line begins with `<`.
 abbrev pub untagged : {X : Type 0} → List ℕ → Result X TextFault → Result X TextFault
 untagged text said = if is_tag text then Err fault.SectionMismatch else said
 
+-- The rates given after a line of SYSTEM, which gives none.
 abbrev pub system_rates : ℕ → Rates → List ℕ → Result Rates TextFault
 system_rates rate rates text = untagged text (system_line rate text >>= (λ _. Ok rates))
 
+-- The rates given after a line of SEQUENCE.
 abbrev pub sequence_rates : ℕ → Rates → List ℕ → Result Rates TextFault
 sequence_rates rate rates text = untagged text (sequence_line rate rates text)
 
--- the rates that the header told, with a line of this section
+-- The rates given so far, after one more line of this section.
 abbrev pub rates_with : ℕ → Section → Rates → List ℕ → Result Rates TextFault
 rates_with rate section.Version rates text = Ok rates
 rates_with rate section.Project rates text = Ok rates
@@ -257,27 +270,29 @@ rates_with rate section.EventList rates text = Ok rates
 rates_with rate section.Skipped rates text = Ok rates
 rates_with rate section.Unsupported rates text = Ok rates
 
+-- The state after a header line.
 unfoldable pub in_header : ℕ → Context → ℕ → List ℕ → Section → Result Context LocatedFault
 in_header rate c line text section = err_map (at_line line)
     (ok_map (λ header. record c { header = header })
     (kept_line c.header section text (rates_with rate section c.header.rates text)))
 
--- the source of this number, where no other has it
+-- The sources with one more, whose number must be new.
 unfoldable pub source_with : ℕ → List Source → ℕ → List ℕ → Result (List Source) TextFault
 source_with rate sources number text =
     if list_any (λ other. other.number == number) sources then Err fault.DuplicateNumber
     else reads (source_fields rate number) text >>= (λ source. Ok (sources ++ source ∷ []))
 
--- an `(Index)` line, behind this keyword
+-- The rest of an `(Index)` line.
 unfoldable pub index_line : ℕ → Context → ℕ → List ℕ → Result Context LocatedFault
 index_line rate c line text = err_map (at_line line) (value_at Number text) >>= (λ (number, rest).
     err_map (at_index line number) (ok_map (λ sources. record c { sources = sources })
     (source_with rate c.sources number rest)))
 
--- another line of the source index is dropped, with notice 2
+-- Any other line of SOURCE_INDEX is dropped, with notice 2.
 unfoldable pub dropped_line : Context → ℕ → List ℕ → Result Context LocatedFault
 dropped_line c line text = err_map (at_line line) (ok_map (λ _. with_notice c 2 line) (end_line text))
 
+-- The state after a line of SOURCE_INDEX.
 unfoldable pub in_source_index : ℕ → Context → ℕ → List ℕ → Result Context LocatedFault
 in_source_index rate c line text = err_map (at_line line) (untagged text (token_at text)) >>= of_token where
   of_token : Option (TokenText × List ℕ) → Result Context LocatedFault
@@ -285,16 +300,16 @@ in_source_index rate c line text = err_map (at_line line) (untagged text (token_
   of_token (Some (token, rest)) =
       if is_keyword (codes "Index") token then index_line rate c line rest else dropped_line c line rest
 
--- the events by now, the last entry's among them
+-- The events so far, including the last entry.
 abbrev pub all_events : List Event → Option OpenEntry → List Event
 all_events events None = events
 all_events events (Some entry) = events ++ entry.event ∷ []
 
--- the last entry has no further line
+-- The event list after the last entry is complete.
 abbrev pub closed_entries : Entries → Entries
 closed_entries entries = record entries { events = all_events entries.events entries.entry; entry = None }
 
--- one entry more behind them
+-- The event list with a new last entry.
 abbrev pub with_event : Entries → Event → List ℕ → Entries
 with_event entries event separators = record {
   events = all_events entries.events entries.entry;
@@ -302,34 +317,36 @@ with_event entries event separators = record {
   separators = Some (unwrap_or entries.separators separators);
 }
 
--- the entry of this number, where no other has it
+-- The event list with one more entry, whose number must be new.
 unfoldable pub entry_of : ℕ → Entries → ℕ → List ℕ → Result Entries TextFault
 entry_of rate entries number text =
     if list_any (λ other. other.number == number) (all_events entries.events entries.entry)
     then Err fault.DuplicateNumber
     else reads (event_fields rate number) text >>= (λ (event, separators). Ok (with_event entries event separators))
 
--- an `(Entry)` line, behind this keyword
+-- The rest of an `(Entry)` line.
 unfoldable pub entry_line : ℕ → Context → ℕ → List ℕ → Result Context LocatedFault
 entry_line rate c line text = err_map (at_line line) (value_at Number text) >>= (λ (number, rest).
     err_map (at_entry line number) (ok_map (λ entries. record c { entries = entries })
     (entry_of rate c.entries number rest)))
 
--- another line of the event list belongs to the entry before it
+-- Any other line of EVENT_LIST belongs to the entry before it.
 unfoldable pub further_line : ℕ → Entries → TokenText → List ℕ → Result Entries TextFault
 further_line rate entries token text = of_entry entries.entry where
   of_entry : Option OpenEntry → Result Entries TextFault
   of_entry None = ok_map (λ _. entries) (reads (remark token) text)
   of_entry (Some entry) = ok_map (λ new. record entries { entry = Some new }) (reads (entry_with rate entry token) text)
 
--- where a line of the event list stands that isn't an `(Entry)` line
+-- The location of a line of EVENT_LIST that isn't an `(Entry)` line.
 abbrev pub location_in : ℕ → Option OpenEntry → Location
 location_in line None = location.Line line
 location_in line (Some entry) = location.Entry line entry.event.number
 
+-- A fault in a line of the event list, located at the last entry if there is one.
 abbrev pub at_open : ℕ → Option OpenEntry → TextFault → LocatedFault
 at_open line entry fault = record { fault = fault; location = location_in line entry }
 
+-- The state after a line of EVENT_LIST.
 unfoldable pub in_event_list : ℕ → Context → ℕ → List ℕ → Result Context LocatedFault
 in_event_list rate c line text =
     if is_tag text then Err (at_line line fault.SectionMismatch)
@@ -340,10 +357,11 @@ in_event_list rate c line text =
           else err_map (at_open line c.entries.entry)
           (ok_map (λ entries. record c { entries = entries }) (further_line rate c.entries token rest))
 
--- a section that may hold blank lines alone
+-- A section that may only hold blank lines.
 unfoldable pub in_unsupported : Context → ℕ → List ℕ → Result Context LocatedFault
 in_unsupported c line text = if length (trimmed text) == 0 then Ok c else Err (at_line line fault.Unsupported)
 
+-- The state after a line inside a section.
 unfoldable pub in_section : ℕ → Context → ℕ → List ℕ → Section → Result Context LocatedFault
 in_section rate c line text section.Version = in_header rate c line text section.Version
 in_section rate c line text section.Project = in_header rate c line text section.Project
@@ -355,7 +373,7 @@ in_section rate c line text section.EventList = in_event_list rate c line text
 in_section rate c line text section.Skipped = Ok c
 in_section rate c line text section.Unsupported = in_unsupported c line text
 
--- one line more, of this number
+-- The state after one more line, which has number `line`.
 unfoldable pub with_line : ℕ → Context → ℕ → List ℕ → Result Context LocatedFault
 with_line rate c line text = at_stage c.stage where
   at_stage : Stage → Result Context LocatedFault
@@ -368,12 +386,14 @@ with_line rate c line text = at_stage c.stage where
 
 -- ---- the whole list
 
+-- Whether `</ADL>` has been read.
 abbrev pub is_behind : Stage → Bool
 is_behind stage.Before = false
 is_behind stage.Outside = false
 is_behind (stage.Inside section) = false
 is_behind stage.Behind = true
 
+-- The project that the state of reading holds.
 abbrev pub project_of : ℕ → Context → ListProject
 project_of rate c = record {
   header = c.header.lines;
@@ -384,14 +404,14 @@ project_of rate c = record {
   notices = c.notices;
 }
 
--- behind `</ADL>`: three sections have to be there, and both rates
+-- The project at `</ADL>`: three sections are required, and both rates.
 unfoldable pub finished : ℕ → Context → ℕ → Result ListProject LocatedFault
 finished rate c line =
     if not (is_some c.header.lines.sequence && c.has_index && c.has_events) then Err (at_line line fault.MissingSection)
     else if not (c.header.rates.sample_rate && c.header.rates.frame_rate) then Err (at_line line fault.MissingSequence)
     else Ok (project_of rate c)
 
--- the project of these lines, behind so many; they have to go up to `</ADL>`
+-- The project of the lines after line `number`, which must contain `</ADL>`.
 unfoldable pub read_from : ℕ → Context → ℕ → List (List ℕ) → Result ListProject LocatedFault
 read_from rate c number [] = Err (at_line (max number 1) fault.SectionMismatch)
 read_from rate c number (line ∷ lines) = with_line rate c (number + 1) line >>= (λ next.
@@ -399,6 +419,7 @@ read_from rate c number (line ∷ lines) = with_line rate c (number + 1) line >>
 
 -- ---- refusals
 
+-- The refusal number of each fault of a text, 1 to 17.
 abbrev pub fault_number : TextFault → ℕ
 fault_number fault.BadByte = 1
 fault_number fault.BadLine = 2
@@ -418,22 +439,25 @@ fault_number fault.TooMany = 15
 fault_number fault.Unplaced = 16
 fault_number fault.RepeatedFade = 17
 
+-- The location of a fault, as a refusal gives it.
 abbrev pub where_of : Location → Where
 where_of (location.Line line) = Line line
 where_of (location.Entry line entry) = LineEntry line entry
 where_of (location.Index line index) = LineIndex line index
 
+-- The refusal of a text with this fault.
 abbrev pub text_refusal : LocatedFault → Refusal
 text_refusal f = record { number = fault_number f.fault; location = where_of f.location; late = false }
 
--- ---- the rate of frames
+-- ---- the frame rate
 
--- how far the sections of a list are passed: the stage, the name of the open section, and those that were opened
+-- The outline of a list so far: the stage, the name of the open section, and the sections opened.
 pub record Outline : Type 0 where
   pub stage : Stage
   pub name : List ℕ
   pub opened : Opened
 
+-- The outline before the first line.
 abbrev pub nothing_passed : Outline
 nothing_passed = record {
   stage = stage.Before;
@@ -449,6 +473,7 @@ nothing_passed = record {
   };
 }
 
+-- Whether a section has been opened.
 abbrev pub has_opened : Opened → Section → Bool
 has_opened opened section.Version = opened.version
 has_opened opened section.Project = opened.project
@@ -460,6 +485,7 @@ has_opened opened section.EventList = opened.event_list
 has_opened opened section.Skipped = false
 has_opened opened section.Unsupported = false
 
+-- The opened sections with one more.
 abbrev pub with_opened : Opened → Section → Opened
 with_opened opened section.Version = record opened { version = true }
 with_opened opened section.Project = record opened { project = true }
@@ -471,7 +497,7 @@ with_opened opened section.EventList = record opened { event_list = true }
 with_opened opened section.Skipped = opened
 with_opened opened section.Unsupported = opened
 
--- the section of this name begins; None: for a second time
+-- The outline after a section opens, or `None` if it was opened before.
 unfoldable pub opens : Outline → List ℕ → Option Outline
 opens o name = if has_opened o.opened (section_of name) then None else Some (record {
   stage = stage.Inside (section_of name);
@@ -479,11 +505,11 @@ opens o name = if has_opened o.opened (section_of name) then None else Some (rec
   opened = with_opened o.opened (section_of name);
 })
 
--- a line that doesn't begin with `<` and is cut whole into tokens
+-- A line that doesn't begin with `<` and consists of whole tokens.
 abbrev pub is_cut_whole : List ℕ → Bool
 is_cut_whole text = not (is_tag text) && is_ok (end_line text)
 
--- a line that may stand in this section, whatever its fields say
+-- Whether a line may occur in this section, apart from the values of its fields.
 abbrev pub may_stand : Section → List ℕ → Bool
 may_stand section.Version text = true
 may_stand section.Project text = true
@@ -495,23 +521,26 @@ may_stand section.EventList text = is_cut_whole text
 may_stand section.Skipped text = true
 may_stand section.Unsupported text = length (trimmed text) == 0
 
--- a line before the list, one between its sections, and one inside a section; None: it can't stand there
+-- The outline after a line before the list; `None` if the line isn't allowed there.
 unfoldable pub passed_before : Outline → List ℕ → Option Outline
 passed_before o text =
     if length text == 0 then Some o
     else if is_list_begin text then Some (record o { stage = stage.Outside }) else None
 
+-- The outline after a line between sections.
 unfoldable pub passed_outside : Outline → List ℕ → Option Outline
 passed_outside o text =
     if length text == 0 then Some o
     else if is_end (codes "ADL") text then Some (record o { stage = stage.Behind })
     else option_and_then (opens o) (opened_name text)
 
+-- The outline after a line inside a section.
 unfoldable pub passed_inside : Outline → Section → List ℕ → Option Outline
 passed_inside o section text =
     if is_end o.name (trimmed text) then Some (record o { stage = stage.Outside })
     else if may_stand section text then Some o else None
 
+-- The outline after any line of the list; `None` if the line isn't allowed there.
 unfoldable pub passed : Outline → List ℕ → Option Outline
 passed o text = at_stage o.stage where
   at_stage : Stage → Option Outline
@@ -520,21 +549,21 @@ passed o text = at_stage o.stage where
   at_stage (stage.Inside section) = passed_inside o section text
   at_stage stage.Behind = None
 
--- the next token of a line and what follows; None: there is none, or it is broken
+-- The next token of a line and the rest, or `None` if there is no valid token.
 abbrev pub whole_token : List ℕ → Option (TokenText × List ℕ)
 whole_token line = of_token (token_at line) where
   of_token : Result (Option (TokenText × List ℕ)) TextFault → Option (TokenText × List ℕ)
   of_token (Err fault) = None
   of_token (Ok next) = next
 
--- the rate that a line tells behind `(SEQ_FRAME_RATE)`
+-- The rate after `(SEQ_FRAME_RATE)`.
 unfoldable pub rate_of_line : List ℕ → Option ℕ
 rate_of_line line = option_and_then of_keyword (whole_token line) where
   of_keyword : TokenText × List ℕ → Option ℕ
   of_keyword (token, rest) = if is_keyword (codes "SEQ_FRAME_RATE") token
       then option_and_then (λ next. told_rate next.0.content) (whole_token rest) else None
 
--- the line stands in SEQUENCE
+-- Whether the line is in SEQUENCE.
 abbrev pub is_in_sequence : Outline → List ℕ → Bool
 is_in_sequence o text = at_stage o.stage where
   of_section : Section → Bool
@@ -554,11 +583,12 @@ is_in_sequence o text = at_stage o.stage where
   at_stage (stage.Inside section) = of_section section
   at_stage stage.Behind = false
 
+-- The frame rate that a line gives, if it is in SEQUENCE.
 abbrev pub rate_in : Outline → List ℕ → Option ℕ
 rate_in o text = if is_in_sequence o text then rate_of_line text else None
 
--- The rate of these lines: the first one that a line of SEQUENCE tells. It is 25 where none does, or where a line before
--- it can't stand where it stands.
+-- The frame rate of these lines: the first one that a line of SEQUENCE gives. It is 25 if none does, or if an
+-- earlier line isn't allowed in its place.
 unfoldable pub rate_from : Outline → List (List ℕ) → ℕ
 rate_from o [] = 25
 rate_from o (text ∷ lines) = elim (rate_in o text) [
@@ -566,12 +596,12 @@ rate_from o (text ∷ lines) = elim (rate_in o text) [
   | None ↦ elim (passed o text) [ Some next ↦ rate_from next lines | None ↦ 25 ]
 ]
 
--- the rate of frames of a text
+-- The frame rate of a text.
 unfoldable pub rate_of : List ℕ → ℕ
 rate_of text = rate_from nothing_passed (lines_of text)
 
 -- ---- the text
 
--- the project that the text spells at its rate, or the refusal of its first fault
+-- The project that the text spells at its frame rate, or the refusal of its first fault.
 unfoldable pub text_value : List ℕ → Result ListProject Refusal
 text_value text = err_map text_refusal (read_from (rate_of text) nothing_read 0 (lines_of text))

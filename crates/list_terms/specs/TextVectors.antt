@@ -1,4 +1,4 @@
--- Worked lists, and the refusals of lists that differ from them in one place.
+-- Worked examples of lists, and the refusals of lists that differ from them in one place.
 use Rattle.std.specs.Prelude.{◌≡◌, refl, ℕ, false, List, [], ◌∷◌, ◌++◌, map, Option, None, Some, Result, Ok, Err, flat_map, codes}
 use Rattle.std.specs.Str.{is_utf8, chars}
 use lib.Utf8.{encode}
@@ -23,7 +23,7 @@ source = codes "(Index) 0001 (F) \"URL:file://localhost/A.wav\" _ 00.00.00.00/00
 abbrev entry : List ℕ
 entry = codes "(Entry) 0001 (Cut) I 0001 1 1 00.00.00.00/0000 01.00.00.00/0000 01.00.00.00/0004"
 
--- a list of these lines in its two sections
+-- A list with these index and entry lines.
 abbrev list_of : List (List ℕ) → List (List ℕ) → List (List ℕ)
 list_of sources entries =
     head ++ (sources ++ ((codes "</SOURCE_INDEX>" ∷ codes "<EVENT_LIST>" ∷ [])
@@ -48,7 +48,7 @@ at_entry number line entry = Some (record { number = number; location = LineEntr
 abbrev at_index : ℕ → ℕ → ℕ → Option Refusal
 at_index number line index = Some (record { number = number; location = LineIndex line index; late = false })
 
--- the sample list, with LF and with CR LF, behind a byte order mark, without its last end
+-- The sample list is accepted with LF, with CR LF, after a byte order mark, and without a final line end.
 pub accepted : map refused (text_value (text_with (10 ∷ []) (list_of (source ∷ []) (entry ∷ [])))
     ∷ text_value (text_with (13 ∷ 10 ∷ []) (list_of (source ∷ []) (entry ∷ [])))
     ∷ text_value ((239 ∷ 187 ∷ 191 ∷ []) ++ text_with (13 ∷ 10 ∷ []) (list_of (source ∷ []) (entry ∷ [])))
@@ -63,7 +63,7 @@ unfolding is_utf8 chars encode percent_decode cut_lines lines_of token_at all_to
     opens passed_before passed_outside passed_inside passed rate_of_line rate_from rate_of text_value
 accepted = refl
 
--- the empty text, and two lines that hold no section
+-- The empty text, and lists without sections.
 pub nearly_empty : map (λ text. refused (text_value text))
     ([] ∷ (239 ∷ 187 ∷ 191 ∷ []) ∷ codes "<ADL>\n</ADL>" ∷ codes "<ADL>\n<X>\n<X>\n" ∷ [])
     ≡ at_line 3 1 ∷ at_line 3 1 ∷ at_line 4 2 ∷ at_line 3 3 ∷ []
@@ -74,7 +74,7 @@ unfolding is_utf8 chars encode percent_decode cut_lines lines_of token_at all_to
     opens passed_before passed_outside passed_inside passed rate_of_line rate_from rate_of text_value
 nearly_empty = refl
 
--- a line of the sections of numbers is refused where its leftmost fault stands, with the number that it carries
+-- An index or entry line is refused for its leftmost fault, with the number it carries.
 pub entries_refused : map (λ line. answer (list_of (source ∷ []) (line ∷ [])))
     ((entry ++ (233 ∷ []))
     ∷ codes "(Entry) 0001 (Cut) I 0001 1 1 00.00.00.00/0000 01.00.00.25/0000 01.00.00.00/0004"
@@ -104,7 +104,7 @@ unfolding is_utf8 chars encode percent_decode cut_lines lines_of token_at all_to
     opens passed_before passed_outside passed_inside passed rate_of_line rate_from rate_of text_value
 sources_refused = refl
 
--- lines behind an entry are of that entry
+-- Lines after an entry belong to that entry.
 pub further_lines : map (λ lines. answer (list_of (source ∷ []) (entry ∷ lines)))
     ((entry ∷ []) ∷ (codes "(Infade) 00.00.00.00/0000" ∷ codes "(Infade) 00.00.00.00/0000" ∷ [])
     ∷ (codes "(Gain) 0.00" ∷ [])
@@ -120,7 +120,7 @@ unfolding is_utf8 chars encode percent_decode cut_lines lines_of token_at all_to
     opens passed_before passed_outside passed_inside passed rate_of_line rate_from rate_of text_value
 further_lines = refl
 
--- sections out of place, and rates
+-- Misplaced sections, and rates.
 pub sections_refused : map answer
     ((codes "<ADL>" ∷ codes "<SEQUENCE>" ∷ codes "(SEQ_SAMPLE_RATE) S48000" ∷ codes "(SEQ_FRAME_RATE) 25"
     ∷ codes "</PROJECT>" ∷ [])
@@ -139,7 +139,7 @@ unfolding is_utf8 chars encode percent_decode cut_lines lines_of token_at all_to
     opens passed_before passed_outside passed_inside passed rate_of_line rate_from rate_of text_value
 sections_refused = refl
 
--- a section that isn't known is passed over with a notice, and so is a line of the source index
+-- An unknown section is skipped with a notice; an unknown line of SOURCE_INDEX is dropped with one.
 abbrev notices : Result ListProject Refusal → List Notice
 notices (Ok project) = project.notices
 notices (Err refusal) = []

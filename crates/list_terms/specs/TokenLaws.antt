@@ -1,4 +1,4 @@
--- A token's text is cut as that token again, and a token that is cut has a text of its kind.
+-- Laws of tokens: the text of a token is cut as that token, and a token that was cut has the text of its kind.
 use Rattle.std.specs.Prelude.{◌≡◌, ℕ, ◌==◌, not, Bool, true, false, List, [], ◌∷◌, ◌++◌, drop, length, Option, Some, Result, Ok, Err, refl}
 use Rattle.std.specs.List.{list_all, prefix_len, take_while}
 use Rattle.std.proofs.Common.{sym, subst, ap, ◌∙◌, append_assoc, arith}
@@ -12,18 +12,18 @@ use Rattle.list_terms.specs.declared.TokenKind.TheVariants.{Quoted, Keyword, Wor
 use Rattle.list_terms.specs.declared.TextFault.{TextFault}
 use Rattle.list_terms.specs.Tokens.{TokenText, Cut, is_blank, is_quoted_byte, is_word_byte, byte_fault, open_fault, closed, keyword, quoted, token_from, token_at, token_text, behind_blanks}
 
--- one or more bytes of words
+-- A nonempty run of word bytes.
 abbrev pub is_word : List ℕ → Bool
 is_word [] = false
 is_word (first ∷ rest) = list_all is_word_byte (first ∷ rest)
 
--- what may stand inside a token of this kind
+-- The bytes allowed inside a token of this kind.
 abbrev pub is_content : TokenKind → List ℕ → Bool
 is_content Quoted content = list_all is_quoted_byte content
 is_content Keyword content = is_word content
 is_content Word content = is_word content
 
--- the text doesn't go on with such a byte
+-- The text doesn't start with a byte that passes the test.
 abbrev pub stops : (ℕ → Bool) → List ℕ → Bool
 stops test [] = true
 stops test (byte ∷ rest) = not (test byte)
@@ -35,7 +35,7 @@ prefix_len-stop test [] [] h s = refl
 prefix_len-stop test [] (b ∷ rest) h s = grind (arith, nat_tests)
 prefix_len-stop test (c ∷ content) rest h s = grind (arith, nat_tests, prefix_len-stop test content rest)
 
--- a space in front is passed
+-- A space in front is skipped.
 pub token_at-space : (line : List ℕ) → token_at (32 ∷ line) ≡ token_at line
 unfolding token_at
 token_at-space line = ap token_from (drop_more (prefix_len is_blank line) 32 line)
@@ -73,13 +73,13 @@ token_at-word first content rest h s =
     let parenthesis : (first == 40) ≡ false = grind (arith, nat_tests) in
     rw (blank, take_at (first ∷ content) rest end at, drop_at (first ∷ content) rest end at, word, quote, parenthesis)
 
--- a word goes on as far as it can: no further byte of words may follow it
+-- A word extends as far as possible: no further word byte may follow it.
 abbrev pub ends_token : TokenKind → List ℕ → Bool
 ends_token Quoted rest = true
 ends_token Keyword rest = true
 ends_token Word rest = stops is_word_byte rest
 
--- a token's text is cut as that token
+-- The text of a token is cut as that token.
 pub token_at-text :
     (kind : TokenKind) (content rest : List ℕ) → is_content kind content ≡ true → ends_token kind rest ≡ true
     → token_at (token_text (record { kind = kind; content = content }) ++ rest)
@@ -90,7 +90,7 @@ token_at-text Keyword (first ∷ content) rest h s = rw append_assoc (token_at-k
 token_at-text Word [] rest h s = absurd (cc)
 token_at-text Word (first ∷ content) rest h s = token_at-word first content rest h s
 
--- so it is where a space or nothing follows
+-- The text of a token is cut as that token if no word byte follows.
 pub token_at-token_text :
     (kind : TokenKind) (content rest : List ℕ) → is_content kind content ≡ true → stops is_word_byte rest ≡ true
     → token_at (token_text (record { kind = kind; content = content }) ++ rest)
@@ -101,7 +101,7 @@ token_at-token_text kind content rest h s = token_at-text kind content rest h (e
   ends Keyword = refl
   ends Word = s
 
--- ---- what is cut
+-- ---- tokens that were cut
 
 stops-drop : (test : ℕ → Bool) (text : List ℕ) → stops test (drop (prefix_len test text) text) ≡ true
 stops-drop test [] = refl
@@ -115,7 +115,7 @@ stops-drop test (b ∷ text) = by_test (test b) refl (stops-drop test text) wher
 same_byte : (a b : ℕ) → (a == b) ≡ true → a ≡ b
 same_byte a b h = grind (arith, nat_tests)
 
--- the line is this token and what follows it
+-- A line that is a token followed by the rest.
 record IsFront (line : List ℕ) (token : TokenText) (rest : List ℕ) : Type 0 where
   whole : line ≡ token_text token ++ rest
   content : is_content token.kind token.content ≡ true
@@ -218,13 +218,13 @@ module _ (token : TokenText) (rest : List ℕ) where
     by_tests false q false f false g =
         let no : token_from (byte ∷ line) ≡ Err (byte_fault byte) = rw (g, q, f) refl in absurd (cc)
 
--- blanks, a token and what follows it
+-- A line that is blanks, a token, and the rest.
 pub record IsTokenFront (line : List ℕ) (token : TokenText) (rest : List ℕ) : Type 0 where
   pub whole : line ≡ take_while is_blank line ++ (token_text token ++ rest)
   pub content : is_content token.kind token.content ≡ true
   pub ends : ends_token token.kind rest ≡ true
 
--- a token that is cut has a text of its kind
+-- A token that was cut has the text of its kind.
 pub token_at-front :
     (line rest : List ℕ) (token : TokenText) → token_at line ≡ Ok (Some (token, rest)) → IsTokenFront line token rest
 unfolding token_at
@@ -236,7 +236,7 @@ token_at-front line rest token e =
       ends = front.ends;
     }
 
--- bytes that pass a test pass a weaker one
+-- Bytes that pass a test pass a weaker one.
 pub all_weaker :
     (p q : ℕ → Bool) → ((b : ℕ) → p b ≡ true → q b ≡ true) → (text : List ℕ) → list_all p text ≡ true
     → list_all q text ≡ true
@@ -244,7 +244,7 @@ all_weaker p q each [] h = refl
 all_weaker p q each (b ∷ text) h =
     rw (each b (and_left (p b) (list_all p text) h)) (all_weaker p q each text (and_right (p b) (list_all p text) h))
 
--- a token and what follows it, cut from a text whose bytes pass a test
+-- A token and the rest of its line, cut from a text whose bytes all pass a test.
 pub record IsCut (test : ℕ → Bool) (token : TokenText) (rest : List ℕ) : Type 0 where
   pub content : is_content token.kind token.content ≡ true
   pub inside : list_all test token.content ≡ true

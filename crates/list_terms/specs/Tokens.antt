@@ -1,4 +1,5 @@
--- The tokens of a line: quoted text, keywords in parentheses, and words, parted by spaces and tabs or by nothing.
+-- The tokens of a line: quoted text, keywords in parentheses, and words, separated by any number of spaces and
+-- tabs.
 use Rattle.std.specs.Prelude.{ℕ, zero, suc, ◌-◌, ◌==◌, ◌&&◌, ◌||◌, not, nat_lt, nat_le, Bool, List, [], ◌∷◌, ◌++◌, take, drop, length, Option, None, Some, Result, Ok, Err, if◌then◌else◌}
 use Rattle.std.specs.List.{prefix_len, take_while, suffix_len}
 use Rattle.list_terms.specs.declared.TokenKind.{TokenKind}
@@ -6,12 +7,12 @@ use Rattle.list_terms.specs.declared.TokenKind.TheVariants.{Quoted, Keyword, Wor
 use Rattle.list_terms.specs.declared.TextFault.{TextFault}
 use Rattle.list_terms.specs.declared.TextFault.TheVariants.{BadByte, BadLine, Unsupported}
 
--- a token: what it is written as, and what stands inside the quotes or parentheses, or the word
+-- A token: its kind, and its content without quotes or parentheses.
 pub record TokenText : Type 0 where
   pub kind : TokenKind
   pub content : List ℕ
 
--- the token as it stands in its line
+-- The text of a token as written in its line.
 abbrev pub token_text : TokenText → List ℕ
 token_text token = text_of token.kind where
   text_of : TokenKind → List ℕ
@@ -19,57 +20,57 @@ token_text token = text_of token.kind where
   text_of Keyword = 40 ∷ (token.content ++ (41 ∷ []))
   text_of Word = token.content
 
--- a space or a tab
+-- A space or a tab.
 abbrev pub is_blank : ℕ → Bool
 is_blank byte = byte == 32 || byte == 9
 
--- printable ASCII, a space or a tab
+-- Printable ASCII, a space or a tab.
 abbrev pub is_text_byte : ℕ → Bool
 is_text_byte byte = (nat_le 32 byte && nat_lt byte 127) || byte == 9
 
--- a byte of words and keywords: printable ASCII but for space, quotation mark and parentheses
+-- A byte of words and keywords: printable ASCII except space, quotation mark and parentheses.
 abbrev pub is_word_byte : ℕ → Bool
 is_word_byte byte = nat_lt 32 byte && nat_lt byte 127 && not (byte == 34 || byte == 40 || byte == 41)
 
--- a byte of quoted text: any but the quotation mark and CR
+-- A byte of quoted text: any byte except the quotation mark and CR.
 abbrev pub is_quoted_byte : ℕ → Bool
 is_quoted_byte byte = not (byte == 34 || byte == 13)
 
--- a byte that can't stand where it stands
+-- The fault of a byte that isn't allowed in its place.
 abbrev pub byte_fault : ℕ → TextFault
 byte_fault byte = if is_text_byte byte then BadLine else BadByte
 
--- the fault of a token that these bytes don't go on with: of the first one, or of the line's end
+-- The fault of an unfinished token: an invalid byte, or the end of the line.
 abbrev pub open_fault : List ℕ → TextFault
 open_fault [] = BadLine
 open_fault (byte ∷ rest) = byte_fault byte
 
--- a token and what follows
+-- A token and the rest of its line.
 abbrev pub Cut : Type 0
 Cut = TokenText × List ℕ
 
--- a token of this content, where this byte closes it
+-- A token with this content, if its closing byte follows.
 abbrev pub closed : TokenKind → ℕ → List ℕ → List ℕ → Result (Option Cut) TextFault
 closed kind close content [] = Err BadLine
 closed kind close content (byte ∷ rest) =
     if byte == close then Ok (Some (record { kind = kind; content = content }, rest)) else Err (byte_fault byte)
 
--- the quoted text behind a quotation mark
+-- Quoted text, starting after its opening quotation mark.
 abbrev pub quoted : List ℕ → Result (Option Cut) TextFault
 quoted line = closed Quoted 34 (take_while is_quoted_byte line) (drop (prefix_len is_quoted_byte line) line)
 
--- the keyword behind a parenthesis; it isn't empty
+-- A keyword, starting after its opening parenthesis; it isn't empty.
 abbrev pub keyword : List ℕ → Result (Option Cut) TextFault
 keyword line = of_content (take_while is_word_byte line) (drop (prefix_len is_word_byte line) line) where
   of_content : List ℕ → List ℕ → Result (Option Cut) TextFault
   of_content [] rest = Err (open_fault rest)
   of_content (first ∷ content) rest = closed Keyword 41 (first ∷ content) rest
 
--- the word that the line begins with
+-- The word at the start of the line.
 abbrev pub word : List ℕ → Cut
 word line = (record { kind = Word; content = take_while is_word_byte line }, drop (prefix_len is_word_byte line) line)
 
--- the token that begins with the first byte, and what follows
+-- The token at the start of the line, and the rest.
 abbrev pub token_from : List ℕ → Result (Option Cut) TextFault
 token_from [] = Ok None
 token_from (byte ∷ rest) =
@@ -78,23 +79,23 @@ token_from (byte ∷ rest) =
     else if is_word_byte byte then Ok (Some (word (byte ∷ rest)))
     else Err (byte_fault byte)
 
--- what follows the blanks in front
+-- The line without leading blanks.
 abbrev pub behind_blanks : List ℕ → List ℕ
 behind_blanks line = drop (prefix_len is_blank line) line
 
--- the next token of a line and what follows, or the fault of the first byte that can't stand there
+-- The next token of a line and the rest, or the fault of the first invalid byte.
 unfoldable pub token_at : List ℕ → Result (Option Cut) TextFault
 token_at line = token_from (behind_blanks line)
 
--- what comes before the blanks at the end
+-- The line without trailing blanks.
 abbrev pub before_blanks : List ℕ → List ℕ
 before_blanks line = take (length line - suffix_len is_blank line) line
 
--- the line without blanks at both ends
+-- The line without leading and trailing blanks.
 abbrev pub trimmed : List ℕ → List ℕ
 trimmed line = before_blanks (behind_blanks line)
 
--- the tokens up to the end of a line, of at most so many bytes: each is whole and allowed
+-- The tokens of a line of at most n bytes: each must be whole and allowed.
 unfoldable pub all_tokens : (TokenText → Bool) → ℕ → List ℕ → Result (Unit {0}) TextFault
 all_tokens allowed zero line = Ok tt
 all_tokens allowed (suc n) line = elim (token_at line) [

@@ -1,4 +1,4 @@
--- Worked examples. Each is computed from the definitions, so a definition that gives another value is refused here.
+-- Worked examples, computed from the definitions.
 use Rattle.std.specs.Prelude.{◌≡◌, refl, ℕ, List, [], ◌∷◌, ◌++◌, map, replicate, Option, None, Some, Ok, false, bytes_eq, if◌then◌else◌, option_map, codes}
 use Rattle.std.specs.Str.{is_utf8, chars}
 use lib.Utf8.{encode}
@@ -25,7 +25,7 @@ pub names : map (λ url. option_map (λ place. place.name) (place_of_url url))
 unfolding is_utf8 chars encode percent_decode
 names = refl
 
--- a mono file of 16 bits with so many frames, and this TimeReference
+-- A mono file of 16 bits with the given length and TimeReference.
 abbrev facts : ℕ → Option ℕ → SoundFacts
 facts frames reference = record {
   name = codes "A.wav";
@@ -44,7 +44,7 @@ facts frames reference = record {
 abbrev source : ℕ → List ℕ → Option ℕ → Source
 source number url start = record { number = number; url = url; uid = codes "_"; start = start; length = None }
 
--- the index's own in decides, then the TimeReference, then midnight
+-- The base is the index's in, or else the TimeReference, or else midnight.
 pub bases : map (λ start. base_of (source 1 [] start) (facts 10 (Some 172800000))) (None ∷ Some 0 ∷ [])
     ≡ 172800000 ∷ 0 ∷ []
 bases = refl
@@ -52,12 +52,12 @@ bases = refl
 pub no_reference : base_of (source 1 [] None) (facts 10 None) ≡ 0
 no_reference = refl
 
--- two frames before midnight, and none from then on
+-- Two samples remain before midnight, and none from then on.
 pub up_to_midnight : map (λ base. addressable_from base (facts 10 None)) (4147199998 ∷ 4147200000 ∷ 4147199000 ∷ [])
     ≡ 2 ∷ 0 ∷ 10 ∷ []
 up_to_midnight = refl
 
--- an event on the first channel: index, source in, source channel, destination in and out, fades
+-- An event on the first channel: index, source in, source channel, destination in and out, fades.
 abbrev event : ℕ → ℕ → ℕ → ℕ → ℕ → ℕ → ℕ → Event
 event index source_in channel dest_in dest_out rise fall = record {
   number = 7;
@@ -74,7 +74,7 @@ event index source_in channel dest_in dest_out rise fall = record {
 abbrev from_hundred : BoundIndex
 from_hundred = record { number = 1; file = 0; base = 100; addressable = 20 }
 
--- fades as long as the event or longer; spans to the end and past it, before the base, and empty ones anywhere
+-- Fades as long as the event or longer; spans to the end and past it, before the base, and empty spans anywhere.
 pub spans : map (span_fault from_hundred (facts 20 None))
     (event 1 100 1 0 10 6 4 ∷ event 1 100 1 0 10 6 5 ∷ event 1 100 1 0 20 0 0 ∷ event 1 100 1 0 21 0 0
     ∷ event 1 99 1 0 1 0 0
@@ -83,7 +83,7 @@ pub spans : map (span_fault from_hundred (facts 20 None))
     ≡ None ∷ Some 43 ∷ None ∷ Some 46 ∷ Some 46 ∷ None ∷ Some 42 ∷ Some 44 ∷ Some 44 ∷ Some 43 ∷ []
 spans = refl
 
--- a mono file of 16 bits with four frames
+-- A mono file of 16 bits with four samples.
 abbrev wave : List ℕ
 wave = codes "RIFF" ++ (44 ∷ 0 ∷ 0 ∷ 0 ∷ []) ++ codes "WAVEfmt " ++ (16 ∷ 0 ∷ 0 ∷ 0 ∷ [])
     ++ (1 ∷ 0 ∷ 1 ∷ 0 ∷ 128 ∷ 187 ∷ 0 ∷ 0 ∷ 0 ∷ 119 ∷ 1 ∷ 0 ∷ 2 ∷ 0 ∷ 16 ∷ 0 ∷ []) ++ codes "data"
@@ -126,25 +126,25 @@ pub source_channel : fault (here 1 ∷ []) (event 1 0 2 0 4 0 0 ∷ []) ≡ Some
 unfolding is_utf8 chars encode percent_decode
 source_channel = refl
 
--- nothing is chosen
+-- No option given.
 abbrev options : OptionValues
 options = record { from = None; to = None; channels = None; depth = Sixteen }
 
--- from the first in to the last out, on all channels; an empty range without an entry
+-- From the first in to the last out, on all channels; an empty range without entries.
 pub default_ranges : map (λ events. range_of (project (here 1 ∷ []) events) options)
     ((event 1 0 1 7 9 0 0 ∷ event 1 0 1 3 8 0 0 ∷ []) ∷ [] ∷ [])
     ≡ record { from = 3; to = 9; channels = 1; depth = Sixteen }
     ∷ record { from = 0; to = 0; channels = 1; depth = Sixteen } ∷ []
 default_ranges = refl
 
--- a file that isn't there is refused where an entry uses it, before any entry
+-- A missing file is refused if an entry uses it, and before any entry is checked.
 pub missing_file : fault (here 1 ∷ source 2 (codes "file:///B.wav") None ∷ [])
     (event 3 0 1 0 4 0 0 ∷ event 2 0 1 0 4 0 0 ∷ [])
     ≡ Some (record { number = 21; location = IndexFile 2 (codes "B.wav"); late = false })
 unfolding is_utf8 chars encode percent_decode
 missing_file = refl
 
--- one name by two paths is refused at the second index, where both are used
+-- Two paths that end in the same name are refused at the second index, if both are used.
 pub two_paths : map (λ events. fault (source 1 (codes "file:///x/A.wav") None ∷ source 2 (codes "file:///y/A.wav") None
     ∷ []) events)
     ((event 1 0 1 0 4 0 0 ∷ event 2 0 1 0 4 0 0 ∷ []) ∷ (event 1 0 1 0 4 0 0 ∷ []) ∷ [])

@@ -1,4 +1,7 @@
-//! The words of lists: a project, what its indexes are bound to, and which project is refused where.
+//! The vocabulary of audio decision lists (AES31-3): sections, tokens, faults and their locations.
+//!
+//! The definitions in `specs` state which project a text spells, which files its indexes are bound to, and which
+//! refusal every other list gets.
 #![tactic(auto)]
 
 ghost use Rattle.std.specs.Prelude.{◌≡◌};
@@ -6,14 +9,15 @@ ghost use Rattle.list_terms.specs.Text.{fault_number};
 
 use sound_terms::Event;
 
-/// Something about a project that its user should know of: its kind, and the line or the index that it is at.
+/// A notice about a project: its kind (1 to 7), and the line (kinds 1 and 2) or the index (kinds 3 to 7) that it
+/// concerns.
 #[derive(Clone, Copy, Debug, PartialEq, Eq)]
 pub struct Notice {
     pub kind: u8,
     pub at: u64,
 }
 
-/// What a token of a line is written as: `"..."`, `(...)`, or a word.
+/// The form of a token: `"..."`, `(...)` or a word.
 #[derive(Clone, Copy, Debug, PartialEq, Eq)]
 pub enum TokenKind {
     Quoted,
@@ -21,7 +25,7 @@ pub enum TokenKind {
     Word,
 }
 
-/// What a line behind an entry's own says of it, by the keyword that it begins with.
+/// The kind of a line that follows an `(Entry)` line and belongs to it, named by its keyword.
 #[derive(Clone, Copy, Debug, PartialEq, Eq)]
 pub enum EntryKeyword {
     Infade,
@@ -30,7 +34,7 @@ pub enum EntryKeyword {
     Gain,
 }
 
-/// A section of a list whose meaning is known, or one that is passed over.
+/// A section of a list.
 #[derive(Clone, Copy, Debug, PartialEq, Eq)]
 pub enum Section {
     Version,
@@ -41,11 +45,11 @@ pub enum Section {
     SourceIndex,
     EventList,
     Skipped,
-    /// Its name tells of gain, automation, pan, mute or fades, so it may hold blank lines alone.
+    /// An unknown section named after gain, automation, pan, mute or fades. It may only hold blank lines.
     Unsupported,
 }
 
-/// How far a list is read: before `<ADL>`, outside every section, inside one, or behind `</ADL>`.
+/// The part of a list that a reader is in: before `<ADL>`, between sections, inside a section, or after `</ADL>`.
 #[derive(Clone, Copy, Debug, PartialEq, Eq)]
 pub enum Stage {
     Before,
@@ -54,7 +58,7 @@ pub enum Stage {
     Behind,
 }
 
-/// The last entry of a list so far, and which of its fades were told.
+/// The last entry of a list so far, and which of its fades have been given.
 #[derive(Clone, Copy, Debug, PartialEq, Eq)]
 pub struct OpenEntry {
     pub event: Event,
@@ -62,14 +66,14 @@ pub struct OpenEntry {
     pub has_fall: bool,
 }
 
-/// Which of its two rates SEQUENCE told.
+/// The rates that SEQUENCE has given so far.
 #[derive(Clone, Copy, Debug, PartialEq, Eq)]
 pub struct Rates {
     pub sample_rate: bool,
     pub frame_rate: bool,
 }
 
-/// Which of the seven sections of a list were opened.
+/// The sections of a list that have been opened.
 #[derive(Clone, Copy, Debug, PartialEq, Eq)]
 pub struct Opened {
     pub version: bool,
@@ -81,47 +85,47 @@ pub struct Opened {
     pub event_list: bool,
 }
 
-/// What is wrong with the text of a list.
+/// A fault in the text of a list.
 #[derive(Clone, Copy, Debug, PartialEq, Eq)]
 pub enum TextFault {
     /// A byte that is neither printable ASCII nor a space or tab; inside quotes, CR.
     BadByte,
-    /// A byte that can't stand where it stands, or a quotation mark or parenthesis without its partner.
+    /// A byte that isn't allowed in its place, or a quotation mark or parenthesis without its partner.
     BadLine,
-    /// A line that can't stand between sections, or no `</ADL>`.
+    /// A line that isn't allowed between sections, or no `</ADL>`.
     SectionMismatch,
-    /// SEQUENCE, SOURCE_INDEX or EVENT_LIST isn't there.
+    /// No SEQUENCE, SOURCE_INDEX or EVENT_LIST.
     MissingSection,
     /// A section is opened a second time.
     RepeatedSection,
-    /// No time of a day.
+    /// Not a time of day.
     BadTime,
-    /// No number from 1 to 32767 in one to six digits.
+    /// Not a number from 1 to 32767 in one to six digits.
     BadNumber,
-    /// No run of channels from 1 to 64, or another count of channels than the source has.
+    /// Not a run of channels from 1 to 64, or more or fewer channels than the source has.
     BadChannels,
-    /// No `file://` URL of a file.
+    /// Not a `file://` URL of a file.
     BadUrl,
-    /// The line ends before a field that it needs.
+    /// The line ends before a required field.
     MissingField,
-    /// SEQUENCE tells no sample rate or no frame rate.
+    /// SEQUENCE gives no sample rate or no frame rate.
     MissingSequence,
-    /// SEQUENCE tells another rate.
+    /// SEQUENCE gives another rate.
     WrongSequence,
-    /// What would sound otherwise than it is read here.
+    /// Something that isn't supported and could change the sound.
     Unsupported,
     /// The number of an earlier index or entry.
     DuplicateNumber,
-    /// More header lines than are kept.
+    /// More than 65,535 header lines.
     TooMany,
-    /// A line of an entry before the first entry.
+    /// A line that belongs to an entry, before the first entry.
     Unplaced,
     /// A second fade-in or fade-out of an entry.
     RepeatedFade,
 }
 
 impl TextFault {
-    /// The number of the refusal, 1 to 17.
+    /// Returns the refusal number, 1 to 17.
     pub fn number(&self) -> u8
         ensures { result ≡ fault_number self.now }
     {
@@ -147,7 +151,8 @@ impl TextFault {
     }
 }
 
-/// Where the text of a list is at fault: the line, counted from 1, and the entry or index that it is about.
+/// The location of a fault in the text of a list: the line, counted from 1, and the number of the entry or index if
+/// the fault concerns one.
 #[derive(Clone, Copy, Debug, PartialEq, Eq)]
 pub enum Location {
     Line { line: u64 },
