@@ -1,4 +1,4 @@
--- Distinct numbers from 1 to 32767 are at most so many.
+-- There are at most 32,767 distinct numbers from 1 to 32767.
 use Rattle.std.proofs.Common.{◌≡◌, ℕ, ◌<◌, ◌≤◌, Bool, true, false, List, [], ◌∷◌, ◌++◌, length, arith, eqb, refl}
 use Rattle.std.specs.Prelude.{map}
 use Rattle.std.specs.List.{list_all, list_any}

@@ -1,4 +1,4 @@
--- Entries whose keys are the numbers of their sources.
+-- Map entries whose keys are the numbers of their sources.
 use Rattle.std.proofs.Common.{◌≡◌, ℕ, ◌+◌, ◌<◌, Bool, true, false, List, [], ◌∷◌, ◌++◌, Option, Some, refl, ap, sym, subst, ◌∙◌, cond, arith, length, take, drop, get_or}
 use Rattle.std.specs.Prelude.{if◌then◌else◌, nat_eq, ◌==◌, is_some, None}
 use Rattle.std.specs.List.{list_any}
@@ -55,7 +55,7 @@ numbered_push es s h =
     keys_push es s.number s ∙ ap (λ ks. ks ++ s.number ∷ []) h ∙ sym (numbers_push (values_of es) s)
     ∙ ap index_numbers (sym (values_push es s.number s))
 
--- the entries with one more
+-- Entries with one more source at the end.
 pub record IsPushed (es new : List (ℕ × Source)) (s : Source) : Type 0 where
   pub numbered : AreNumbered new
   pub values_are : values_of new ≡ values_of es ++ s ∷ []
@@ -67,7 +67,7 @@ pushed es new s h e = record {
   values_are = ap values_of e ∙ values_push es s.number s;
 }
 
--- none has a number that nothing stands under
+-- A number that no source has isn't a key.
 pub absent :
     (es : List (ℕ × Source)) (n : ℕ) → AreNumbered es → list_any (λ s. s.number == n) (values_of es) ≡ false
     → lookup (λ k. nat_eq n k) es ≡ None
@@ -76,7 +76,7 @@ absent es n h free = none _ (ap is_some (found es n h) ∙ any_of_number (values
   none None h = refl
   none (Some s) h = absurd (let no : true ≡ false = h in cc)
 
--- the next of distinct sources has a number that none before it has
+-- Of sources with distinct numbers, the next one's number is new.
 pub next_free :
     (ss : List Source) (i : ℕ) (s : Source) → AreDistinct (index_numbers ss) → i < length ss → get_or ss i s ≡ s
     → list_any (λ other. other.number == s.number) (take i ss) ≡ false

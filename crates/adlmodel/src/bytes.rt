@@ -1,10 +1,10 @@
-// Text that is kept as it stands.
+// Verbatim text.
 ghost use Rattle.std.specs.Prelude.{◌≡◌, IfOk};
 
 use std::alloc::{AllocError, Global};
 use std::marker::Model;
 
-/// Bytes of a list that are kept as they stand.
+/// Bytes of a list that are kept verbatim.
 #[derive(Debug, Drop)]
 pub struct Bytes {
     bytes: Vec<u8>,
@@ -19,7 +19,7 @@ impl Model for Bytes {
 }
 
 impl Bytes {
-    /// A copy of these bytes.
+    /// Copies a slice. Returns `AllocError` if out of memory.
     pub fn from_slice(alloc: Global, bytes: &[u8]) -> Result<Self, AllocError>
         ensures { IfOk result (λ copy. copy ≡ bytes.now) }
     {
@@ -27,21 +27,21 @@ impl Bytes {
         Ok(Bytes { bytes })
     }
 
-    /// A copy.
+    /// Copies the bytes. Returns `AllocError` if out of memory.
     pub fn try_copy(&self) -> Result<Self, AllocError>
         ensures { IfOk result (λ copy. copy ≡ self.now) }
     {
         Bytes::from_slice(*self.bytes.allocator(), self.bytes.as_slice())
     }
 
-    /// The bytes.
+    /// Returns the bytes.
     pub fn as_slice(&self) -> &[u8]
         ensures { result.now ≡ self.now }
     {
         self.bytes.as_slice()
     }
 
-    /// The bytes as a vector.
+    /// Returns the bytes as a vector, without copying.
     pub fn into_vec(self) -> Vec<u8>
         ensures { result.items ≡ self }
     {

@@ -1,4 +1,4 @@
-// The lines of five sections, which are kept as they stand.
+// The header sections, whose lines are kept verbatim.
 ghost use Rattle.std.specs.Prelude.{◌≡◌, ◌++◌, ◌∷◌, [], IfOk, OnErr, OnOk};
 ghost use Rattle.adlmodel.specs.Header.{header_view};
 
@@ -6,7 +6,7 @@ use crate::bytes::Bytes;
 use std::alloc::{AllocError, Global};
 use std::marker::Model;
 
-/// The lines of a section, without their ends.
+/// The lines of a section, without their line ends.
 #[derive(Debug, Drop)]
 pub struct KeptLines {
     lines: Vec<Bytes>,
@@ -21,7 +21,7 @@ impl Model for KeptLines {
 }
 
 impl KeptLines {
-    /// No line.
+    /// Returns a section without lines.
     pub fn new(alloc: Global) -> Self
         ensures { result ≡ [] }
     {
@@ -30,7 +30,7 @@ impl KeptLines {
         }
     }
 
-    /// One line more.
+    /// Appends a line. Returns `AllocError` if out of memory, and then leaves the lines unchanged.
     pub fn push(&mut self, alloc: Global, line: &[u8]) -> Result<(), AllocError>
         ensures pushed { OnOk result (self.new ≡ self.old ++ line.now ∷ []) }
         ensures unchanged { OnErr result (self.new ≡ self.old) }
@@ -40,7 +40,7 @@ impl KeptLines {
         Ok(())
     }
 
-    /// A copy.
+    /// Copies the lines. Returns `AllocError` if out of memory.
     pub fn try_copy(&self) -> Result<Self, AllocError>
         ensures { IfOk result (λ copy. copy ≡ self.now) }
     {
@@ -52,7 +52,7 @@ impl KeptLines {
         Ok(KeptLines { lines })
     }
 
-    /// The lines.
+    /// Returns the lines.
     pub fn as_slice(&self) -> &[Bytes]
         ensures { result.now ≡ self.now }
     {
@@ -60,7 +60,7 @@ impl KeptLines {
     }
 }
 
-/// The kept lines of VERSION, PROJECT, SYSTEM, SEQUENCE and TRACKLIST; `None` where the list hasn't the section.
+/// The lines of VERSION, PROJECT, SYSTEM, SEQUENCE and TRACKLIST; `None` for a section that the list doesn't have.
 #[derive(Debug)]
 pub struct Header {
     pub version: Option<KeptLines>,
@@ -70,7 +70,7 @@ pub struct Header {
     pub track_list: Option<KeptLines>,
 }
 
-// Written out, so that it is one call where a header is dropped.
+// Written by hand so that callers drop a header with a single call.
 impl Drop for Header {
     fn drop(self) {
         let Header {
@@ -89,7 +89,7 @@ impl Drop for Header {
 }
 
 impl Header {
-    /// A copy.
+    /// Copies the header. Returns `AllocError` if out of memory.
     pub fn try_copy(&self) -> Result<Self, AllocError>
         ensures { IfOk result (λ copy. header_view copy ≡ header_view self.now) }
     {
@@ -108,7 +108,6 @@ impl Header {
     }
 }
 
-/// A copy of the lines of a section, where it is there.
 fn copied(lines: &Option<KeptLines>) -> Result<Option<KeptLines>, AllocError>
     ensures { IfOk result (λ copy. copy ≡ lines.now) }
 {

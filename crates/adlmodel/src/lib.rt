@@ -1,5 +1,5 @@
-//! The project that an audio decision list spells: the lines of its header, its sources, its events, and what its user
-//! should know of it.
+//! The in-memory model of a project, as an audio decision list (AES31-3) spells it: header lines, sources, events
+//! and notices.
 #![tactic(auto)]
 
 mod bytes;

@@ -1,4 +1,4 @@
-// Which file a URL names.
+// File names in URLs.
 ghost use Rattle.std.specs.Prelude.{◌≡◌, IfNone, IfOk, IfSome, false, option_map, string_bytes, take, true};
 ghost use Rattle.std.specs.List.{after_last, list_any};
 ghost use Rattle.std.specs.Str.{is_utf8};
@@ -12,7 +12,7 @@ use std::alloc::{AllocError, Global};
 use std::marker::Model;
 use std::str;
 
-/// The file that a URL names: the path as it is decoded, and the name of its last component.
+/// The file that a URL names: the decoded path, and the name of its last component.
 #[derive(Debug, Drop)]
 pub struct Place {
     path: Vec<u8>,
@@ -29,21 +29,21 @@ impl Model for Place {
 }
 
 impl Place {
-    /// The path, without the `/` in front.
+    /// Returns the decoded path, without its leading `/`.
     pub fn path(&self) -> &[u8]
         ensures { result.now ≡ self.now.path }
     {
         self.path.as_slice()
     }
 
-    /// The media name: text, neither empty nor `.` nor `..`, without `/` and NUL.
+    /// Returns the file name: UTF-8, not empty, not `.` or `..`, without `/` or NUL.
     pub fn name(&self) -> &str
         ensures { result.now ≡ self.now.name }
     {
         self.name.as_str()
     }
 
-    /// Hands out the media name.
+    /// Returns the file name, without copying.
     pub fn into_name(self) -> String
         ensures { string_bytes result ≡ self.name }
     {
@@ -51,9 +51,11 @@ impl Place {
     }
 }
 
-/// The place that a URL names: an optional `URL:`, `file://`, an authority, `/` and a path, each `%` with two
-/// hexadecimal digits behind it standing for a byte. `None` where it is no such URL, or its last component is no media
-/// name.
+/// Returns the file that a URL names. The URL consists of an optional `URL:`, `file://`, an authority, `/` and a
+/// percent-encoded path.
+///
+/// Returns `None` if the text isn't such a URL, or if the last component of its path isn't a valid file name.
+/// Returns `AllocError` if out of memory.
 pub fn place_of(alloc: Global, url: &[u8]) -> Result<Option<Place>, AllocError>
     ensures { IfOk result (λ location. location ≡ place_of_url url.now) }
 {
@@ -63,7 +65,7 @@ pub fn place_of(alloc: Global, url: &[u8]) -> Result<Option<Place>, AllocError>
     place_of_path(alloc, path)
 }
 
-/// The place of a path that isn't decoded yet.
+/// Decodes a path and checks its last component.
 fn place_of_path(alloc: Global, path: &[u8]) -> Result<Option<Place>, AllocError>
     ensures { IfOk result (λ location. location ≡ spec.place_of_path path.now) }
 {
@@ -75,7 +77,7 @@ fn place_of_path(alloc: Global, path: &[u8]) -> Result<Option<Place>, AllocError
     Ok(Some(Place { path, name }))
 }
 
-/// The path behind `file://`, an authority and `/`.
+/// Returns the encoded path of a file URL.
 fn path_of(url: &[u8]) -> Option<&[u8]>
     ensures { option_map (λ path. path.now) result ≡ spec.path_of_url url.now }
 {
@@ -87,7 +89,7 @@ fn path_of(url: &[u8]) -> Option<&[u8]>
     }
 }
 
-/// The bytes behind this text, where they begin with it in any case.
+/// Strips a prefix, in any case, if `bytes` has it.
 fn without<'a>(text: &[u8], bytes: &'a [u8]) -> &'a [u8]
     ensures { result.now ≡ spec.without text.now bytes.now }
 {
@@ -98,7 +100,7 @@ fn without<'a>(text: &[u8], bytes: &'a [u8]) -> &'a [u8]
     }
 }
 
-/// What stands behind the last slash; all where there is none.
+/// Returns the text after the last slash, or the whole text if there is none.
 fn behind_last_slash(text: &[u8]) -> &[u8]
     ensures { result.now ≡ after_last spec.is_slash text.now }
 {
@@ -109,7 +111,7 @@ fn behind_last_slash(text: &[u8]) -> &[u8]
     text.split_at(start).1
 }
 
-/// The bytes, each `%` and two hexadecimal digits as the byte that they stand for.
+/// Decodes percent escapes.
 fn decoded(alloc: Global, text: &[u8]) -> Result<Vec<u8>, AllocError>
     ensures { IfOk result (λ bytes. bytes.items ≡ spec_percent.percent_decode text.now) }
 {
@@ -118,7 +120,7 @@ fn decoded(alloc: Global, text: &[u8]) -> Result<Vec<u8>, AllocError>
     Ok(bytes)
 }
 
-/// The name as text, where it is a media name.
+/// Returns the name as a string if it is a valid file name.
 fn media_name(name: Vec<u8>) -> Option<String>
     ensures name { IfSome result (λ text. (spec.is_media_name name.items ≡ true) × (string_bytes text ≡ name.items)) }
     ensures none { IfNone result (spec.is_media_name name.items ≡ false) }
@@ -130,7 +132,7 @@ fn media_name(name: Vec<u8>) -> Option<String>
     }
 }
 
-/// Whether a name can only be that of a file in the folder.
+/// Returns whether a name can only be a file in the folder.
 fn is_media_name(name: &[u8]) -> bool
     ensures { result ≡ spec.is_media_name name.now }
 {

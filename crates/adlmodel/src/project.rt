@@ -1,4 +1,4 @@
-// The whole project.
+// Whole projects.
 ghost use Rattle.std.specs.Prelude.{◌≡◌, ◌≤◌, [], IfOk, IsTrue, length};
 ghost use Rattle.std.specs.List.{list_all};
 ghost use Rattle.sampletime.specs.FrameRate.{frames_per_second, is_rate};
@@ -16,8 +16,8 @@ use sound_terms::Event;
 use std::alloc::AllocError;
 use std::marker::Model;
 
-/// What an audio decision list spells: its header, the rate of frames and the separators of its times, its sources and
-/// events in the order of their lines, and notices of what was passed over.
+/// A project: its header, the frame rate and the separators of its times, its sources and events in line order, and
+/// the notices of reading it.
 #[derive(Debug)]
 pub struct Project {
     header: Header,
@@ -28,7 +28,7 @@ pub struct Project {
     notices: Vec<Notice>,
 }
 
-// Written out, so that it is one call where a project is dropped.
+// Written by hand so that callers drop a project with a single call.
 impl Drop for Project {
     fn drop(self) {
         let Project {
@@ -59,8 +59,8 @@ impl Model for Project {
 }
 
 impl Project {
-    /// The project of these parts, at 48000 samples a second and this rate of frames. One without an event has the
-    /// standard separators.
+    /// Creates a project from its parts, at 48,000 samples a second and the given frame rate. A project without
+    /// events must have the default separators.
     pub fn new(
         header: Header,
         rate: Rate,
@@ -86,8 +86,10 @@ impl Project {
         }
     }
 
-    /// The project of these sources and events under the header and at the rate of this one, without a notice. Its
-    /// separators are those of this one, or the standard ones where it has no event.
+    /// Creates a project with other sources and events, but the same header and frame rate, and without notices.
+    /// The separators stay the same, or become the default ones if there are no events.
+    ///
+    /// Returns `AllocError` if out of memory.
     pub fn with(&self, sources: Sources, events: Vec<Event>) -> Result<Project, AllocError>
         requires sources { AreSources sources }
         requires events { AreEvents events.items }
@@ -99,7 +101,7 @@ impl Project {
         Ok(Project::new(header, self.rate, sources, events, separators, notices))
     }
 
-    /// A copy.
+    /// Copies the project. Returns `AllocError` if out of memory.
     pub fn try_copy(&self) -> Result<Project, AllocError>
         ensures copy { IfOk result (λ copy. copy ≡ self.now) }
     {
@@ -110,7 +112,7 @@ impl Project {
         Ok(Project::new(header, self.rate, sources, events, self.separators, notices))
     }
 
-    /// The kept lines of its header.
+    /// Returns the kept header lines.
     pub fn header(&self) -> &Header
         ensures header { header_view result.now ≡ self.now.header }
         ensures whole { IsProject self.now }
@@ -118,7 +120,7 @@ impl Project {
         &self.header
     }
 
-    /// The lines of the source index, each under its number.
+    /// Returns the sources in the order of their lines. There are at most 32,767, with distinct numbers.
     pub fn sources(&self) -> &Sources
         ensures sources { result.now ≡ self.now.sources }
         ensures again { AreSources result.now }
@@ -129,7 +131,7 @@ impl Project {
         &self.sources
     }
 
-    /// The entries of the event list.
+    /// Returns the entries in the order of their lines. There are at most 32,767, with distinct numbers.
     pub fn events(&self) -> &[Event]
         ensures events { result.now ≡ self.now.events }
         ensures again { AreEvents result.now }
@@ -140,7 +142,7 @@ impl Project {
         self.events.as_slice()
     }
 
-    /// The rate of frames that its times are written at.
+    /// Returns the frame rate at which times are written.
     pub fn rate(&self) -> Rate
         ensures rate { frames_per_second result ≡ self.now.rate }
         ensures known { IsTrue (is_rate self.now.rate) }
@@ -148,14 +150,15 @@ impl Project {
         self.rate
     }
 
-    /// The separators that its times are written with.
+    /// Returns the separators with which times are written.
     pub fn separators(&self) -> Separators
         ensures { result ≡ self.now.separators }
     {
         self.separators
     }
 
-    /// What was passed over when its list was read: 1 for a section, 2 for a line of the source index, by their lines.
+    /// Returns the notices of reading the list: kind 1 for a skipped section, kind 2 for a dropped line of
+    /// SOURCE_INDEX, each with its line number.
     pub fn notices(&self) -> &[Notice]
         ensures { result.now ≡ self.now.notices }
     {
@@ -163,7 +166,7 @@ impl Project {
     }
 }
 
-/// These separators, or the standard ones where there is no event.
+/// Returns the separators, or the default ones if there are no events.
 fn separators_for(events: &Vec<Event>, separators: Separators) -> Separators
     ensures chosen { result ≡ renewed.separators_for events.now.items separators }
     ensures standard { events.now.items ≡ [] → result ≡ default_separators }

@@ -1,4 +1,4 @@
-// When the entries of a project sound, and on which channels.
+// The time range and the channels of a project.
 ghost use Rattle.std.specs.Prelude.{◌≡◌, ◌≤◌, max};
 ghost use Rattle.list_terms.specs.Accepted.{greatest_of, least_of};
 
@@ -6,7 +6,7 @@ use crate::Project;
 use sampletime::SampleTime;
 
 impl Project {
-    /// The time at which its first entry begins; 0 without an entry.
+    /// Returns the earliest destination in of the entries, in samples after midnight, or 0 without entries.
     pub fn first_in(&self) -> SampleTime
         ensures { result ≡ least_of (λ event. event.dest_in) self.now.events }
     {
@@ -21,7 +21,7 @@ impl Project {
         least
     }
 
-    /// The time at which its last entry has ended; 0 without an entry.
+    /// Returns the latest destination out of the entries, in samples after midnight, or 0 without entries.
     pub fn last_out(&self) -> SampleTime
         ensures { result ≡ greatest_of (λ event. event.dest_out) self.now.events }
     {
@@ -33,7 +33,7 @@ impl Project {
         greatest
     }
 
-    /// The last channel on which an entry sounds, at least 1 and at most 64.
+    /// Returns the highest destination channel of the entries, from 1 to 64; 1 without entries.
     pub fn last_channel(&self) -> u8
         ensures value { result ≡ max 1 (greatest_of (λ event. event.dest.last) self.now.events) }
         ensures few { result ≤ 64 }

@@ -1,4 +1,4 @@
-// A line of the source index.
+// Sources.
 ghost use Rattle.std.specs.Prelude.{◌≡◌, IfOk};
 
 use crate::bytes::Bytes;
@@ -6,8 +6,8 @@ use sampletime::SampleTime;
 use std::alloc::AllocError;
 use std::marker::Model;
 
-/// A line of the source index: the number that entries name it by, the URL of its file, an identifier, the time of the
-/// file's first frame, and a length. Nothing rests on the identifier and the length; they are kept as they stand.
+/// A line of SOURCE_INDEX: its number, the URL of a file, an identifier, the time of the file's first sample, and a
+/// length. The identifier and the length are kept, but nothing depends on them.
 #[derive(Debug, Drop)]
 pub struct Source {
     number: u32,
@@ -26,7 +26,7 @@ impl Model for Source {
 }
 
 impl Source {
-    /// The source of this number, over the file of this URL.
+    /// Creates a source from the fields of its line.
     pub fn new(
         number: u32,
         url: Bytes,
@@ -45,7 +45,7 @@ impl Source {
         }
     }
 
-    /// A copy.
+    /// Copies the source. Returns `AllocError` if out of memory.
     pub fn try_copy(&self) -> Result<Self, AllocError>
         ensures { IfOk result (λ copy. copy ≡ self.now) }
     {
@@ -60,35 +60,36 @@ impl Source {
         })
     }
 
-    /// The number that entries name it by.
+    /// Returns the number by which entries refer to this source.
     pub fn number(&self) -> u32
         ensures { result ≡ self.now.number }
     {
         self.number
     }
 
-    /// The URL of its file.
+    /// Returns the URL of the file.
     pub fn url(&self) -> &[u8]
         ensures { result.now ≡ self.now.url }
     {
         self.url.as_slice()
     }
 
-    /// Its identifier, as its token stands in the list.
+    /// Returns the identifier, verbatim as its token in the list.
     pub fn uid(&self) -> &[u8]
         ensures { result.now ≡ self.now.uid }
     {
         self.uid.as_slice()
     }
 
-    /// The time of the file's first frame; `None` where the list doesn't tell it.
+    /// Returns the time of the file's first sample, in samples after midnight, or `None` if the list doesn't give
+    /// it.
     pub fn start(&self) -> Option<SampleTime>
         ensures { result ≡ self.now.start }
     {
         self.start
     }
 
-    /// The length that its line tells; `None` where it tells none.
+    /// Returns the length in samples, or `None` if the list doesn't give it.
     pub fn length(&self) -> Option<SampleTime>
         ensures { result ≡ self.now.length }
     {

@@ -1,4 +1,4 @@
-// Sources under their numbers.
+// Sources by number.
 ghost use Rattle.std.specs.Prelude.{◌≡◌, ◌++◌, ◌==◌, ◌∷◌, [], IfOk, OnErr, OnOk, false, option_copied};
 ghost use Rattle.std.specs.List.{list_any};
 ghost use Rattle.list_terms.specs.WholeProject.{AreDistinct, index_numbers};
@@ -9,7 +9,7 @@ use indexmap::IndexMap;
 use std::alloc::{AllocError, Global};
 use std::marker::Model;
 
-/// Sources in the order of their lines, each under a number of its own, by which it is found.
+/// Sources in the order of their lines, with distinct numbers by which they can be looked up.
 #[derive(Debug, Drop)]
 pub struct Sources {
     by_number: IndexMap<u32, Source>,
@@ -29,7 +29,7 @@ impl Model for Sources {
 }
 
 impl Sources {
-    /// No source.
+    /// Returns an empty set of sources.
     pub fn new(alloc: Global) -> Self
         ensures { result ≡ [] }
     {
@@ -38,7 +38,7 @@ impl Sources {
         }
     }
 
-    /// Copies of these sources, each of which has a number of its own.
+    /// Copies sources, whose numbers must be distinct. Returns `AllocError` if out of memory.
     pub fn from_slice(alloc: Global, sources: &[Source]) -> Result<Self, AllocError>
         requires { AreDistinct (index_numbers sources.now) }
         ensures { IfOk result (λ copies. copies ≡ sources.now) }
@@ -51,7 +51,8 @@ impl Sources {
         Ok(copies)
     }
 
-    /// Adds a source behind the others, none of which has its number.
+    /// Appends a source, whose number must be new. Returns `AllocError` if out of memory, and then leaves the
+    /// sources unchanged.
     pub fn push(&mut self, source: Source) -> Result<(), AllocError>
         requires { list_any (λ other. other.number == source.number) self.old ≡ false }
         ensures pushed { OnOk result (self.new ≡ self.old ++ source ∷ []) }
@@ -62,21 +63,21 @@ impl Sources {
         Ok(())
     }
 
-    /// Whether one of them has this number.
+    /// Returns whether a source has this number.
     pub fn contains(&self, number: u32) -> bool
         ensures { result ≡ list_any (λ other. other.number == number) self.now }
     {
         self.by_number.contains_key(&number)
     }
 
-    /// The source of this number.
+    /// Returns the source with this number.
     pub fn get(&self, number: u32) -> Option<&Source>
         ensures { option_copied result ≡ source_of self.now number }
     {
         self.by_number.get(&number)
     }
 
-    /// The sources, in the order of their lines.
+    /// Returns the sources in the order of their lines.
     pub fn as_slice(&self) -> &[Source]
         ensures sources { result.now ≡ self.now }
         ensures distinct { AreDistinct (index_numbers result.now) }

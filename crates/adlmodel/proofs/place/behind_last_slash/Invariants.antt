@@ -3,7 +3,7 @@ use Rattle.std.specs.List.{suffix_len}
 use Rattle.list_terms.specs.Names.{is_slash}
 use Rattle.adlmodel.proofs.place.behind_last_slash.Given as goal
 
--- behind the start stands no slash
+-- No slash is after `start`.
 abbrev pub invariant-loop-start : goal.invariant-loop-start
 invariant-loop-start l = record {
   inside : l.start ≤ length l.text;

@@ -7,7 +7,7 @@ false_unless : (b : Bool) → (b ≡ true → ⊥) → false ≡ b
 false_unless true h = absurd (h refl)
 false_unless false h = refl
 
--- the bytes are text where they could be read as text
+-- The bytes are UTF-8 exactly if converting them succeeds.
 test_from_cases :
     {S E : Type 0} (r : Result S E) (name : List ℕ) (A : S → Type 0) (B : E → Type 0)
     → MatchResult r (λ s. A s × IsUtf8 name) (λ e. (IsUtf8 name → ⊥) × B e) → is_ok r ≡ is_utf8 name

@@ -5,7 +5,7 @@ use Rattle.list_terms.specs.Accepted.{greatest_of}
 use Rattle.list_terms.specs.WholeProject.{is_event}
 use Rattle.adlmodel.proofs.project.Project.last_channel.Given as goal
 
--- with the events that are left, each of which is whole, it is the greatest of all
+-- The maximum so far, combined with the remaining events, is the maximum of all.
 abbrev pub invariant-loop-event : goal.invariant-loop-event
 invariant-loop-event l =
     (max l.greatest (greatest_of (λ event. event.dest.last) (drop l.event-index l.events))

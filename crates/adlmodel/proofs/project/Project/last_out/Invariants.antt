@@ -3,7 +3,7 @@ use Rattle.std.specs.Prelude.{max}
 use Rattle.list_terms.specs.Accepted.{greatest_of}
 use Rattle.adlmodel.proofs.project.Project.last_out.Given as goal
 
--- with the events that are left it is the greatest of all
+-- The maximum so far, combined with the remaining events, is the maximum of all.
 abbrev pub invariant-loop-event : goal.invariant-loop-event
 invariant-loop-event l =
     max l.greatest (greatest_of (λ event. event.dest_out) (drop l.event-index l.events))
