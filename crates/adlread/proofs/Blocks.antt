@@ -41,7 +41,7 @@ unfolding outside
 outside_end c n [] h = absurd (cc)
 outside_end c n (byte ∷ text) h = rw (not_empty byte text, h) refl
 
--- a line that opens a section ends none
+-- A line that opens a section closes none.
 pub opens_no_end : (name other text : List ℕ) → opened_name text ≡ Some name → is_end other text ≡ false
 opens_no_end name other text e = by_tag (tag_of text) refl where
   by_tag : (tag : Option (List ℕ)) → tag_of text ≡ tag → is_end other text ≡ false

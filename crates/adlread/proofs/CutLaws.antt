@@ -1,4 +1,4 @@
--- A line that is cut into tokens is cut one token after another, and the other way round.
+-- A line is a sequence of tokens exactly if its tokens can be cut one after another.
 use Rattle.std.proofs.Common.{◌≡◌, ℕ, ◌<◌, Bool, true, false, List, [], ◌∷◌, ◌++◌, length, drop, None, Some, Ok, Err, refl, ap, sym, ◌∙◌, length-append, arith}
 use Rattle.std.specs.Prelude.{◌==◌}
 use Rattle.std.specs.List.{list_all, prefix_len, take_while}
@@ -13,7 +13,7 @@ use Rattle.list_terms.specs.TokenLaws.{token_at-front, token_at-text}
 use Rattle.adlread.specs.CutLines.{CutsTo, OnlyBlanks, NextToken}
 use Rattle.adlread.proofs.TokenRun.{token_at-nil}
 
--- ---- what is cut is read
+-- ---- a sequence of tokens can be cut
 
 behind_blanks-front :
     (blanks line : List ℕ) → list_all is_blank blanks ≡ true → behind_blanks (blanks ++ line) ≡ behind_blanks line
@@ -27,7 +27,7 @@ token_at-blanks : (blanks line : List ℕ) → list_all is_blank blanks ≡ true
 unfolding token_at
 token_at-blanks blanks line h = ap token_from (behind_blanks-front blanks line h)
 
--- the first token of a line, and how the rest is cut
+-- The first token of a line, and the tokens of the rest.
 pub record IsCutBehind (line : List ℕ) (token : TokenText) (tokens : List TokenText) : Type 0 where
   pub rest : List ℕ
   pub at : token_at line ≡ Ok (Some (token, rest))
@@ -48,7 +48,7 @@ first_cut (NextToken blanks token rest tokens b c e cut) = record {
 pub no_cut : {line : List ℕ} → CutsTo line [] → token_at line ≡ Ok None
 no_cut (OnlyBlanks blanks b) = ap token_at (sym (append-nil blanks)) ∙ token_at-blanks blanks [] b ∙ token_at-nil
 
--- ---- what is read is cut
+-- ---- tokens that were cut are a sequence
 
 closed-some :
     (kind : TokenKind) (close : ℕ) (content behind : List ℕ) → closed kind close content behind ≡ Ok None → ⊥

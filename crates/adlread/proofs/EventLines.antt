@@ -27,19 +27,19 @@ use Rattle.adlread.proofs.Walk.{walk, walk_step}
 abbrev pub with_entries : Context → Entries → Context
 with_entries c entries = record c { entries = entries }
 
--- the list so far, with a last entry
+-- The event list with a last entry.
 abbrev behind : List Event → OpenEntry → List ℕ → Entries
 behind events entry separators = record { events = events; entry = Some entry; separators = Some separators }
 
--- no entry so far
+-- The event list without entries.
 abbrev pub nothing : Entries
 nothing = record { events = []; entry = None; separators = None }
 
--- an entry whose lines aren't read yet
+-- An entry without further lines.
 abbrev opened_entry : Event → OpenEntry
 opened_entry event = record { event = event; has_rise = false; has_fall = false }
 
--- a fade that wasn't told may be told
+-- A fade may be given if it wasn't given before.
 abbrev IsFree : Option ℕ → Bool → Type 0
 IsFree None told = ⊤
 IsFree (Some fade) told = told ≡ false
@@ -51,14 +51,14 @@ is_free : (fade : Option ℕ) → IsFree fade false
 is_free None = tt
 is_free (Some fade) = refl
 
--- the separators of the first entry
+-- The separators of the first entry.
 abbrev pub first_separators : List SpelledEntry → Option (List ℕ)
 first_separators [] = None
 first_separators (entry ∷ entries) = Some entry.separators
 
 -- ---- all lines that were read
 
--- what lines behind an entry told: its fades, the entries that follow, and the list behind them
+-- The outcome of the lines after an entry: its fades, the entries that follow, and the state at the end.
 record AreTold
     (c : Context) (events : List Event) (entry : OpenEntry) (separators : List ℕ) (next : Context) : Type 0 where
   rise : Option ℕ
@@ -75,7 +75,7 @@ none_told : (fade : Option ℕ) → IsFree fade true → fade ≡ None
 none_told None h = refl
 none_told (Some fade) h = absurd (cc)
 
--- the same lines told this of the entry before the first of them
+-- The outcome of the lines for an entry, from the outcome for the entry after its first line.
 abbrev with_told :
     {c : Context} {events : List Event} (entry new : OpenEntry) {separators : List ℕ} {next : Context}
     (r : AreTold c events new separators next) (rise fall : Option ℕ)
@@ -93,7 +93,7 @@ with_told {events = events} entry new r rise fall free same = record {
   separators_are = r.separators_are;
 }
 
--- the line of this keyword tells a fade, once
+-- A line with this keyword gives a fade, once.
 record TellsFade (rate : ℕ) (entry : OpenEntry) (name : List ℕ) (with : ℕ → OpenEntry) (told : Bool) : Type 0 where
   other : (token : TokenText) → is_keyword name token ≡ true → is_keyword (codes "Entry") token ≡ false
   form : (token : TokenText) → is_keyword name token ≡ true
@@ -116,14 +116,14 @@ tells_fall rate entry = record {
 }
 
 module _ (rate : ℕ) where
-  -- ---- one line as it is read
+  -- ---- reading one line
 
   module _ (c : Context) (n : ℕ) (text : List ℕ) where
-    -- the list so far, and the list with this line
+    -- A line leads from one event list to another.
     abbrev Leads : Entries → Entries → Type 0
     Leads old new = in_event_list rate (with_entries c old) n text ≡ Ok (with_entries c new)
 
-    -- a line that isn't an `(Entry)` line
+    -- A line that isn't an `(Entry)` line.
     further_read :
         (rest : List ℕ) (token : TokenText) (old new : Entries) → is_tag text ≡ false
         → token_at text ≡ Ok (Some (token, rest)) → is_keyword (codes "Entry") token ≡ false
@@ -135,7 +135,7 @@ module _ (rate : ℕ) where
     unfolding in_event_list
     blank_read old h = rw (h.untagged, no_cut h.cut) refl
 
-    -- a remark before the first entry
+    -- A remark before the first entry.
     first_remark_read :
         (tokens : List TokenText) → HasTokens text tokens → IsTrue (is_remark tokens) → Leads nothing nothing
     unfolding further_line remark
@@ -159,7 +159,7 @@ module _ (rate : ℕ) where
         (entry_number rate f.number f.rest g f.says) free in
         rw (h.cut.untagged, l.at, l.is, f.numbered, new, f.says) refl
 
-    -- lines behind an entry
+    -- Lines after an entry.
     module _ (events : List Event) (entry : OpenEntry) (separators : List ℕ) where
       abbrev Tells : OpenEntry → Type 0
       Tells new = Leads (behind events entry separators) (behind events new separators)
@@ -196,7 +196,7 @@ module _ (rate : ℕ) where
                 (all_cut (λ t. is_zero t.content) (length f.rest) f.rest tokens (omega arith) f.cut zeros),
           ) refl)
 
-      -- a fade that wasn't told, by the line of its keyword
+      -- A fade that is given for the first time.
       fade_read :
           {name : List ℕ} {with : ℕ → OpenEntry} {told : Bool} → TellsFade rate entry name with told → (fade : ℕ)
           → SpellsLine (fade_line rate name) text fade → told ≡ false → Tells (with fade)
@@ -210,7 +210,7 @@ module _ (rate : ℕ) where
             told_read with told RepeatedFade (fade_fields rate) f.rest fade free f.says,
           ) refl)
 
-  -- ---- all lines, as they are read
+  -- ---- reading all lines
 
   pub record AreRead (lines : List NumberedLine) (c : Context) (old : Entries) (all : List Event)
       (separators : Option (List ℕ)) : Type 0 where
@@ -282,7 +282,7 @@ module _ (rate : ℕ) where
       (entry_read c line.number line.text g nothing h refl)
       (read_behind others c [] (opened_entry g.0) g.1 (is_free rise) (is_free fall) distinct)
 
-  -- what a line behind an entry says of it
+  -- The effect of a line on the entry before it.
   data IsFurther (text : List ℕ) (entry : OpenEntry) : OpenEntry → Type 0 where
     Remark : IsLineOf is_remark text → IsFurther text entry entry
     Gain : IsLineOf is_zero_gain text → IsFurther text entry entry
@@ -291,14 +291,14 @@ module _ (rate : ℕ) where
     Fall : (fade : ℕ) → SpellsLine (fade_line rate (codes "Outfade")) text fade → entry.has_fall ≡ false
         → IsFurther text entry (with_fall entry fade)
 
-  -- a fade that is told: it wasn't told before, and its line spells it
+  -- A fade that wasn't given before and that its line spells.
   record IsFade (name text : List ℕ) (told : Bool) (with : ℕ → OpenEntry) (new : OpenEntry) : Type 0 where
     fade : ℕ
     spells : SpellsLine (fade_line rate name) text fade
     free : told ≡ false
     same : with fade ≡ new
 
-  -- a line whose first token is this one
+  -- A line with this first token.
   module _ (text rest : List ℕ) (token : TokenText) (untagged : is_tag text ≡ false)
       (at : token_at text ≡ Ok (Some (token, rest))) where
     line_of :
@@ -375,7 +375,7 @@ module _ (rate : ℕ) where
   blank_is text untagged at =
       record { tokens = []; cut = record { untagged = untagged; cut = cut_none text at }; passes = refl }
 
-  -- the lines spell what they told
+  -- The lines spell their outcome.
   abbrev AreSpelledBehind : List NumberedLine → Context → List Event → OpenEntry → List ℕ → Context → Type 0
   AreSpelledBehind lines c events entry separators next =
       (told : AreTold c events entry separators next) × SpellsBehind rate lines told.rise told.fall told.entries

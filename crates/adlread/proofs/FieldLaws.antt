@@ -1,4 +1,5 @@
--- A line of a form is read as what its tokens say, and as nothing else: once for all fields, and once for all forms.
+-- The tokens of a line spell its value: a line of any form is read as the value that its tokens spell, and as no
+-- other.
 use Rattle.std.proofs.Common.{◌≡◌, ℕ, zero, suc, ◌<◌, ◌≤◌, Bool, true, false, List, [], ◌∷◌, length, Option, None, Some, Result, Ok, Err, refl, ap, sym, ◌∙◌, arith}
 use Rattle.std.specs.Prelude.{codes, is_some, not, ok_or}
 use Rattle.std.specs.List.{list_all}
@@ -40,7 +41,7 @@ all_cut allowed (suc n) line (token ∷ tokens) short cut all =
     (and_right (allowed token) (list_all allowed tokens) all) in
     all_tokens-step allowed n line c.rest token c.at (and_left (allowed token) (list_all allowed tokens) all) ∙ others
 
--- the rest of a line is these tokens, all of them allowed
+-- The rest of a line consists of allowed tokens.
 pub record AreTokens (allowed : TokenText → Bool) (line : List ℕ) : Type 0 where
   pub tokens : List TokenText
   pub cut : CutsTo line tokens
@@ -130,7 +131,7 @@ read Identifier token x h = ap Ok h
 
 -- ---- any form
 
--- the rest of a line is tokens that say this
+-- The rest of a line consists of tokens that spell `x`.
 pub record IsSaid {A : Type 0} (form : Form A) (line : List ℕ) (x : A) : Type 0 where
   pub tokens : List TokenText
   pub cut : CutsTo line tokens
@@ -180,7 +181,7 @@ says (May test fault y) line (token ∷ tokens) x cut h =
     let f = first_cut cut in rw (f.at, h.0, is_end_of f.rest tokens f.cut) (ap Ok h.1)
 says (Refused fault) line tokens x cut h = absurd h
 
--- ---- a line behind its keyword
+-- ---- a line after its keyword
 
 module _ {A : Type 0} (name : List ℕ) (form : Form A) (text : List ℕ) (x : A) where
   pub is_named : SpellsLine (named name form) text x → IsNamed name form text x
@@ -204,7 +205,7 @@ module _ {A : Type 0} (name : List ℕ) (form : Form A) (text : List ℕ) (x : A
       let s = said (named name form) text x e in
       record { tokens = s.tokens; cut = record { untagged = untagged; cut = s.cut }; says = s.says }
 
--- ---- a line whose first token tells its form
+-- ---- a line whose first token selects its form
 
 module _ {A : Type 0} (blank : A) (form : TokenText → Form A) (text : List ℕ) (x : A) where
   first_said :

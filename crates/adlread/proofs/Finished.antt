@@ -1,4 +1,4 @@
--- A list that was read up to its end gives all that holds of a project; and no line has a line feed.
+-- A list that was read to its end has all properties of a project, and its lines contain no LF.
 use Rattle.std.proofs.Common.{◌≡◌, ℕ, ◌+◌, Bool, true, false, List, [], ◌∷◌, Option, None, Ok, IsTrue, refl, ap, sym, ◌∙◌, arith}
 use Rattle.std.specs.Prelude.{unwrap_or, ◌==◌, ◌&&◌, map}
 use Rattle.std.specs.List.{list_all}
@@ -53,7 +53,7 @@ pub lines_of-lines : (text : List ℕ) → list_all (list_all is_line_byte) (lin
 lines_of-lines text =
     let lines = has_lines text in rw lines.lines_are (map-lines lines.parts (parts_are_lines lines.cut))
 
--- the first of some lines, and the others
+-- The first line and the other lines contain no LF.
 pub first_of-lines :
     (lines rest : List (List ℕ)) (text : List ℕ) → lines ≡ text ∷ rest → list_all (list_all is_line_byte) lines ≡ true
     → list_all is_line_byte text ≡ true
@@ -64,7 +64,7 @@ pub rest_of-lines :
     → list_all (list_all is_line_byte) rest ≡ true
 rest_of-lines lines rest text e h = and_right (list_all is_line_byte text) (are_lines rest) (rw e at h)
 
--- where no entry was read no separators were found
+-- Without entries, the separators are the default ones.
 pub standard-from_entries :
     (events : List Event) (entry : Option OpenEntry) (found : Option (List ℕ)) (old_events : List Event)
     (old_found : Option (List ℕ))
@@ -88,7 +88,7 @@ module _ (rate : ℕ) where
     few = omega (arith, is.counted, is.few);
   }
 
-  -- one line more is read
+  -- Reading one more line.
   pub read_from-step :
       (c next : Context) (n m : ℕ) (line : List ℕ) (lines rest : List (List ℕ)) → lines ≡ line ∷ rest → m ≡ n + 1
       → with_line rate c m line ≡ Ok next → false ≡ is_behind next.stage → read_from rate next m rest ≡ read_from rate c n lines

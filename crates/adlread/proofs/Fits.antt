@@ -1,4 +1,4 @@
--- What a list that is read so far still has to say for a project, section by section.
+-- The rest of a list that completes the state of reading to a project, section by section.
 use Rattle.std.proofs.Common.{◌≡◌, ℕ, ◌+◌, ◌≤◌, Bool, true, false, List, [], ◌∷◌, ◌++◌, length, Option, None, Some, Ok, IsTrue, refl, ap, sym, subst, ◌∙◌, append_assoc, arith}
 use Rattle.std.specs.Prelude.{flat_map, is_some, unwrap_or, ◌==◌}
 use Rattle.std.specs.List.{list_all}
@@ -24,7 +24,7 @@ use Rattle.adlread.proofs.SourceLines.{read_sources}
 use Rattle.adlread.proofs.Stages.{outside_of}
 use Rattle.adlread.proofs.Walk.{walk}
 
--- the lines that were kept so far and those that are to be kept are all
+-- The lines kept so far and those still to be kept are all lines.
 abbrev pub Continues : Option (List (List ℕ)) → List (List (List ℕ)) → Option (List (List ℕ)) → Type 0
 Continues now more all = one_or_none now ++ more ≡ one_or_none all
 
@@ -49,7 +49,7 @@ one_at_most :
 one_at_most x more None e = absurd (cc)
 one_at_most x more (Some y) e = let same : x ≡ y = cc in let none : more ≡ [] = cc in (ap Some (sym same), none)
 
--- a section of this kind stands there, so none was read
+-- If a section of this kind follows, none was read before.
 pub first_kept :
     (now : Option (List (List ℕ))) (lines : List (List ℕ)) (more : List (List (List ℕ)))
     (all : Option (List (List ℕ))) → Continues now (lines ∷ more) all
@@ -58,7 +58,7 @@ first_kept None lines more all e = (refl, e)
 first_kept (Some other) lines more all e =
     let none = (one_at_most other (lines ∷ more) all e).1 in absurd (cc)
 
--- what was kept is all
+-- If no section of this kind follows, all its lines were kept.
 pub kept_is_all :
     (lines : List (List ℕ)) (more : List (List (List ℕ))) (all : Option (List (List ℕ)))
     → Continues (Some lines) more all → all ≡ Some lines
@@ -86,7 +86,7 @@ abbrev pub titled : Section → List ℕ → NumberedLine → List NumberedLine 
 titled s name opening content ending notices =
     record { meaning = s; name = name; opening = opening; content = content; ending = ending; notices = notices }
 
--- what fits a header that has a section fits one without it, and the section before it
+-- The laws of a header section: its lines are kept, and reading it takes a header without it to one with it.
 pub record IsHeaderPart (s : Section) : Type 0 where
   pub kept : IsKept s
   pub no_index : (section_rank s == section_rank section.SourceIndex) ≡ false
@@ -110,7 +110,7 @@ pub continued :
     → Continues now.track_list t all.track_list → IsContinued now v p s q t all
 continued v p s q t = record { version = v; project = p; system = s; sequence = q; track_list = t }
 
--- none was read, so the section that stands there goes on
+-- If no section was read before, the next one continues the header.
 none_kept :
     (now : Option (List (List ℕ))) (lines : List (List ℕ)) (more : List (List (List ℕ)))
     (all : Option (List (List ℕ))) → now ≡ None → Continues (Some lines) more all → Continues now (lines ∷ more) all
@@ -192,16 +192,16 @@ track_list_part = record {
       (none_kept now.track_list (texts part.content) (kept section.TrackList blocks) all.track_list none h.track_list);
 }
 
--- ---- a section is read
+-- ---- reading a section
 
--- the lines of a header's section begin with none
+-- A header section starts without lines.
 pub begun_kept :
     (s : Section) → IsKept s → (c : Context) (n : ℕ) (name : List ℕ)
     → begun c n s name
     ≡ record (with_lines c (put_lines s (Some []) c.header.lines)) { stage = stage.Inside s; name = name }
 begun_kept s is c n name = ap (λ (d : Context). record d { stage = stage.Inside s; name = name }) (is.begun c n)
 
--- a section of another meaning in front
+-- A section of another kind in front doesn't matter.
 pub other_section :
     (meaning : Section) (part : SectionText) (blocks : List Block)
     → (section_rank part.meaning == section_rank meaning) ≡ false
@@ -214,13 +214,13 @@ first_are [] = refl
 first_are (entry ∷ entries) = refl
 
 module _ (rate : ℕ) where
-  -- the source index was read, or is still to come
+  -- The source index was read, or follows.
   abbrev pub IndexFits : Bool → List Source → List SectionText → List Source → Type 0
   IndexFits true now parts all = (parts ≡ []) × (now ≡ all)
   IndexFits false now parts all =
       (now ≡ []) × ((part : SectionText) × ((parts ≡ part ∷ []) × SpellsSources rate part.content all part.notices))
 
-  -- the event list was read, or is still to come
+  -- The event list was read, or follows.
   abbrev pub EventsFit : Bool → Entries → List SectionText → List Event → List ℕ → Type 0
   EventsFit true now parts events separators =
       (parts ≡ []) ×
@@ -237,12 +237,12 @@ module _ (rate : ℕ) where
     pub events : EventsFit c.has_events c.entries (sections section.EventList blocks) p.events p.separators
     pub notices : c.notices ++ flat_map notices_of_block blocks ≡ p.notices
 
-  -- the count and the rates of the header so far
+  -- The count and the rates of the header so far.
   pub record IsCounted (header : HeaderRead) : Type 0 where
     pub counted : header.kept ≡ line_count header.lines
     pub told : told_rates rate no_rates (lines_of_section header.lines.sequence) ≡ Ok header.rates
 
-  -- what holds of the project itself
+  -- The properties of the project itself.
   pub record IsSound (p : ListProject) : Type 0 where
     pub few : line_count p.header ≤ 65535
     pub settings : list_all (is_system_line rate) (lines_of_section p.header.system) ≡ true
@@ -251,7 +251,7 @@ module _ (rate : ℕ) where
     pub entries : AreDistinct (entry_numbers p.events)
     pub same_rate : p.rate ≡ rate
 
-  -- the content is read, and the others still fit
+  -- The content of a section can be read, and the rest still fits.
   pub record IsWalked (s : Section) (c : Context) (content : List NumberedLine) (blocks : List Block)
       (p : ListProject) : Type 0 where
     pub last : Context
@@ -259,7 +259,7 @@ module _ (rate : ℕ) where
     pub fits : Fits (outside_of last) blocks p
     pub counts : IsCounted last.header
 
-  -- a source index stands there, so none was read
+  -- If a source index follows, none was read before.
   index_free :
       (has : Bool) (now : List Source) (part : SectionText) (more : List SectionText) (all : List Source)
       → IndexFits has now (part ∷ more) all
@@ -271,7 +271,7 @@ module _ (rate : ℕ) where
       let none : more ≡ [] = cc in
       (refl, (fits.0, (none, subst (λ (s : SectionText). SpellsSources rate s.content all s.notices) same fits.1.1.1)))
 
-  -- an event list stands there, so none was read
+  -- If an event list follows, none was read before.
   record IsFirstList (has : Bool) (now : Entries) (part : SectionText) (more : List SectionText) (events : List Event)
       (separators : List ℕ) : Type 0 where
     free : has ≡ false
@@ -317,14 +317,14 @@ module _ (rate : ℕ) where
 
   module _ (p : ListProject) (sound : IsSound p) (blocks : List Block) where
     module _ (c : Context) (part : SectionText) (counts : IsCounted c.header) where
-      -- the section stands there, of this meaning
+      -- A section of this kind comes next.
       abbrev Stands : Section → Type 0
       Stands s = Fits c (Titled (record part { meaning = s }) ∷ blocks) p
 
       abbrev Walked : Section → Type 0
       Walked s = (is_opened c s ≡ false) × IsWalked s (begun c part.opening.number s part.name) part.content blocks p
 
-      -- the notices behind those of this section
+      -- The notices after those of this section.
       told_behind :
           (told : List Notice) → part.notices ≡ told
           → c.notices ++ (part.notices ++ flat_map notices_of_block blocks) ≡ p.notices

@@ -1,4 +1,4 @@
--- What `Faults` has left behind a line that it reads, and behind one at fault.
+-- The remaining faults of `Faults` after a line that is read, and after a faulty line.
 use Rattle.std.proofs.Common.{◌≡◌, ℕ, ◌+◌, Bool, true, false, List, [], ◌∷◌, Option, None, Some, Result, Ok, Err, refl, ap, sym, subst, ◌∙◌}
 use Rattle.std.specs.Prelude.{◌||◌, IfSome, is_some, max, not, option_map}
 use Rattle.sampletime.specs.FrameRate.{frames_per_second}
@@ -17,13 +17,13 @@ use Rattle.adlread.specs.declared.faults.Faults.{Faults}
 use Rattle.adlread.specs.Further.{AreFaults, AreFurther, IsFirstOf, IsLeft, IsNext, is_of_one_line, left, opens_entry, rate_beside, without}
 use Rattle.adlread.proofs.FurtherLaws.{AreFaults-cut, AreFaults-emptied, AreFaults-end, AreFaults-exist, AreFaults-none, AreFaults-nothing, AreFaults-on, AreFaults-unfinished}
 
--- where they were cut short nothing is said of what is left
+-- After the iteration was cut short, anything may remain.
 pub cut-left :
     (f : Faults) (further : List Refusal) (complete : Bool) → f.is_over ≡ true → f.is_cut_short ≡ true
     → IsLeft f further complete
 cut-left f further complete over cut = rw over (λ uncut. absurd (let no : true ≡ false = sym cut ∙ uncut in cc))
 
--- what is left of them, where they aren't over
+-- The remaining faults while the iteration isn't over.
 abbrev pub AreLeft : Faults → List Refusal → Bool → Type 0
 AreLeft f further complete =
     AreFaults (frames_per_second f.rate) (context_of f.draft) f.lines.number
@@ -39,21 +39,21 @@ pub are-left :
     → IsLeft f further complete
 are-left f further complete on are = rw on are
 
--- the first of them is the next one
+-- The first of the remaining faults is the next one.
 pub first-next :
     (told : Option AdlFault) (new : Faults) (further : List Refusal) (complete : Bool)
     → IsFirstOf told further complete new → (is_some told || new.is_over) ≡ true → IsNext told further complete new
 first-next None new further complete is over = rw over at is
 first-next (Some fault) new further complete is over = is
 
--- none is given, so all are left
+-- If no fault is returned, all of them remain.
 pub none-left :
     (told : Option AdlFault) (new : Faults) (further : List Refusal) (complete : Bool) → is_some told ≡ false
     → IsFirstOf told further complete new → IsLeft new further complete
 none-left None new further complete none is = is
 none-left (Some fault) new further complete none is = absurd (cc)
 
--- one line more is taken
+-- Taking one more line.
 pub step-left :
     (f : Faults) (lines : LinesLeft) (line : List ℕ) (further : List Refusal) (complete : Bool)
     → f.lines.lines ≡ line ∷ lines.lines → f.is_over ≡ false → IsLeft f further complete
@@ -64,9 +64,9 @@ step-left f lines line further complete same on is =
     (left f.first f.is_in_faulty_entry f.lines.number ls) further complete) same
     (left-are f further complete on is)
 
--- ---- behind a line at fault
+-- ---- after a faulty line
 
--- that ends them
+-- A fault that stops the iteration.
 pub passed-cut :
     (told : Option AdlFault) (fault : AdlFault) (new : Faults) (rate : ℕ) (c : Context) (n m : ℕ) (line : List ℕ)
     (lines : List (List ℕ)) (further : List Refusal) (complete : Bool) → n + 1 ≡ m
@@ -85,7 +85,7 @@ passed-cut (Some t) (Text f location stood) new rate c n m line lines further co
   cut-left new [] complete over cut,
 )
 
--- that ends none of them
+-- A fault that doesn't stop the iteration.
 pub passed-alone :
     (f : Faults) (fault : AdlFault) (n m : ℕ) (line : List ℕ) (further : List Refusal) (complete : Bool) → n + 1 ≡ m
     → is_of_one_line fault ≡ true
@@ -117,7 +117,7 @@ emptied-left new further complete m b opens line on number in_entry is are =
     (subst (λ o. AreFaults (frames_per_second new.rate) (context_of new.draft) m
     (left new.first o m new.lines.lines) further complete) same are))
 
--- ---- behind a line that is read
+-- ---- after a line that is read
 
 pub read-left :
     (new : Faults) (c : Context) (n m : ℕ) (line : List ℕ) {lines : List (List ℕ)} (further : List Refusal)
@@ -133,7 +133,7 @@ read-left new c n m line further complete on at number read before same are =
     (AreFaults-on (frames_per_second new.rate) c (context_of new.draft) n m line
     (left new.first new.is_in_faulty_entry m new.lines.lines) at read before same are))
 
--- the list's end
+-- The end of the list.
 pub end-left :
     (missing : Option AdlFault) (new : Faults) (rate : ℕ) (c next : Context) (n m : ℕ) (line : List ℕ)
     {lines : List (List ℕ)} (rest : List (List ℕ)) (further : List Refusal) (complete : Bool)
@@ -160,7 +160,7 @@ end-left missing new rate c next n m line {lines} rest further complete over cut
             cut-left new [] complete over cut,
           )
 
--- no line is left
+-- No line remains.
 pub nothing-left :
     (f new : Faults) (further : List Refusal) (complete : Bool) (fault : AdlFault) (m : ℕ) (stood : Span)
     → f.lines.lines ≡ [] → f.is_over ≡ false → IsLeft f further complete
@@ -176,9 +176,9 @@ nothing-left f new further complete fault m stood none on is at number over cut 
   cut-left new [] complete over cut,
 )
 
--- ---- behind the first fault
+-- ---- after the first fault
 
--- what is left at this end, or of these lines
+-- The faults that remain at the end, or in these lines.
 abbrev StateLeft : (over cut : Bool) (rate : ℕ) (c : Context) (first : ℕ) (lines : LinesLeft) → List Refusal → Bool → Type 0
 StateLeft over cut rate c first lines further complete = by_end over where
   by_end : Bool → Type 0

@@ -1,4 +1,4 @@
--- Which faults are left behind a line that is read, and behind one at fault.
+-- The remaining faults after a line that is read, and after a faulty line.
 use Rattle.std.proofs.Common.{◌≡◌, ℕ, ◌+◌, ◌<◌, ◌≤◌, Bool, true, false, List, [], ◌∷◌, Option, None, Some, Result, Ok, Err, refl, ap, sym, subst, ◌∙◌, arith}
 use Rattle.std.specs.Prelude.{◌==◌, ◌&&◌, ◌||◌, codes, length, not, max, nat_le, is_some, if◌then◌else◌, ⊤}
 use Rattle.std.proofs.lemmas.Bool.{false_from_ne_true}
@@ -21,7 +21,7 @@ use Rattle.list_terms.specs.Tokens.{Cut, token_at, trimmed}
 use Rattle.adlread.specs.Fault.{line_of_location}
 use Rattle.adlread.specs.Further.{AreFaults, Last, More, Spelled, behind_emptied, is_of_its_own, left, opens_entry, without, without_entry}
 
--- ---- what holds of a fault, where there is one
+-- ---- a property of a fault, if there is one
 
 module _ (P : LocatedFault → Type 0) where
   abbrev Faulty : {X : Type 0} → Result X LocatedFault → Type 0
@@ -148,7 +148,7 @@ module _ (rate : ℕ) where
   section_line_at c m text section.Unsupported =
       faulty_test (IsAtLine m) (length (trimmed text) == 0) (Ok c) (Err (at_line m fault.Unsupported)) tt refl
 
-  -- a fault of a line is at this line
+  -- The fault of a line is located at this line.
   line_at : (at : Stage) (c : Context) (m : ℕ) (text : List ℕ)
       → Faulty (IsAtLine m) (with_line rate (record c { stage = at }) m text)
   unfolding with_line
@@ -161,12 +161,12 @@ module _ (rate : ℕ) where
       (section_line_at (record c { stage = stage.Inside s }) m text s)
   line_at stage.Behind c m text = tt
 
-  -- ---- an empty line in place of one at fault
+  -- ---- an empty line instead of a faulty one
 
   abbrev IsNotAlone : LocatedFault → Type 0
   IsNotAlone f = is_of_its_own f ≡ false
 
-  -- a fault of the list's end isn't one of a line alone
+  -- A fault at the end of a list doesn't concern only one line.
   end_not_alone : (c : Context) (m : ℕ) → Faulty IsNotAlone (finished rate c m)
   unfolding finished
   end_not_alone c m =
@@ -177,7 +177,7 @@ module _ (rate : ℕ) where
       (faulty_test IsNotAlone {X = ListProject} lacks (Err (at_line m fault.MissingSequence)) (Ok (project_of rate c)) refl
       tt)
 
-  -- an empty line is read here, and the list goes on
+  -- An empty line can be read here, and the list continues.
   record TakesEmpty (c : Context) (m : ℕ) : Type 0 where
     next : Context
     reads : with_line rate c m [] ≡ Ok next
@@ -202,7 +202,7 @@ module _ (rate : ℕ) where
   unfolding in_header kept_line
   kept_empty s c m room says = rw (room, says) refl
 
-  -- a line of the header is at fault by itself only where one more is kept
+  -- A header line is faulty by itself only if there is room for another line.
   has_room :
       (s : Section) (c : Context) (m : ℕ) (text : List ℕ) (f : LocatedFault)
       → in_header rate (inside s c) m text s ≡ Err f → is_of_its_own f ≡ true → nat_le 65535 c.header.kept ≡ false
@@ -256,7 +256,7 @@ module _ (rate : ℕ) where
   takes_empty stage.Behind c m text f e own =
       absurd (let no : ◌≡◌ {A = Result Context LocatedFault} (Ok (record c { stage = stage.Behind })) (Err f) = e in cc)
 
-  -- ---- one line of those that are left
+  -- ---- one of the remaining lines
 
   err_first :
       (c : Context) (n : ℕ) (line : List ℕ) (lines : List (List ℕ)) (f : LocatedFault)
@@ -276,7 +276,7 @@ module _ (rate : ℕ) where
   unfolding read_from
   ends_first c next n line lines e behind = rw (e, behind) refl
 
-  -- a fault of a line alone is behind those that were read
+  -- A fault of one line is after the lines that were read.
   is_later :
       (lines : List (List ℕ)) (c : Context) (n : ℕ) (f : LocatedFault) → read_from rate c n lines ≡ Err f
       → is_of_its_own f ≡ true → n < line_of_location f.location
@@ -314,7 +314,7 @@ module _ (rate : ℕ) where
   unfolding without
   without_here n line lines = let here : (n + 1 == n + 1) ≡ true = grind (arith, nat_tests) in rw here refl
 
-  -- ---- the faults of lines are their first one and the others
+  -- ---- the faults of lines are the first one and the others
 
   pub AreFaults-none :
       {c : Context} {n : ℕ} {lines : List (List ℕ)} {faults : List Refusal} {complete : Bool} (p : ListProject)
@@ -357,7 +357,7 @@ module _ (rate : ℕ) where
         subst (λ x. AreFaults rate c n (without (line_of_location x.location) n lines) others complete) one rest,
       )
 
-  -- ---- behind a line that is read the same faults are left
+  -- ---- after a line that is read, the same faults remain
 
   module _ (c next : Context) (n : ℕ) (line : List ℕ) (read : with_line rate c (n + 1) line ≡ Ok next)
       (on : is_behind next.stage ≡ false) where
@@ -386,7 +386,7 @@ module _ (rate : ℕ) where
         (subst (λ ls. AreFaults rate c n ls more complete)
         (sym (without_later k n line rest (is_later rest next (n + 1) f e own))) (step_back others))
 
-  -- ---- there are such faults
+  -- ---- the faults exist
 
   some_at :
       (line : List ℕ) (c : Context) (n : ℕ) (lines others : List (List ℕ))
@@ -437,7 +437,7 @@ module _ (rate : ℕ) where
     by_line (Err f) e = by_fault f e (is_of_its_own f) refl
     by_line (Ok next) e = by_stage next e (is_behind next.stage) refl
 
--- ---- lines of an entry that are emptied
+-- ---- emptied lines of an entry
 
 stops :
     (line : List ℕ) (lines : List (List ℕ)) → (is_tag line || opens_entry line) ≡ true
@@ -451,7 +451,7 @@ goes_on :
 unfolding without_entry
 goes_on line lines e = rw e refl
 
--- an empty line belongs to the entry before it
+-- An empty line belongs to the entry before it.
 empty_goes : (is_tag [] || opens_entry []) ≡ false
 unfolding token_at
 empty_goes = refl
@@ -506,7 +506,7 @@ or_same false true = refl
 or_same true false = refl
 or_same true true = refl
 
--- the line of the first fault
+-- The line with the first fault.
 pub left-first :
     (k n m : ℕ) (b : Bool) (line : List ℕ) (lines : List (List ℕ)) → n + 1 ≡ m → m ≡ k
     → left k b n (line ∷ lines) ≡ [] ∷ left k (b || opens_entry line) m lines
@@ -520,7 +520,7 @@ left-first k n m b line lines at this =
     ∙ (ap (λ o. behind_emptied o lines) (or_same (opens_entry line) b)
     ∙ ap (behind_emptied (b || opens_entry line)) (sym (without_passed k m lines passed)))))
 
--- another line
+-- Any other line.
 left-other :
     (k n m : ℕ) (b ends : Bool) (line : List ℕ) (lines : List (List ℕ)) → n + 1 ≡ m → (m ≡ k → ⊥)
     → ends ≡ (is_tag line || opens_entry line)
@@ -556,7 +556,7 @@ left-kept k n m b ends line lines at other is e =
     ∙ ap (λ empty. (if empty then [] else line) ∷ left k (b && not ends) m lines) e
 
 module _ (rate : ℕ) where
-  -- ---- there are further faults of any lines
+  -- ---- any lines have further faults
 
   pub AreFaults-exist :
       (lines : List (List ℕ)) (b : Bool) (c : Context) (n : ℕ)
@@ -597,9 +597,9 @@ module _ (rate : ℕ) where
     by_entry true ih = by_test (is_tag line || opens_entry line) refl ih
     by_entry false ih = first line false ih
 
-  -- ---- behind the first line
+  -- ---- after the first line
 
-  -- one that is read
+  -- The first line can be read.
   pub AreFaults-on :
       (c next : Context) (n m : ℕ) (line : List ℕ) {lines : List (List ℕ)} (rest : List (List ℕ))
       {faults : List Refusal} {complete : Bool} → n + 1 ≡ m → with_line rate c m line ≡ Ok next
@@ -609,7 +609,7 @@ module _ (rate : ℕ) where
       subst (λ i. AreFaults rate next i rest faults complete) at
       (step_on rate c next n line (rw at read) on rest are same)
 
-  -- the last one of the list
+  -- The first line ends the list.
   pub AreFaults-end :
       (c next : Context) (n m : ℕ) (line : List ℕ) {lines : List (List ℕ)} (rest : List (List ℕ)) → n + 1 ≡ m
       → with_line rate c m line ≡ Ok next → is_behind next.stage ≡ true → lines ≡ line ∷ rest
@@ -626,7 +626,7 @@ module _ (rate : ℕ) where
       AreFaults-last rate f are (same ∙ e)
       (faulty_at (IsNotAlone rate) (finished rate next m) f e (end_not_alone rate next m))
 
-  -- one that is at fault, and no line alone is
+  -- The first line is faulty, and later lines can't be judged.
   pub AreFaults-cut :
       (c : Context) (n m : ℕ) (line : List ℕ) (rest : List (List ℕ)) {faults : List Refusal} {complete : Bool}
       (f : LocatedFault) → n + 1 ≡ m → with_line rate c m line ≡ Err f → is_of_its_own f ≡ false
@@ -634,7 +634,7 @@ module _ (rate : ℕ) where
   AreFaults-cut c n m line rest f at e other are =
       (AreFaults-last rate f are (err_first rate c n line rest f (rw at e)) other).0
 
-  -- one that is at fault by itself
+  -- The first line is faulty, and later lines can be judged.
   pub AreFaults-emptied :
       (c : Context) (n m k : ℕ) (b : Bool) (line : List ℕ) (lines : List (List ℕ)) {faults : List Refusal}
       {complete : Bool} (f : LocatedFault) → n + 1 ≡ m → with_line rate c m line ≡ Err f → is_of_its_own f ≡ true
@@ -663,7 +663,7 @@ module _ (rate : ℕ) where
             (ap (λ (d : Context). is_behind d.stage) (sym found) ∙ takes.goes_on) emptied rest,
       )
 
-  -- no line is left
+  -- No line remains.
   pub AreFaults-nothing :
       (c : Context) (n : ℕ) (b : Bool) (k : ℕ) {lines : List (List ℕ)} {faults : List Refusal} {complete : Bool}
       → lines ≡ [] → AreFaults rate c n (left k b n lines) faults complete

@@ -1,4 +1,4 @@
--- The header that was read so far, with one section or one line more.
+-- The header after one more section or line.
 use Rattle.std.proofs.Common.{◌≡◌, ℕ, ◌+◌, ◌≤◌, Bool, true, false, List, [], ◌∷◌, ◌++◌, length, Option, None, Some, Result, Ok, refl, ap, sym, ◌∙◌, length-append, arith}
 use Rattle.std.specs.Prelude.{codes, is_some, nat_le, not}
 use Rattle.std.specs.List.{list_all}
@@ -18,7 +18,7 @@ use Rattle.list_terms.specs.Tokens.{trimmed}
 use Rattle.list_terms.specs.WholeProject.{are_kept, is_kept, is_line_byte, is_system_line, line_count, lines_of_section, no_rates, told_rates}
 use Rattle.adlread.specs.SoFar.{IsHeaderSoFar}
 
--- ---- one line more
+-- ---- one more line
 
 all_with :
     (test : List ℕ → Bool) (text : List ℕ) (lines : Option (List (List ℕ)))
@@ -38,14 +38,14 @@ pub is_kept_line :
     → is_kept name text ≡ true
 is_kept_line name text h k = and_both (list_all is_line_byte text) (not (is_end name (trimmed text))) h (rw k refl)
 
--- ---- one section more
+-- ---- one more section
 
 nothing_told : (lines : Option (List (List ℕ))) → is_some lines ≡ false → lines_of_section lines ≡ []
 nothing_told None h = refl
 nothing_told (Some lines) h = absurd (cc)
 
 module _ (rate : ℕ) where
-  -- the header is so, fact by fact
+  -- The invariants of the header, from one fact each.
   so_far :
       {header : HeaderRead} → let lines = header.lines in
       are_kept (codes "VERSION") lines.version ≡ true → are_kept (codes "PROJECT") lines.project ≡ true
@@ -81,7 +81,7 @@ module _ (rate : ℕ) where
   told_with told next None text there h k = absurd (cc)
   told_with told next (Some front) text there h k = told_rates-push no_rates told next front text h k
 
-  -- what a line of SYSTEM says
+  -- A line of SYSTEM that was read gives no rate.
   record SaysNothing (rates told : Rates) (text : List ℕ) : Type 0 where
     same : rates ≡ told
     line : is_system_line rate text ≡ true
@@ -98,7 +98,7 @@ module _ (rate : ℕ) where
     room_for_one : header.kept + 1 ≤ 65535
     room_for_one = grind (arith, nat_tests)
 
-    -- what a line of this section tells, and the header with it
+    -- The rates after a line of this section, and the header with the line.
     abbrev Tells : Section → Type 0
     Tells s = rates_with rate s header.rates text ≡ Ok told
 

@@ -1,4 +1,4 @@
--- The lines of a section that is kept: each of them, in their order.
+-- The lines of a kept section, all of them and in order.
 use Rattle.std.proofs.Common.{◌≡◌, ℕ, ◌+◌, ◌≤◌, false, List, [], ◌∷◌, ◌++◌, length, Some, Ok, refl, ap, sym, ◌∙◌, append_assoc, arith}
 use Rattle.std.specs.Prelude.{nat_le}
 use Rattle.std.proofs.lemmas.Bool.Decides.{nat_tests}
@@ -16,7 +16,7 @@ use Rattle.adlread.proofs.Walk.{walk, walk_step}
 abbrev pub with_header : Context → HeaderRead → Context
 with_header c header = record c { header = header }
 
--- the header with these lines more
+-- The header with these lines added.
 abbrev pub keep_all : Section → List (List ℕ) → Header → Header
 keep_all s [] h = h
 keep_all s (text ∷ lines) h = keep_all s lines (keep s text h)
@@ -38,7 +38,7 @@ pub record AreHeaderLines (s : Section) (c next : Context) (lines : List (List �
   pub is : next ≡ with_header c (record { lines = keep_all s lines c.header.lines; kept = kept; rates = rates })
 
 module _ (rate : ℕ) where
-  -- ---- the lines, as they are read
+  -- ---- reading the lines
 
   header_line_read :
       (s : Section) (c : Context) (n : ℕ) (text : List ℕ) (told : Rates) → nat_le 65535 c.header.kept ≡ false

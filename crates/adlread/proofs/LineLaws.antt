@@ -1,4 +1,4 @@
--- A text is cut into lines in one way.
+-- The division of a text into lines is unique.
 use Rattle.std.proofs.Common.{◌≡◌, ℕ, Bool, true, false, List, [], ◌∷◌, ◌++◌, refl, ap, sym, ◌∙◌, arith}
 use Rattle.std.specs.Prelude.{map, ◌==◌}
 use Rattle.std.specs.List.{list_all, onto_first}

@@ -1,4 +1,4 @@
--- A line that doesn't end the open section doesn't end the section of that meaning.
+-- A line that doesn't close the open section doesn't close the section under its standard name.
 use Rattle.std.proofs.Common.{◌≡◌, ℕ, Bool, true, false, List, [], ◌∷◌, Option, None, Some, refl, subst}
 use Rattle.std.specs.Prelude.{codes, if◌then◌else◌}
 use Rattle.std.specs.Str.{str_to_ascii_lowercase}
@@ -8,7 +8,7 @@ use Rattle.list_terms.specs.declared.Section.TheVariants as section
 use Rattle.list_terms.specs.Fields.{is_same_name}
 use Rattle.list_terms.specs.Text.{is_end, is_unsupported, section_of, tag_of}
 
--- the section that these tests choose
+-- The section that these tests select.
 abbrev chosen : (a b c d e f g h : Bool) → Section
 chosen a b c d e f g h =
     if a then section.Version else if b then section.Project else if c then section.System else if d
@@ -16,7 +16,7 @@ chosen a b c d e f g h =
     else if e then section.TrackList else if f then section.SourceIndex else if g then section.EventList
     else if h then section.Unsupported else section.Skipped
 
--- the test that a section of the header was chosen by
+-- The test that selects a header section.
 abbrev pub Passed : (a b c d e : Bool) → Section → Type 0
 Passed a b c d e section.Version = a ≡ true
 Passed a b c d e section.Project = b ≡ true

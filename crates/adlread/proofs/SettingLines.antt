@@ -1,4 +1,4 @@
--- The lines of SYSTEM and of SEQUENCE are read as the settings that they spell, and as no others.
+-- The lines of SYSTEM and SEQUENCE are read as the settings that they spell, and as no others.
 use Rattle.std.proofs.Common.{◌≡◌, ℕ, true, List, [], ◌∷◌, Ok, refl}
 use Rattle.std.specs.Prelude.{is_ok, not}
 use Rattle.std.specs.List.{list_all}

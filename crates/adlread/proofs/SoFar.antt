@@ -1,4 +1,4 @@
--- What holds of a list that was read so far holds with one line more.
+-- One more line preserves the invariants of reading.
 use Rattle.std.proofs.Common.{◌≡◌, ℕ, ◌+◌, true, false, List, [], ◌∷◌, ◌++◌, Option, None, Some, Result, Ok, refl, subst, sym, ◌∙◌}
 use Rattle.std.specs.Prelude.{codes, is_some, nat_le, if◌then◌else◌}
 use Rattle.std.specs.List.{list_all}
@@ -31,7 +31,7 @@ with_text_there text None h = h
 with_text_there text (Some front) h = refl
 
 module _ (rate : ℕ) where
-  -- the list is so, fact by fact
+  -- The invariants of reading, from one fact each.
   so_far :
       {c : Context} → IsOpen c.stage c.name
       → (c.stage ≡ stage.Inside section.Sequence → is_some c.header.lines.sequence ≡ true)
@@ -44,7 +44,7 @@ module _ (rate : ℕ) where
   IsSoFar-nothing = so_far tt (λ e. absurd (cc)) (IsHeaderSoFar-none rate) refl (λ e. refl)
 
   module _ (c : Context) (is : IsSoFar rate c) (n : ℕ) (text : List ℕ) (whole : list_all is_line_byte text ≡ true) where
-    -- the header with a line more, where each such line is kept
+    -- The header after one more kept line.
     header_so_far :
         (next : Context) (s : Section)
         → ((told : Rates) → nat_le 65535 c.header.kept ≡ false → rates_with rate s c.header.rates text ≡ Ok told
@@ -63,7 +63,7 @@ module _ (rate : ℕ) where
     source_line_so_far (DroppedSource token rest at other ends) =
         so_far is.name is.in_sequence is.header is.texts is.standard
 
-    -- an entry that was read found separators
+    -- An entry that was read has separators.
     event_line_so_far : {next : Context} → IsEventLine rate c text next → IsSoFar rate next
     event_line_so_far (BlankEvent at) = is
     event_line_so_far (ToldEntry g h free) =
@@ -75,7 +75,7 @@ module _ (rate : ℕ) where
         so_far is.name is.in_sequence is.header is.texts (λ none. absurd (not_nil c.entries.events new.event none))
 
     module _ (inside : is_end c.name (trimmed text) ≡ false) where
-      -- a line that doesn't end the open section is kept under the name of its meaning
+      -- A line that doesn't close the open section is kept under the section's standard name.
       kept : (title : List ℕ) → is_same_name c.name title ≡ true → is_kept title text ≡ true
       kept title same = is_kept_line title text whole (sym (is_end-same c.name title (trimmed text) same) ∙ inside)
 
@@ -165,7 +165,7 @@ module _ (rate : ℕ) where
       by_stage (stage.Inside s) st e = inside_line_so_far next s st (inside_is rate s c next n text e)
       by_stage stage.Behind st e = subst (IsSoFar rate) (ok_same {E = LocatedFault} c next e) is
 
-  -- one line more
+  -- One more line.
   pub IsSoFar-line :
       (c next : Context) (n : ℕ) (text : List ℕ) → IsSoFar rate c → list_all is_line_byte text ≡ true
       → with_line rate c n text ≡ Ok next → IsSoFar rate next

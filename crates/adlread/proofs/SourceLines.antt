@@ -1,4 +1,4 @@
--- A line of the source index is read as the source that its tokens spell, and as no other.
+-- A line of SOURCE_INDEX is read as the source that its tokens spell, and as no other.
 use Rattle.std.proofs.Common.{◌≡◌, ℕ, true, false, List, [], ◌∷◌, ◌++◌, Ok, refl, ap, sym, subst, ◌∙◌, append_assoc}
 use Rattle.std.specs.Prelude.{codes, ◌==◌, not}
 use Rattle.std.specs.List.{list_any}
@@ -24,7 +24,7 @@ use Rattle.adlread.proofs.Walk.{walk, walk_step}
 use Rattle.adlread.proofs.FieldLaws.{chain, end_is, is_end_of, is_named, is_numbered, spells_named}
 
 module _ (rate : ℕ) where
-  -- ---- one line, as it is read
+  -- ---- reading one line
 
   module _ (c : Context) (n : ℕ) (text : List ℕ) where
     blank_source_line : HasTokens text [] → in_source_index rate c n text ≡ Ok c

@@ -1,4 +1,4 @@
--- The texts of a source that a line says: its URL can be quoted, and its identifier is one token.
+-- The texts of a source that was read: its URL can be quoted, and its identifier is one token.
 use Rattle.std.proofs.Common.{◌≡◌, ℕ, length, true, List, [], ◌∷◌, Ok, refl, ap, sym, ◌∙◌, arith}
 use Rattle.std.specs.Prelude.{codes, is_some, ◌&&◌}
 use Rattle.std.specs.List.{list_all}
@@ -21,12 +21,12 @@ use Rattle.list_terms.specs.Tokens.{TokenText, all_tokens, is_quoted_byte, is_wo
 use Rattle.list_terms.specs.TokenLaws.{all_weaker, is_content, is_word, token_at-cut, token_at-token_text}
 use Rattle.list_terms.specs.WholeProject.{has_whole_texts, is_line_byte, is_one_token, is_quotable}
 
--- ---- fields of a line without a line feed
+-- ---- fields of a line without LF
 
 abbrev IsText : List ℕ → Type 0
 IsText text = list_all is_line_byte text ≡ true
 
--- a field of such a line: its token, and what follows, are such bytes
+-- A field of a line without LF: neither its token nor the rest contains LF.
 record IsInside (f : Field) (next : Value f × List ℕ) : Type 0 where
   token : TokenText
   inside : IsText token.content

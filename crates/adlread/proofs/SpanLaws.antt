@@ -1,4 +1,4 @@
--- Where the first token of a line is, and the next one of what remains of it.
+-- The byte ranges of the first token of a line and of the next token of its rest.
 use Rattle.std.proofs.Common.{◌≡◌, ℕ, ◌+◌, true, false, List, ◌∷◌, length, Result, Ok, Err, refl, ap, arith}
 use Rattle.std.specs.Prelude.{◌-◌}
 use Rattle.adltoken.specs.declared.tokens.Span.{Span}
@@ -16,7 +16,7 @@ pub span_of_rest : (at : ℕ) (rest : List ℕ) → first_span at rest ≡ next_
 unfolding next_span
 span_of_rest at rest = let same : at ≡ at + length rest - length rest = omega arith in ap (λ n. first_span n rest) same
 
--- what a form says plays no part
+-- Mapping the value of a form doesn't change the range of its fault.
 pub span_mapped :
     {A B : Type 0} (f : A → B) (long : ℕ) (form : Form A) (last : Span) (rest : List ℕ)
     → form_span long (mapped f form) last rest ≡ form_span long form last rest
@@ -43,7 +43,7 @@ span_mapped f long (Unless false fault more) last rest = span_mapped f long more
 span_mapped f long (May test fault x) last rest = refl
 span_mapped f long (Refused fault) last rest = refl
 
--- one line more is read without a fault
+-- One more line is read without a fault.
 pub lines_span-step :
     (rate : ℕ) (c next : Context) (n m : ℕ) (last line : List ℕ) (lines rest : List (List ℕ)) → lines ≡ line ∷ rest
     → m ≡ n + 1 → with_line rate c m line ≡ Ok next → false ≡ is_behind next.stage

@@ -31,7 +31,7 @@ all_there true true false h = absurd (cc)
 all_there true false c h = absurd (cc)
 all_there false b c h = absurd (cc)
 
--- the rest of a section and what is behind it, in fewer lines
+-- The lines after a section are fewer than all lines.
 shorter :
     (lines : List NumberedLine) (c : Parted lines) (fuel : ℕ) → length lines ≤ fuel → length c.after ≤ fuel
 shorter lines c fuel short = omega (arith, ap length c.are, length-append c.before (c.line ∷ c.after))
@@ -113,7 +113,7 @@ module _ (rate : ℕ) where
       }
 
   module _ (p : ListProject) where
-    -- a list behind this many lines at most is read
+    -- Induction hypothesis: lists with at most this many lines.
     abbrev IsReadWithin : ℕ → Type 0
     IsReadWithin fuel =
         (lines : List NumberedLine) (c : Context) (n : ℕ) → length lines ≤ fuel → c.stage ≡ stage.Outside → IsFresh c
@@ -190,7 +190,7 @@ module _ (rate : ℕ) where
         by_line next g (Begins some begins) ih =
             record { cut = at_first line lines; blank = refl; begins = begins; others = g }
 
-  -- a list that was read at this rate
+  -- A list that was read at this rate.
   record IsSpelledAt (text : List ℕ) (p : ListProject) : Type 0 where
     spelled : SpellsAtRate rate text p
     same_rate : p.rate ≡ rate

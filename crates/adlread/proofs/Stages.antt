@@ -1,4 +1,4 @@
--- The stages of a list: before it, between its sections, and inside one.
+-- The stages of a list: before it, between its sections, and inside a section.
 use Rattle.std.proofs.Common.{◌≡◌, ℕ, ◌+◌, Bool, true, false, List, [], ◌∷◌, ◌++◌, Result, Ok, Err, refl, ap, sym, subst, ◌∙◌}
 use Rattle.std.specs.Prelude.{if◌then◌else◌, max, not}
 use Rattle.std.specs.List.{list_all}
@@ -18,7 +18,7 @@ use Rattle.adlread.proofs.Walk.{walk, walk_step}
 
 -- ---- lines in two parts
 
--- the lines up to one, this one, and those after it
+-- Lines split into those before a line, this line, and those after it.
 pub record Parted (lines : List NumberedLine) : Type 0 where
   pub before : List NumberedLine
   pub line : NumberedLine
@@ -37,19 +37,19 @@ one_before line c =
 abbrev pub outside_of : Context → Context
 outside_of c = record c { stage = stage.Outside }
 
--- no line of these ends the section of this name
+-- The line doesn't close the section with this name.
 abbrev pub stays_inside : List ℕ → List ℕ → Bool
 stays_inside name text = not (is_end name (trimmed text))
 
 module _ (rate : ℕ) where
-  -- ---- the lines of a list, with their numbers
+  -- ---- numbered lines of a list
 
   abbrev pub read_all : Context → ℕ → List NumberedLine → Result ListProject LocatedFault
   read_all c number [] = Err (at_line (max number 1) SectionMismatch)
   read_all c number (line ∷ lines) = with_line rate c line.number line.text >>= (λ next.
       if is_behind next.stage then finished rate next line.number else read_all next line.number lines)
 
-  -- behind a line that was read
+  -- Reading continues after a line, or finishes at `</ADL>`.
   abbrev pub read_on : Context → ℕ → List NumberedLine → Result ListProject LocatedFault
   read_on next number lines = if is_behind next.stage then finished rate next number else read_all next number lines
 
@@ -89,7 +89,7 @@ module _ (rate : ℕ) where
       → read_on next n lines ≡ Ok project → read_all next n lines ≡ Ok project
   goes_on next n lines project before e = rw before at e
 
-  -- a line inside a section leaves it open
+  -- A line inside a section leaves it open.
   line_stays :
       (s : Section) (c next : Context) (n : ℕ) (text : List ℕ) → in_section rate c n text s ≡ Ok next
       → (next.stage ≡ c.stage) × (next.name ≡ c.name)
@@ -104,7 +104,7 @@ module _ (rate : ℕ) where
   unfolding with_line
   inside_known s c n text = refl
 
-  -- a line inside a section ends it, or belongs to it
+  -- A line inside a section closes it or belongs to it.
   inside_line_is :
       (s : Section) (c : Context) (n : ℕ) (text : List ℕ) → c.stage ≡ stage.Inside s
       → with_line rate c n text ≡ (if is_end c.name (trimmed text) then Ok (outside_of c) else in_section rate c n text s)
@@ -137,7 +137,7 @@ module _ (rate : ℕ) where
       (subst (λ name. list_all (stays_inside name) (texts content) ≡ true) (sym stays.1) others)
       (subst (λ name. is_end name (trimmed end.text) ≡ true) (sym stays.1) ends) f.others
 
-  -- the lines up to the end of the open section, and those behind it
+  -- The lines up to the end of the open section, and the lines after it.
   pub record IsSectionRead (s : Section) (c : Context) (lines : List NumberedLine) (project : ListProject) : Type 0 where
     pub cut : Parted lines
     pub last : Context

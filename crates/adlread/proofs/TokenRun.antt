@@ -1,4 +1,4 @@
--- The tokens up to the end of a line, one taken off.
+-- The tokens up to the end of a line, after one token.
 use Rattle.std.proofs.Common.{◌≡◌, Bool, ℕ, zero, suc, ◌<◌, ◌≤◌, true, false, List, length, None, Some, Result, Ok, Err, refl, sym, ap, ◌∙◌, arith}
 use Rattle.std.specs.Prelude.{OnErr}
 use Rattle.adltoken.specs.declared.tokens.Span.{Span}
@@ -8,7 +8,7 @@ pub use Rattle.list_terms.specs.EndLaws.{all_tokens-fault, all_tokens-none, all_
 use Rattle.list_terms.specs.Tokens.{TokenText, token_at, all_tokens}
 use Rattle.adlread.specs.FaultSpans.{end_span, next_span}
 
--- what remains of a line of so many bytes, in so many steps, is as the whole line
+-- Reading the rest of a line in this number of steps gives the same result as reading the whole line.
 pub record IsLeft (allowed : TokenText → Bool) (long : ℕ) (line rest : List ℕ) : Type 0 where
   pub steps : ℕ
   pub enough : length rest ≤ steps
@@ -53,7 +53,7 @@ IsLeft-next allowed long line left rest token h e is shorter = by_steps h.steps 
     span = sym (end_span-step allowed long n left rest token e is) ∙ span;
   }
 
--- where the whole line is at fault, and which fault it is
+-- The fault of the whole line and its range.
 pub record EndsAt (allowed : TokenText → Bool) (long : ℕ) (line : List ℕ) (fault : TextFault) (span : Span) : Type 0 where
   pub fault_is : all_tokens allowed (length line) line ≡ Err fault
   pub span_is : end_span allowed long (length line) line ≡ span

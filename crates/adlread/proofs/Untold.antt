@@ -1,4 +1,4 @@
--- A text in which the keyword of the rate of frames doesn't stand has the rate 25.
+-- A text without the keyword of the frame rate has rate 25.
 use Rattle.std.proofs.Common.{◌≡◌, ℕ, zero, suc, ◌<◌, ◌≤◌, Bool, true, false, List, [], ◌∷◌, ◌++◌, Option, None, Some, Result, Ok, Err, length, take, drop, refl, ap, sym, subst, ◌∙◌, arith}
 use Rattle.std.specs.Prelude.{◌==◌, ◌||◌, not, codes, is_some, map, option_map, if◌then◌else◌}
 use Rattle.std.specs.List.{list_all, take_while}
@@ -23,7 +23,7 @@ use Rattle.list_terms.specs.Text.{Outline, has_word, is_in_sequence, nothing_pas
 use Rattle.adlread.specs.CutLines.{EndedPart, HasParts, LastPart, NoPart}
 use Rattle.adlread.proofs.LineLaws.{has_lines}
 
--- a text without one CR at its end, and that end
+-- A text is its part without a CR at the end, followed by that CR if there is one.
 cr_of : (text : List ℕ) → (cr : List ℕ) × (text ≡ without_cr text ++ cr)
 cr_of [] = ([], refl)
 cr_of (b ∷ []) = by_test (b == 13) refl where
@@ -183,7 +183,7 @@ rate_of-untold text h =
     untold_from (lines_of text) nothing_passed
     (rw lines.lines_are (lines_lack told_by lines.cut (mark_lacks told_by text h)))
 
--- ---- a text whose first line can't stand
+-- ---- a text whose first line is misplaced
 
 pub rate_of-stopped :
     (text line : List ℕ) (lines : List (List ℕ)) → lines_of text ≡ line ∷ lines → passed nothing_passed line ≡ None
@@ -203,7 +203,7 @@ pub rate_of-nothing : (text : List ℕ) → lines_of text ≡ [] → rate_of tex
 unfolding rate_of rate_from
 rate_of-nothing text e = rw e refl
 
--- ---- the search by its first letter
+-- ---- the search for the first letter
 
 other_letter : (b : ℕ) → (b == 83 || b == 115) ≡ false → (to_ascii_lowercase b == 115) ≡ false
 other_letter b h = grind (arith, nat_tests)

@@ -1,4 +1,4 @@
--- The lines of a section, read one after another.
+-- Reading the lines of a section, one after another.
 use Rattle.std.proofs.Common.{ℕ, ◌≡◌, List, [], ◌∷◌, Result, Ok, refl}
 use Rattle.list_terms.specs.declared.Section.{Section}
 use Rattle.list_terms.specs.Steps.{◌>>=◌}

@@ -1,4 +1,4 @@
--- A section that was read is spelled by its lines.
+-- The lines of a section that was read spell it.
 use Rattle.std.proofs.Common.{◌≡◌, ℕ, true, false, List, [], ◌∷◌, ◌++◌, Some, Ok, refl, ap, sym, subst, ◌∙◌, append_assoc}
 use Rattle.std.specs.Prelude.{flat_map, unwrap_or}
 use Rattle.std.specs.List.{list_all}
@@ -22,7 +22,7 @@ use Rattle.adlread.proofs.SourceLines.{sources_are_read}
 use Rattle.adlread.proofs.Stages.{outside_of}
 use Rattle.adlread.proofs.Walk.{walk}
 
--- a section that wasn't begun has left nothing
+-- A section that wasn't opened has left no trace.
 pub record IsFresh (c : Context) : Type 0 where
   pub index : c.has_index ≡ false → c.sources ≡ []
   pub events : c.has_events ≡ false → c.entries ≡ no_entry
@@ -39,7 +39,7 @@ module _ (rate : ℕ) where
       let others = unsupported_are content f.value last f.others in
       (and_both (is_empty line.text) (list_all is_empty (texts content)) first.0 others.0, others.1 ∙ sym first.1)
 
-  -- what is left of a section that was read, and gave some notices
+  -- The outcome of a section that was read, and its notices.
   pub record IsWalkedOver (c : Context) (s : Section) (part : SectionText) (last : Context) : Type 0 where
     pub fresh : IsFresh (outside_of last)
     pub fits :
@@ -48,14 +48,14 @@ module _ (rate : ℕ) where
         × IsPassedOver s (record part { meaning = s; notices = notices }))
 
   module _ (c : Context) (part : SectionText) (last : Context) (fresh : IsFresh c) where
-    -- the section of this meaning, with these notices
+    -- The section of this kind, with these notices.
     abbrev with : Section → List Notice → SectionText
     with s notices = record part { meaning = s; notices = notices }
 
     abbrev Walks : Section → Type 0
     Walks s = walk rate s (begun c part.opening.number s part.name) part.content ≡ Ok last
 
-    -- the notice at the opening line
+    -- The notice at the opening line.
     noticed :
         (blocks : List Block) (p : ListProject)
         → (c.notices ++ notice 1 part.opening ∷ []) ++ flat_map notices_of_block blocks ≡ p.notices
@@ -63,7 +63,7 @@ module _ (rate : ℕ) where
     noticed blocks p told =
         sym (append_assoc c.notices (notice 1 part.opening ∷ []) (flat_map notices_of_block blocks)) ∙ told
 
-    -- a section of the header
+    -- A section of the header.
     header_over : (s : Section) → IsHeaderPart s → is_opened c s ≡ false → Walks s → IsWalkedOver c s part last
     header_over s is free e =
         let lines = put_lines s (Some (texts part.content)) c.header.lines in

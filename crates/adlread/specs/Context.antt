@@ -1,9 +1,10 @@
--- What a list that was read so far stands for.
+-- Views of drafts.
 use Rattle.list_terms.specs.Text.{Context}
 use Rattle.adlread.specs.Entries.{entries_of}
 use Rattle.adlread.specs.HeaderSoFar.{header_so_far}
 use Rattle.adlread.specs.declared.draft.Draft.{Draft}
 
+-- The state of reading that a draft represents.
 abbrev pub context_of : Draft → Context
 context_of draft = record {
   stage = draft.stage;

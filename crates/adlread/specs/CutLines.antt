@@ -1,4 +1,4 @@
--- How a text is cut into lines, and a line into tokens.
+-- The division of a text into lines, and of a line into tokens.
 use Rattle.std.specs.Prelude.{◌≡◌, ℕ, ◌+◌, ◌==◌, Bool, false, List, [], ◌∷◌, ◌++◌, length, map, IsTrue}
 use Rattle.std.specs.List.{list_all}
 use Rattle.list_terms.specs.Tokens.{TokenText, is_blank, token_text, trimmed}
@@ -7,7 +7,7 @@ use Rattle.list_terms.specs.Text.{is_tag}
 use Rattle.list_terms.specs.Lines.{without_cr, without_mark}
 use Rattle.list_terms.specs.WholeProject.{is_line_byte}
 
--- the line is these tokens, parted by blanks or by nothing
+-- A line that consists of these tokens, separated by blanks or by nothing.
 pub data CutsTo : List ℕ → List TokenText → Type 0 where
   OnlyBlanks : (blanks : List ℕ) → IsTrue (list_all is_blank blanks) → CutsTo blanks []
   NextToken : (blanks : List ℕ) (token : TokenText) (rest : List ℕ) (tokens : List TokenText)
@@ -15,12 +15,12 @@ pub data CutsTo : List ℕ → List TokenText → Type 0 where
       → IsTrue (ends_token token.kind rest) → CutsTo rest tokens
       → CutsTo (blanks ++ (token_text token ++ rest)) (token ∷ tokens)
 
--- a line of these tokens that doesn't begin with `<`, as one does that opens or ends a section
+-- A line of these tokens that doesn't begin with `<`.
 pub record HasTokens (line : List ℕ) (tokens : List TokenText) : Type 0 where
   pub untagged : is_tag line ≡ false
   pub cut : CutsTo line tokens
 
--- the text is these parts, each with LF behind it; the last one may lack it, and has a byte then
+-- A text that consists of these parts, each followed by LF. A nonempty last part may lack its LF.
 pub data HasParts : List ℕ → List (List ℕ) → Type 0 where
   NoPart : HasParts [] []
   LastPart : (byte : ℕ) (part : List ℕ) → IsTrue (list_all is_line_byte (byte ∷ part))
@@ -28,25 +28,26 @@ pub data HasParts : List ℕ → List (List ℕ) → Type 0 where
   EndedPart : (part rest : List ℕ) {parts : List (List ℕ)}
       → IsTrue (list_all is_line_byte part) → HasParts rest parts → HasParts (part ++ (10 ∷ rest)) (part ∷ parts)
 
--- the lines of a text; a byte order mark in front of it is no part of them, and neither is one CR at the end of each
+-- The lines of a text: without a byte order mark in front, and without one CR at the end of each.
 pub record HasLines (text : List ℕ) (lines : List (List ℕ)) : Type 0 where
   pub parts : List (List ℕ)
   pub cut : HasParts (without_mark text) parts
   pub lines_are : lines ≡ map without_cr parts
 
--- a line, and its number in the text
+-- A line and its number in the text.
 pub record NumberedLine : Type 0 where
   pub number : ℕ
   pub text : List ℕ
 
--- these lines, numbered from here on
+-- The lines, numbered from `number`.
 abbrev pub with_numbers : ℕ → List (List ℕ) → List NumberedLine
 with_numbers number [] = []
 with_numbers number (text ∷ lines) = record { number = number; text = text } ∷ with_numbers (number + 1) lines
 
+-- The texts of numbered lines.
 abbrev pub texts : List NumberedLine → List (List ℕ)
 texts lines = map (λ line. line.text) lines
 
--- blanks alone
+-- A line of blanks only.
 abbrev pub is_empty : List ℕ → Bool
 is_empty text = length (trimmed text) == 0

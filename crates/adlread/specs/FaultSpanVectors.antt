@@ -1,4 +1,4 @@
--- Worked texts, and how many bytes of the line at fault come before its token, and how long that is.
+-- Worked examples of the byte ranges of faults.
 use Rattle.std.specs.Prelude.{◌≡◌, refl, ℕ, List, [], ◌∷◌, ◌++◌, map, codes}
 use Rattle.adltoken.specs.declared.tokens.Span.{Span}
 use Rattle.list_terms.specs.Lines.{cut_lines, lines_of}
@@ -12,14 +12,14 @@ use Rattle.adlread.specs.FaultSpans.{end_span, event_line_span, fault_span, form
 abbrev entry : List ℕ
 entry = codes "(Entry) 0001 (Cut) I 0001 1 1 00.00.00.00/0000 01.00.00.00/0000 01.00.00.00/0004\n"
 
--- an event list of an entry and this line
+-- An event list with an entry and this line.
 abbrev after_entry : List ℕ → List ℕ
 after_entry line = codes "<ADL>\n<EVENT_LIST>\n" ++ (entry ++ line)
 
 abbrev spans : List (ℕ × ℕ) → List Span
 spans pairs = map (λ pair. record { at = pair.0; length = pair.1 }) pairs
 
--- in an event list after an entry, and elsewhere
+-- Faults after an entry, and elsewhere.
 pub faults_stand_at :
     (map (λ line. text_span (after_entry line))
     (codes " (Gain) -3 x" ∷ codes "(Infade)" ∷ codes "(Infade" ∷ codes "\t(Infade) \"x" ∷ codes "(Infade) 00.00.00.00/0002 COS"

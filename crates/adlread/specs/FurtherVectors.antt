@@ -1,4 +1,4 @@
--- Worked lists with several lines at fault, and what is told of them behind the first one.
+-- Worked examples of lists with several faulty lines.
 use Rattle.std.specs.Prelude.{refl, ℕ, true, false, List, [], ◌∷◌, ◌++◌, flat_map, codes}
 use Rattle.work_terms.specs.Refusals.{Refusal, Line, LineEntry}
 use Rattle.list_terms.specs.declared.Location.TheVariants as location
@@ -13,7 +13,7 @@ use Rattle.adlread.specs.declared.fault.AdlFault.{AdlFault}
 use Rattle.adlread.specs.declared.fault.AdlFault.TheVariants.{Text}
 use Rattle.adlread.specs.Further.{AreFurther, Last, More, Spelled, rate_beside, without, without_entry}
 
--- a list of 24 frames whose index has a bad number, and then these lines
+-- A list at 24 frames with a bad index number, followed by these lines.
 abbrev list_with : List (List ℕ) → List ℕ
 list_with lines = flat_map (λ line. line ++ (10 ∷ []))
     ((codes "<ADL>" ∷ codes "<SEQUENCE>" ∷ codes "(SEQ_SAMPLE_RATE) S48000" ∷ codes "(SEQ_FRAME_RATE) 24"
@@ -29,8 +29,8 @@ at_line number line = record { number = number; location = Line line; late = fal
 abbrev at_entry : ℕ → ℕ → ℕ → Refusal
 at_entry number line entry = record { number = number; location = LineEntry line entry; late = false }
 
--- an unknown line of an entry; an entry of too many channels, whose own line of another gain is passed over; and a frame
--- that the rate hasn't
+-- An unknown line of an entry; an entry with a bad channel, whose gain line is skipped; and a time with a frame
+-- number that is too high.
 pub of_entries :
     AreFurther
     (list_with (codes "<EVENT_LIST>"
@@ -45,7 +45,7 @@ unfolding cut_lines lines_of token_at all_tokens number_up_to channels_of is_zer
     read_from opens passed_before passed_outside passed_inside passed rate_of_line rate_beside without without_entry
 of_entries = More _ refl refl (More _ refl refl (More _ refl refl (Spelled _ refl)))
 
--- a section that is opened again ends them
+-- A section that is opened again stops the iteration.
 pub of_section : AreFurther (list_with (codes "<SEQUENCE>" ∷ [])) bad_index (at_line 5 9 ∷ []) false
 unfolding cut_lines lines_of token_at all_tokens number_up_to channels_of is_zero
     is_whole_number told_rate field optional_time end_line value_at reads reads_line mapped entry_keyword entry_with remark

@@ -1,4 +1,4 @@
--- What holds of every list that was read so far.
+-- Invariants of the state of reading.
 use Rattle.std.specs.Prelude.{◌≡◌, ℕ, ◌≤◌, true, List, [], None, Ok, IsTrue, codes, is_some, ⊤}
 use Rattle.std.specs.List.{list_all}
 use Rattle.list_terms.specs.declared.Section.TheVariants as section
@@ -7,7 +7,7 @@ use Rattle.list_terms.specs.declared.Stage.TheVariants as stage
 use Rattle.list_terms.specs.Text.{Context, HeaderRead, all_events, section_of}
 use Rattle.list_terms.specs.WholeProject.{are_kept, has_whole_texts, is_system_line, line_count, lines_of_section, no_rates, told_rates}
 
--- the open section is the one of its name
+-- The open section is the one that its name selects.
 abbrev pub IsOpen : Stage → List ℕ → Type 0
 IsOpen stage.Before name = ⊤
 IsOpen stage.Outside name = ⊤
@@ -15,7 +15,7 @@ IsOpen (stage.Inside section) name = section_of name ≡ section
 IsOpen stage.Behind name = ⊤
 
 module _ (rate : ℕ) where
-  -- the header so far: its kept lines are no more than were counted, and the rates are those that SEQUENCE told
+  -- The invariants of the header so far: no more lines than counted, and the rates that SEQUENCE has given.
   pub record IsHeaderSoFar (header : HeaderRead) : Type 0 where
     pub version : IsTrue (are_kept (codes "VERSION") header.lines.version)
     pub project : IsTrue (are_kept (codes "PROJECT") header.lines.project)
@@ -27,6 +27,7 @@ module _ (rate : ℕ) where
     pub counted : line_count header.lines ≤ header.kept
     pub few : header.kept ≤ 65535
 
+  -- The invariants of the state of reading.
   pub record IsSoFar (c : Context) : Type 0 where
     pub name : IsOpen c.stage c.name
     pub in_sequence : c.stage ≡ stage.Inside section.Sequence → is_some c.header.lines.sequence ≡ true

@@ -1,4 +1,4 @@
--- The grammar of lists: which project a text spells.
+-- The grammar of lists: the project that a text spells.
 use Rattle.std.specs.Prelude.{◌≡◌, ℕ, ◌≤◌, ◌==◌, not, List, [], ◌∷◌, ◌++◌, map, flat_map, Option, None, Some, if◌then◌else◌, IsTrue, codes, unwrap_or, ⊤}
 use Rattle.std.specs.List.{list_all}
 use Rattle.sampletime.specs.FrameRate.{is_rate}
@@ -16,34 +16,34 @@ use Rattle.adlread.specs.LineGrammar.{AreSettings, IsLineOf, SpellsLine, TellRat
 
 -- ---- the source index and the event list
 
--- a notice of this kind at a line
+-- A notice at a line.
 abbrev pub notice : ℕ → NumberedLine → Notice
 notice kind line = record { kind = kind; at = line.number }
 
--- an event, and the separators of its destination in
+-- An event, and the separators of its destination in.
 pub record SpelledEntry : Type 0 where
   pub event : Event
   pub separators : List ℕ
 
--- the event with the fades that are told
+-- The event with the fades that are given.
 abbrev pub faded : Event → (rise fall : Option ℕ) → Event
 faded event rise fall = record event {
   rise = record { length = unwrap_or rise event.rise.length };
   fall = record { length = unwrap_or fall event.fall.length };
 }
 
--- what an `(Entry)` line says, with the fades that the lines behind it tell
+-- The entry of an `(Entry)` line with the fades of the lines after it.
 abbrev pub with_fades : Event × List ℕ → (rise fall : Option ℕ) → SpelledEntry
 with_fades entry rise fall = record { event = faded entry.0 rise fall; separators = entry.1 }
 
--- the separators of the first entry's destination in, else the default ones
+-- The separators of the first entry's destination in, or the default ones.
 abbrev pub separators_of : List SpelledEntry → List ℕ
 separators_of [] = default_separators
 separators_of (entry ∷ entries) = entry.separators
 
 -- ---- sections
 
--- a section as it stands in a list, and what is told of lines in it that are passed over
+-- A section in a list, and the notices of its skipped lines.
 pub record SectionText : Type 0 where
   pub meaning : Section
   pub name : List ℕ
@@ -52,21 +52,23 @@ pub record SectionText : Type 0 where
   pub ending : NumberedLine
   pub notices : List Notice
 
--- blank lines may stand between sections
+-- A part of a list: a blank line or a section.
 pub data Block : Type 0 where
   Blank : (line : NumberedLine) → Block
   Titled : (text : SectionText) → Block
 
+-- The lines of a block.
 abbrev pub lines_of_block : Block → List NumberedLine
 lines_of_block (Blank line) = line ∷ []
 lines_of_block (Titled s) = s.opening ∷ (s.content ++ (s.ending ∷ []))
 
+-- The notices of a block.
 abbrev pub notices_of_block : Block → List Notice
 notices_of_block (Blank line) = []
 notices_of_block (Titled s) = s.notices
 
--- A section that isn't known gives notice 1; one of gains, automation, pan, mute or fades may hold blank lines alone.
--- The source index gives those of the lines that it drops.
+-- The notices of a section. A skipped section gives notice 1; one of gains, automation, pan, mute or fades may only
+-- hold blank lines. SOURCE_INDEX gives a notice for each line that it drops.
 abbrev pub IsPassedOver : Section → SectionText → Type 0
 IsPassedOver section.Version s = s.notices ≡ []
 IsPassedOver section.Project s = s.notices ≡ []
@@ -79,7 +81,7 @@ IsPassedOver section.Skipped s = s.notices ≡ notice 1 s.opening ∷ []
 IsPassedOver section.Unsupported s =
     IsTrue (list_all is_empty (texts s.content)) × (s.notices ≡ notice 1 s.opening ∷ [])
 
--- the line `<NAME>`, lines none of which is `</NAME>`, and the line `</NAME>`
+-- A section: the line `<NAME>`, lines other than `</NAME>`, and the line `</NAME>`.
 pub record IsSection (s : SectionText) : Type 0 where
   pub meant : section_of s.name ≡ s.meaning
   pub opens : opened_name (trimmed s.opening.text) ≡ Some s.name
@@ -87,7 +89,7 @@ pub record IsSection (s : SectionText) : Type 0 where
   pub ends : IsTrue (is_end s.name (trimmed s.ending.text))
   pub noticed : IsPassedOver s.meaning s
 
--- each block is a blank line or a section
+-- Blocks that are blank lines or sections.
 pub data AreBlocks : List Block → Type 0 where
   NoBlocks : AreBlocks []
   BlankBlock : (line : NumberedLine) {blocks : List Block} → IsTrue (is_empty line.text) → AreBlocks blocks
@@ -95,7 +97,7 @@ pub data AreBlocks : List Block → Type 0 where
   SectionBlock : (s : SectionText) {blocks : List Block} → IsSection s → AreBlocks blocks
       → AreBlocks (Titled s ∷ blocks)
 
--- the nine meanings of sections, told apart by a number each
+-- A number for each of the nine kinds of sections.
 abbrev pub section_rank : Section → ℕ
 section_rank section.Version = 0
 section_rank section.Project = 1
@@ -107,25 +109,25 @@ section_rank section.EventList = 6
 section_rank section.Skipped = 7
 section_rank section.Unsupported = 8
 
--- the sections of this meaning
+-- The sections of this kind.
 abbrev pub sections : Section → List Block → List SectionText
 sections meaning [] = []
 sections meaning (Blank line ∷ blocks) = sections meaning blocks
 sections meaning (Titled s ∷ blocks) =
     if section_rank s.meaning == section_rank meaning then s ∷ sections meaning blocks else sections meaning blocks
 
--- the lines that sections of this meaning keep
+-- The kept lines of the sections of this kind.
 abbrev pub kept : Section → List Block → List (List (List ℕ))
 kept meaning blocks = map (λ s. texts s.content) (sections meaning blocks)
 
--- one, or none
+-- One element, or none.
 abbrev pub one_or_none : {X : Type 0} → Option X → List X
 one_or_none None = []
 one_or_none (Some x) = x ∷ []
 
--- what a list spells at a rate of frames
+-- The text that a list spells at a frame rate.
 module _ (rate : ℕ) where
-  -- each line is blank, says a source under `(Index)`, or is dropped with notice 2
+  -- The lines of a source index: each is blank, spells a source, or is dropped with notice 2.
   pub data SpellsSources : List NumberedLine → List Source → List Notice → Type 0 where
     SourcesEnd : SpellsSources [] [] []
     BlankLine : (line : NumberedLine) {lines : List NumberedLine} {sources : List Source} {dropped : List Notice}
@@ -138,8 +140,8 @@ module _ (rate : ℕ) where
         → IsLineOf is_no_source line.text → SpellsSources lines sources dropped
         → SpellsSources (line ∷ lines) sources (notice 2 line ∷ dropped)
 
-  -- The lines behind an entry: its fades, each told once at most, and the entries that follow. Remarks and gains of zero
-  -- say nothing.
+  -- The lines after an entry: its fades, each given at most once, remarks, gains of zero, and the entries that
+  -- follow.
   pub data SpellsBehind : List NumberedLine → (rise fall : Option ℕ) → List SpelledEntry → Type 0 where
     EntriesEnd : SpellsBehind [] None None []
     RemarkBehind : (line : NumberedLine)
@@ -162,7 +164,7 @@ module _ (rate : ℕ) where
         → SpellsLine (entry_line rate) line.text entry → SpellsBehind lines rise fall entries
         → SpellsBehind (line ∷ lines) None None (with_fades entry rise fall ∷ entries)
 
-  -- remarks, and entries each with the lines behind it
+  -- The lines of an event list: remarks, and entries with the lines after them.
   pub data SpellsEntries : List NumberedLine → List SpelledEntry → Type 0 where
     NoEntries : SpellsEntries [] []
     RemarkLine : (line : NumberedLine) {lines : List NumberedLine} {entries : List SpelledEntry}
@@ -172,7 +174,7 @@ module _ (rate : ℕ) where
         → SpellsLine (entry_line rate) line.text entry → SpellsBehind lines rise fall entries
         → SpellsEntries (line ∷ lines) (with_fades entry rise fall ∷ entries)
 
-  -- the sections of the header, each at most once, its lines as they stand; SEQUENCE tells both rates
+  -- The sections of the header, each at most once and with verbatim lines. SEQUENCE gives both rates.
   pub record SpellsHeader (blocks : List Block) (header : Header) : Type 0 where
     pub version : kept section.Version blocks ≡ one_or_none header.version
     pub project : kept section.Project blocks ≡ one_or_none header.project
@@ -183,14 +185,14 @@ module _ (rate : ℕ) where
     pub settings : AreSettings rate (lines_of_section header.system)
     pub rates : TellRates rate no_rates (lines_of_section header.sequence) both_rates
 
-  -- the one source index: sources under numbers of their own
+  -- The only source index, whose sources have distinct numbers.
   pub record SpellsIndex (blocks : List Block) (sources : List Source) : Type 0 where
     pub part : SectionText
     pub once : sections section.SourceIndex blocks ≡ part ∷ []
     pub lines : SpellsSources part.content sources part.notices
     pub distinct : AreDistinct (index_numbers sources)
 
-  -- the one event list: entries under numbers of their own
+  -- The only event list, whose entries have distinct numbers.
   pub record SpellsEvents (blocks : List Block) (events : List Event) (separators : List ℕ) : Type 0 where
     pub part : SectionText
     pub entries : List SpelledEntry
@@ -200,8 +202,8 @@ module _ (rate : ℕ) where
     pub distinct : AreDistinct (entry_numbers events)
     pub separators_are : separators ≡ separators_of entries
 
-  -- The text spells the project at this rate: blank lines, the line `<ADL>`, blank lines and sections in any
-  -- order, the line `</ADL>`, and whatever follows.
+  -- The text spells the project at this frame rate: blank lines, `<ADL>`, blank lines and sections in any order,
+  -- `</ADL>`, and anything after it.
   pub record SpellsAtRate (text : List ℕ) (project : ListProject) : Type 0 where
     pub all : List (List ℕ)
     pub before : List NumberedLine
@@ -220,7 +222,7 @@ module _ (rate : ℕ) where
     pub events : SpellsEvents blocks project.events project.separators
     pub notices : project.notices ≡ flat_map notices_of_block blocks
 
--- the text spells the project at the project's own rate, 24, 25 or 30 frames a second
+-- The text spells the project at the project's own frame rate, 24, 25 or 30.
 pub record Spells (text : List ℕ) (project : ListProject) : Type 0 where
   pub rate : IsTrue (is_rate project.rate)
   pub spelled : SpellsAtRate project.rate text project

@@ -1,4 +1,4 @@
-// What was read of a list so far.
+// The state of reading a list.
 ghost use Rattle.std.specs.Prelude.{◌≡◌, ◌&&◌, ℕ, Err, IfOk, IfSome, IsTrue, MatchOption, None, Ok, OnErr, is_some, length, option_map};
 ghost use Rattle.sampletime.specs.FrameRate.{frames_per_second};
 ghost use Rattle.list_terms.specs.Text as text;
@@ -26,7 +26,7 @@ use list_terms::{Location, Notice, OpenEntry, Section, Stage};
 use sampletime::{Rate, Separators};
 use std::alloc::{AllocError, Global};
 
-/// What was read of a list so far: the stage, the name of the section that is open, and what the project has by now.
+/// The state of reading a list: the stage, the name of the open section, and the project so far.
 pub struct Draft<'a> {
     stage: Stage,
     name: &'a [u8],
@@ -38,7 +38,7 @@ pub struct Draft<'a> {
     notices: Vec<Notice>,
 }
 
-// Written out, so that it is one call where a draft is dropped.
+// Written by hand so that callers drop a draft with a single call.
 impl Drop for Draft<'_> {
     fn drop(self) {
         let Draft {
@@ -59,7 +59,7 @@ impl Drop for Draft<'_> {
 }
 
 impl<'a> Draft<'a> {
-    /// Nothing was read.
+    /// Returns the state before the first line.
     pub fn new(alloc: Global) -> Result<Self, AllocError>
         ensures { IfOk result (λ draft. context_of draft ≡ nothing_read) }
     {
@@ -77,7 +77,7 @@ impl<'a> Draft<'a> {
         })
     }
 
-    /// Whether the list was read up to `</ADL>`.
+    /// Returns whether `</ADL>` has been read.
     pub fn is_behind(&self) -> bool
         ensures { result ≡ text.is_behind self.now.stage }
     {
@@ -87,7 +87,7 @@ impl<'a> Draft<'a> {
         }
     }
 
-    /// Reads one line more, of this number.
+    /// Reads one more line, which has the given number. A fault leaves the draft unchanged.
     #[tactic(auto, unfolding(list_terms::specs::Text::with_line, crate::specs::FaultSpans::fault_span))]
     pub fn add(
         &mut self,
@@ -115,7 +115,7 @@ impl<'a> Draft<'a> {
         }
     }
 
-    /// Reads a line before the list: a blank one, or `<ADL>`.
+    /// Reads a line before the list: blank, or `<ADL>`.
     #[tactic(auto, unfolding(list_terms::specs::Text::before_list))]
     fn before_list(&mut self, line: &[u8], number: u64) -> Result<(), AdlFault>
         ensures exact { Reads (λ _. context_of self.new) result (text.before_list (context_of self.old) number (trimmed line.now)) }
@@ -133,7 +133,7 @@ impl<'a> Draft<'a> {
         Err(at_line(TextFault::SectionMismatch, number, first_in(line)))
     }
 
-    /// Reads a line between sections: a blank one, `</ADL>`, or one that opens a section.
+    /// Reads a line between sections: blank, `</ADL>`, or the opening of a section.
     #[tactic(auto, unfolding(list_terms::specs::Text::outside))]
     fn outside(&mut self, alloc: Global, line: &'a [u8], number: u64) -> Result<(), AdlFault>
         ensures exact { Reads (λ _. context_of self.new) result (text.outside (context_of self.old) number (trimmed line.now)) }
@@ -154,7 +154,7 @@ impl<'a> Draft<'a> {
         }
     }
 
-    /// Opens the section of this name, which this line says.
+    /// Opens the section that `line` names.
     #[tactic(auto, unfolding(list_terms::specs::Text::opened))]
     fn open(
         &mut self,
@@ -177,7 +177,6 @@ impl<'a> Draft<'a> {
         Ok(())
     }
 
-    /// Whether a section was opened before.
     fn is_opened(&self, section: Section) -> bool
         ensures { result ≡ text.is_opened (context_of self.now) section }
     {
@@ -194,7 +193,7 @@ impl<'a> Draft<'a> {
         }
     }
 
-    /// Notes that a section begins; one that is passed over gives notice 1.
+    /// Records that a section begins. A skipped section adds notice 1.
     fn begin(&mut self, alloc: Global, section: Section, number: u64) -> Result<(), AdlFault>
         ensures exact { Reads (λ _. context_of self.new) result
             (Ok (text.with_section (context_of self.old) number section)) }
@@ -214,7 +213,7 @@ impl<'a> Draft<'a> {
         Ok(())
     }
 
-    /// Adds a notice of this kind at a line.
+    /// Adds a notice at a line.
     fn note(&mut self, kind: u8, line: u64) -> Result<(), AdlFault>
         ensures exact { Reads (λ _. context_of self.new) result (Ok (text.with_notice (context_of self.old) kind line)) }
         ensures stays { OnErr result (context_of self.new ≡ context_of self.old) }
@@ -252,7 +251,7 @@ impl<'a> Draft<'a> {
         }
     }
 
-    /// Reads a line of the header, which is kept as it stands.
+    /// Reads a header line, which is kept verbatim.
     #[tactic(auto, unfolding(list_terms::specs::Text::in_header))]
     fn in_header(
         &mut self,
@@ -275,7 +274,7 @@ impl<'a> Draft<'a> {
         }
     }
 
-    /// Reads a line of the source index.
+    /// Reads a line of SOURCE_INDEX.
     #[tactic(auto, unfolding(list_terms::specs::Text::in_source_index, crate::specs::FaultSpans::index_line_span))]
     fn in_source_index(
         &mut self,
@@ -304,7 +303,7 @@ impl<'a> Draft<'a> {
         }
     }
 
-    /// Reads an `(Index)` line, behind this keyword.
+    /// Reads an `(Index)` line after its keyword.
     #[tactic(auto, unfolding(list_terms::specs::Text::index_line, crate::specs::FaultSpans::form_span))]
     fn index_line(
         &mut self,
@@ -334,7 +333,7 @@ impl<'a> Draft<'a> {
         }
     }
 
-    /// Drops another line of the source index, with notice 2.
+    /// Drops any other line of SOURCE_INDEX, with notice 2.
     #[tactic(auto, unfolding(list_terms::specs::Text::dropped_line))]
     fn dropped_line(&mut self, tokens: &mut Tokens<'_>, line: u64) -> Result<(), AdlFault>
         ensures exact { Reads (λ _. context_of self.new) result
@@ -346,7 +345,7 @@ impl<'a> Draft<'a> {
         self.note(2, line)
     }
 
-    /// Reads a line of the event list.
+    /// Reads a line of EVENT_LIST.
     #[tactic(auto, unfolding(list_terms::specs::Text::in_event_list, crate::specs::FaultSpans::event_line_span))]
     fn in_event_list(&mut self, line: &[u8], number: u64, rate: Rate) -> Result<(), AdlFault>
         ensures exact { Reads (λ _. context_of self.new) result
@@ -370,7 +369,7 @@ impl<'a> Draft<'a> {
         }
     }
 
-    /// Reads an `(Entry)` line, behind this keyword.
+    /// Reads an `(Entry)` line after its keyword.
     #[tactic(auto, unfolding(list_terms::specs::Text::entry_line, crate::specs::FaultSpans::form_span))]
     fn entry_line(&mut self, tokens: &mut Tokens<'_>, line: u64, rate: Rate) -> Result<(), AdlFault>
         ensures exact { Reads (λ _. context_of self.new) result
@@ -394,7 +393,8 @@ impl<'a> Draft<'a> {
         }
     }
 
-    /// The project, behind `</ADL>`: three sections have to be there, and both rates.
+    /// Returns the project at the line `</ADL>`. Returns a fault if a required section or a rate is missing, or if
+    /// out of memory.
     pub fn finish(self, line: &[u8], number: u64, rate: Rate) -> Result<Project, AdlFault>
         requires { IsSoFar (frames_per_second rate) (context_of self) }
         ensures exact { Reads (λ project. project) result
@@ -408,7 +408,8 @@ impl<'a> Draft<'a> {
         self.project(rate)
     }
 
-    /// The fault of a list that ends at this line and lacks a section or a rate; `None` where it lacks none.
+    /// Returns the fault of a list that ends at this line without a required section or rate, or `None` if nothing
+    /// is missing.
     pub fn missing(&self, line: &[u8], number: u64) -> Option<AdlFault>
         ensures exact { (rate : ℕ) → option_map refusal result ≡ refused (text.finished rate (context_of self.now) number) }
         ensures span { IfSome result (λ fault. IsAt {X = Unit {0}} (first_of_line line.now) (Err fault)) }
@@ -419,7 +420,7 @@ impl<'a> Draft<'a> {
         }
     }
 
-    /// What a list lacks that ends here: a section, or a rate.
+    /// Returns the fault of a list that ends here without a required section or rate.
     #[tactic(auto, unfolding(list_terms::specs::Text::finished))]
     fn lacks(&self) -> Option<TextFault>
         ensures fault { (rate number : ℕ) → MatchOption result
@@ -439,14 +440,14 @@ impl<'a> Draft<'a> {
         }
     }
 
-    /// Whether SEQUENCE, SOURCE_INDEX and EVENT_LIST were there.
+    /// Returns whether SEQUENCE, SOURCE_INDEX and EVENT_LIST have been opened.
     fn has_sections(&self) -> bool
         ensures { result ≡ (is_some self.now.header.lines.sequence && self.now.has_index && self.now.has_events) }
     {
         self.header.lines.sequence.is_some() && self.has_index && self.has_events
     }
 
-    /// The project of all that was read, where both rates were told.
+    /// Builds the project. Both rates must have been given.
     fn project(self, rate: Rate) -> Result<Project, AdlFault>
         requires whole { IsSoFar (frames_per_second rate) (context_of self) }
         requires rates { IsTrue (self.header.rates.sample_rate && self.header.rates.frame_rate) }
@@ -481,7 +482,7 @@ impl<'a> Draft<'a> {
     }
 }
 
-/// Reads a line of a section that may hold blank lines alone.
+/// Reads a line of a section that may only hold blank lines.
 #[tactic(auto, unfolding(list_terms::specs::Text::in_unsupported))]
 fn in_unsupported(line: &[u8], number: u64) -> Result<(), AdlFault>
     ensures exact { (c : text.Context) → Reads (λ _. c) result (text.in_unsupported c number line.now) }
@@ -494,7 +495,7 @@ fn in_unsupported(line: &[u8], number: u64) -> Result<(), AdlFault>
     }
 }
 
-/// Where a line of the event list stands that isn't an `(Entry)` line.
+/// Returns the location of a line of EVENT_LIST that isn't an `(Entry)` line.
 fn location_in(line: u64, entry: Option<OpenEntry>) -> Location
     ensures { result ≡ text.location_in line entry }
 {

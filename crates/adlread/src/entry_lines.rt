@@ -1,4 +1,4 @@
-// What the lines of the source index, of the event list and of the two sections of settings say.
+// The lines of SOURCE_INDEX, EVENT_LIST, SEQUENCE and SYSTEM.
 ghost use Rattle.std.specs.Prelude.{◌≡◌, ◌==◌, ◌≤◌, ◌-◌, IfOk, IsTrue, OnErr, codes, false, is_some, length, option_map, unwrap_or};
 ghost use Rattle.list_terms.specs.Steps.{ok_map};
 ghost use Rattle.list_terms.specs.Fields.{is_missing, is_zero, told_rate};
@@ -27,7 +27,7 @@ use list_terms::{OpenEntry, Rates};
 use sampletime::{Rate, SampleTime, Separators, parse_time};
 use std::alloc::Global;
 
-/// Reads `(F)`, URL, identifier, in and length, behind the number of an index.
+/// Reads the fields of a source: `(F)`, URL, identifier, in and length.
 #[tactic(auto, unfolding(list_terms::specs::Forms::reads, crate::specs::FaultSpans::form_span, list_terms::specs::Fields::end_line))]
 pub fn source_fields(
     alloc: Global,
@@ -68,7 +68,7 @@ fn url_field<'a>(alloc: Global, tokens: &mut Tokens<'a>) -> Result<&'a [u8], Lin
     }
 }
 
-/// Reads `(Cut) I`, index, channels and times, behind the number of an entry: the event, and the separators of its
+/// Reads the fields of an entry: `(Cut) I`, index, channels and times. Returns the event and the separators of its
 /// destination in.
 #[tactic(auto, unfolding(list_terms::specs::Forms::reads, crate::specs::FaultSpans::form_span, list_terms::specs::Fields::end_line))]
 pub fn event_fields(
@@ -108,7 +108,7 @@ pub fn event_fields(
     Ok((event, separators))
 }
 
-/// Whether two runs have as many channels.
+/// Returns whether two runs have the same number of channels.
 fn has_width(source: Channels, dest: Channels) -> bool
     ensures { result ≡ spec.has_width source dest }
 {
@@ -119,7 +119,7 @@ const NO_FADE: Fade = Fade {
     length: SampleTime::ZERO,
 };
 
-/// Reads `I`, the only kind of cut that is supported.
+/// Reads `I`, the only supported kind of cut.
 #[tactic(auto, unfolding(list_terms::specs::Forms::value_at))]
 fn cut_field(tokens: &mut Tokens<'_>) -> Result<(), TextFault>
     ensures exact { ok_map (λ _. (tt, tokens.new.rest.now)) result
@@ -134,7 +134,7 @@ fn cut_field(tokens: &mut Tokens<'_>) -> Result<(), TextFault>
     }
 }
 
-/// Reads the length of a fade, and its curve where it is longer than zero: linear alone.
+/// Reads the length of a fade, and its curve if the fade is longer than zero.
 #[tactic(auto, unfolding(list_terms::specs::Forms::reads, crate::specs::FaultSpans::form_span, list_terms::specs::Fields::end_line))]
 fn fade_fields(tokens: &mut Tokens<'_>, rate: Rate) -> Result<SampleTime, TextFault>
     ensures value { result ≡ reads (spec.fade_fields (frames_per_second rate)) tokens.old.rest.now }
@@ -150,7 +150,7 @@ fn fade_fields(tokens: &mut Tokens<'_>, rate: Rate) -> Result<SampleTime, TextFa
     Ok(length)
 }
 
-/// Reads `LIN`, the only curve that is supported.
+/// Reads `LIN`, the only supported curve.
 #[tactic(auto, unfolding(list_terms::specs::Forms::value_at))]
 fn linear_field(tokens: &mut Tokens<'_>) -> Result<(), TextFault>
     ensures exact { ok_map (λ _. (tt, tokens.new.rest.now)) result
@@ -165,7 +165,7 @@ fn linear_field(tokens: &mut Tokens<'_>) -> Result<(), TextFault>
     }
 }
 
-/// The entry with what a line behind its own says: a fade, a remark, or a gain of zero.
+/// Reads a line of an entry (a fade, a remark, or a gain of zero) and returns the entry with it.
 #[tactic(auto, unfolding(list_terms::specs::EntryLines::entry_with, list_terms::specs::Forms::reads, crate::specs::FaultSpans::form_span, list_terms::specs::Fields::end_line))]
 pub fn entry_with(
     entry: OpenEntry,
@@ -195,7 +195,7 @@ pub fn entry_with(
     }
 }
 
-/// The entry with its fade-in.
+/// Reads a fade-in.
 #[tactic(auto, using(list_terms::specs::FormLaws::reads_mapped, crate::proofs::SpanLaws::span_mapped), unfolding(list_terms::specs::Forms::reads, crate::specs::FaultSpans::form_span))]
 fn with_rise(entry: OpenEntry, tokens: &mut Tokens<'_>, rate: Rate) -> Result<OpenEntry, TextFault>
     ensures value { result ≡ reads (spec.told_rise (frames_per_second rate) entry) tokens.old.rest.now }
@@ -214,7 +214,7 @@ fn with_rise(entry: OpenEntry, tokens: &mut Tokens<'_>, rate: Rate) -> Result<Op
     Ok(entry)
 }
 
-/// The entry with its fade-out.
+/// Reads a fade-out.
 #[tactic(auto, using(list_terms::specs::FormLaws::reads_mapped, crate::proofs::SpanLaws::span_mapped), unfolding(list_terms::specs::Forms::reads, crate::specs::FaultSpans::form_span))]
 fn with_fall(entry: OpenEntry, tokens: &mut Tokens<'_>, rate: Rate) -> Result<OpenEntry, TextFault>
     ensures value { result ≡ reads (spec.told_fall (frames_per_second rate) entry) tokens.old.rest.now }
@@ -233,7 +233,7 @@ fn with_fall(entry: OpenEntry, tokens: &mut Tokens<'_>, rate: Rate) -> Result<Op
     Ok(entry)
 }
 
-/// Reads a line before the first entry, which has to be a remark.
+/// Reads a line before the first entry, which must be a remark.
 #[tactic(auto, unfolding(list_terms::specs::EntryLines::remark, list_terms::specs::Forms::reads, crate::specs::FaultSpans::form_span, list_terms::specs::Fields::end_line))]
 pub fn remark(token: &Token<'_>, tokens: &mut Tokens<'_>) -> Result<(), TextFault>
     ensures exact { ok_map (λ _. tt) result ≡ reads (spec.remark (token_view token.now)) tokens.old.rest.now }
@@ -246,7 +246,7 @@ pub fn remark(token: &Token<'_>, tokens: &mut Tokens<'_>) -> Result<(), TextFaul
     }
 }
 
-/// Which rates SEQUENCE told, with what one more line says. Lines that tell none aren't interpreted.
+/// Reads a line of SEQUENCE and returns the rates given so far. Lines without a rate aren't interpreted.
 #[tactic(auto, unfolding(list_terms::specs::EntryLines::sequence_line, list_terms::specs::Forms::reads_line, crate::specs::FaultSpans::line_span, list_terms::specs::Forms::reads, crate::specs::FaultSpans::form_span, list_terms::specs::Fields::end_line))]
 pub fn sequence_line(rates: Rates, tokens: &mut Tokens<'_>, rate: Rate) -> Result<Rates, TextFault>
     ensures exact { result ≡ spec.sequence_line (frames_per_second rate) rates tokens.old.rest.now }
@@ -283,7 +283,7 @@ fn sample_rate_field(tokens: &mut Tokens<'_>) -> Result<(), TextFault>
     }
 }
 
-/// Reads the rate of frames that the list has.
+/// Reads the frame rate, which must be the list's.
 #[tactic(auto, unfolding(list_terms::specs::Forms::value_at))]
 fn frame_rate_field(tokens: &mut Tokens<'_>, rate: Rate) -> Result<(), TextFault>
     ensures exact { ok_map (λ _. (tt, tokens.new.rest.now)) result
@@ -298,7 +298,7 @@ fn frame_rate_field(tokens: &mut Tokens<'_>, rate: Rate) -> Result<(), TextFault
     }
 }
 
-/// Whether a text tells this rate of frames.
+/// Returns whether a text is the given frame rate.
 fn tells_rate(text: &[u8], rate: Rate) -> bool
     ensures { result
         ≡ unwrap_or (option_map (λ stated. stated == frames_per_second rate) (told_rate text.now)) false }
@@ -309,7 +309,7 @@ fn tells_rate(text: &[u8], rate: Rate) -> bool
     }
 }
 
-/// Reads a line of SYSTEM: no offset of the sources and no gain may be told. Other lines aren't interpreted.
+/// Reads a line of SYSTEM, which must not set a source offset or a gain. Other lines aren't interpreted.
 #[tactic(auto, unfolding(list_terms::specs::EntryLines::system_line, list_terms::specs::Forms::reads_line, crate::specs::FaultSpans::line_span, list_terms::specs::Forms::reads, crate::specs::FaultSpans::form_span, list_terms::specs::Fields::end_line))]
 pub fn system_line(tokens: &mut Tokens<'_>, rate: Rate) -> Result<(), TextFault>
     ensures exact { ok_map (λ _. tt) result ≡ spec.system_line (frames_per_second rate) tokens.old.rest.now }
@@ -328,7 +328,7 @@ pub fn system_line(tokens: &mut Tokens<'_>, rate: Rate) -> Result<(), TextFault>
     }
 }
 
-/// Reads nothing, `_`, or a time of zero.
+/// Reads an optional offset, which must be `_` or a time of zero.
 #[tactic(auto, unfolding(list_terms::specs::Forms::reads, crate::specs::FaultSpans::form_span))]
 fn offset_setting(tokens: &mut Tokens<'_>, rate: Rate) -> Result<(), TextFault>
     ensures exact { ok_map (λ _. tt {0}) result
@@ -346,7 +346,7 @@ fn offset_setting(tokens: &mut Tokens<'_>, rate: Rate) -> Result<(), TextFault>
     }
 }
 
-/// Reads nothing, or a zero.
+/// Reads an optional gain, which must be zero.
 #[tactic(auto, unfolding(list_terms::specs::Forms::reads, crate::specs::FaultSpans::form_span))]
 fn gain_setting(tokens: &mut Tokens<'_>) -> Result<(), TextFault>
     ensures exact { ok_map (λ _. tt {0}) result
@@ -364,7 +364,7 @@ fn gain_setting(tokens: &mut Tokens<'_>) -> Result<(), TextFault>
     }
 }
 
-/// Whether a text is `_` or a time of zero.
+/// Returns whether a text is `_` or a time of zero.
 fn is_no_offset(text: &[u8], rate: Rate) -> bool
     ensures { result ≡ spec.is_no_offset (frames_per_second rate) text.now }
 {

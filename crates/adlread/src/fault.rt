@@ -1,4 +1,4 @@
-// Why a list isn't read.
+// Errors of reading a list.
 ghost use Rattle.std.specs.Prelude.{◌≡◌, ◌≤◌, ◌+◌, Ok, Err, MatchResult, length};
 ghost use Rattle.list_terms.specs.declared.Location.TheVariants as location;
 ghost use Rattle.adltoken.specs.Spans.{first_span};
@@ -13,25 +13,27 @@ use list_terms::{Location, TextFault};
 use std::alloc::{AllocError, AllocFailed};
 use thiserror::Error;
 
-/// Why the text of a list isn't read as a project.
+/// The reason why a text isn't a project.
 #[derive(Clone, Copy, Debug, PartialEq, Eq, Error)]
 pub enum AdlFault {
-    /// 1 to 17: what is wrong with the text, at which line, and what stood there in the line: the token that the fault
-    /// is about, the first one where it is about the whole line, all that follows where no token can be cut, or nothing
-    /// at the line's end where a token is missing. A byte order mark in front of the list is no part of its first line.
+    /// 1 to 17: a fault of the text, its location, and its byte range in the line.
+    ///
+    /// The range is the faulty token, or the first token if the whole line is faulty. If no token can be cut, it
+    /// extends to the end of the line; if a token is missing, it is empty and at the end of the line. A byte order
+    /// mark before the list doesn't count as part of the first line.
     #[error("the text of the list is at fault")]
     Text {
         fault: TextFault,
         location: Location,
         stood: Span,
     },
-    /// 18: there was no memory.
+    /// 18: out of memory.
     #[error("out of memory")]
     Memory,
 }
 
 impl AdlFault {
-    /// The number of the refusal, 1 to 18.
+    /// Returns the refusal number, 1 to 18.
     pub fn number(&self) -> u8
         ensures { result ≡ (refusal self.now).number }
     {
@@ -41,7 +43,7 @@ impl AdlFault {
         }
     }
 
-    /// The line that is at fault, counted from 1; 0 where there was no memory.
+    /// Returns the faulty line, counted from 1, or 0 if out of memory.
     pub fn line(&self) -> u64
         ensures { result ≡ line_of self.now }
     {
@@ -51,7 +53,7 @@ impl AdlFault {
         }
     }
 
-    /// The number of the entry that the line is about, where it is about one.
+    /// Returns the number of the entry that the faulty line belongs to, if any.
     pub fn entry(&self) -> Option<u32>
         ensures { result ≡ entry_of self.now }
     {
@@ -64,7 +66,7 @@ impl AdlFault {
         }
     }
 
-    /// The number of the index that the line is about, where it is about one.
+    /// Returns the number of the index that the faulty line defines, if known.
     pub fn index(&self) -> Option<u32>
         ensures { result ≡ index_of self.now }
     {
@@ -87,7 +89,7 @@ fn line_of_location(location: Location) -> u64
     }
 }
 
-/// What a line can't be read for, before it is said where it stands.
+/// A fault of a line, before its location is attached.
 #[derive(Clone, Copy, Debug)]
 pub enum LineFault {
     Text(TextFault),
@@ -95,7 +97,7 @@ pub enum LineFault {
 }
 
 impl LineFault {
-    /// The fault, at this place, where this stood.
+    /// Attaches the location and the byte range.
     pub fn at(self, location: Location, stood: Span) -> AdlFault
         ensures { result ≡ spec.located location stood self }
     {
@@ -110,7 +112,7 @@ impl LineFault {
     }
 }
 
-/// What a line says, with the place of its fault, where this stood.
+/// Attaches a location and a byte range to a fault.
 pub fn located<T>(
     said: Result<T, TextFault>,
     location: Location,
@@ -128,7 +130,7 @@ pub fn located<T>(
     }
 }
 
-/// A fault at the line of this number, where this stood.
+/// Returns a fault in the line with this number.
 pub fn at_line(fault: TextFault, number: u64, stood: Span) -> AdlFault
     ensures { result ≡ Text fault (location.Line number) stood }
 {
@@ -139,7 +141,7 @@ pub fn at_line(fault: TextFault, number: u64, stood: Span) -> AdlFault
     }
 }
 
-/// What stands first in a line.
+/// Returns the byte range of a line's first token.
 #[tactic(auto, using(crate::proofs::SpanLaws::span_of_line))]
 pub fn first_in(line: &[u8]) -> Span
     ensures first { result ≡ first_span 0 line.now }

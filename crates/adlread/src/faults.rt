@@ -1,4 +1,4 @@
-// The further faults of the text of a list, behind its first one.
+// Further faults of a text, after its first one.
 ghost use Rattle.std.specs.Prelude.{◌≡◌, ◌+◌, ◌∷◌, ◌||◌, ℕ, Bool, Err, IfOk, IfSome, List, false, true};
 ghost use Rattle.sampletime.specs.FrameRate.{frames_per_second};
 ghost use Rattle.work_terms.specs.Refusals.{Refusal};
@@ -20,29 +20,31 @@ use list_terms::{Location, TextFault};
 use sampletime::Rate;
 use std::alloc::{AllocError, Global};
 
-/// The faults of the text of a list behind its first one, in one reading of it: each is the first one of the text in
-/// which the lines at fault before it are emptied, and with the line of an entry those of the entry. Times are read at
-/// the rate that the list has where lines that can't stand where they stand are left out. They end behind a fault of a
-/// section, of the header or of a rate, since what stands behind that can't be judged.
+/// An iteration over the faults of a text after the first one.
+///
+/// Each of them is the first fault that would be found if the faulty lines before it were empty; if one of these is
+/// an `(Entry)` line, the lines of its entry are treated as empty too. Times are read at the frame rate that the
+/// list has without misplaced lines (lines that aren't allowed in their place). The iteration stops after a fault
+/// of a section, the header or a rate, because later lines can't be judged without it.
 #[derive(Drop)]
 pub struct Faults<'a> {
     draft: Draft<'a>,
     lines: Lines<'a>,
-    /// The line that was read last.
+    /// The last line read.
     last: &'a [u8],
-    /// The line of the first fault.
+    /// The number of the line with the first fault.
     first: u64,
     rate: Rate,
-    /// The lines that are read belong to an entry whose own line is at fault.
+    /// Whether the current lines belong to an entry whose `(Entry)` line is faulty.
     is_in_faulty_entry: bool,
     is_over: bool,
-    /// The faults ended although there may be more.
+    /// Whether the iteration stopped although there may be more faults.
     is_cut_short: bool,
 }
 
 impl<'a> Faults<'a> {
-    /// The faults of this text behind this one, which [`crate::read`] gave as its first. Where it ends them no line is
-    /// read.
+    /// Starts after the first fault of the text, as returned by [`crate::read`]. If later lines can't be judged,
+    /// the iteration is over at once. Returns `AllocError` if out of memory.
     pub fn after(alloc: Global, text: &'a [u8], first: AdlFault) -> Result<Self, AllocError>
         ensures further { IfOk result (λ faults. (rest : List Refusal) × (complete : Bool)
             × AreFurther text.now first rest complete × IsLeft faults rest complete) }
@@ -66,7 +68,7 @@ impl<'a> Faults<'a> {
         })
     }
 
-    /// They end here, although there may be more.
+    /// Stops the iteration, although there may be more faults.
     fn cut_short(&mut self)
         ensures over { self.new.is_over ≡ true }
         ensures cut { self.new.is_cut_short ≡ true }
@@ -76,15 +78,15 @@ impl<'a> Faults<'a> {
         self.is_cut_short = true;
     }
 
-    /// Whether they have ended although there may be more than were given: behind a fault of a section, of the header or
-    /// of a rate, and for want of memory.
+    /// Returns whether the iteration stopped although there may be more faults: after a fault of a section, the
+    /// header or a rate, or if out of memory.
     pub fn is_cut_short(&self) -> bool
         ensures { result ≡ self.now.is_cut_short }
     {
         self.is_cut_short
     }
 
-    /// The next fault; `None` behind the last one, and where no memory was left.
+    /// Returns the next fault, or `None` after the last one or if out of memory.
     pub fn next_fault(&mut self, alloc: Global) -> Option<AdlFault>
         ensures further { (faults : List Refusal) (complete : Bool) → IsLeft self.old faults complete
             → IsNext result faults complete self.new }
@@ -104,7 +106,8 @@ impl<'a> Faults<'a> {
         Some(at_line(TextFault::SectionMismatch, number, first_in(self.last)))
     }
 
-    /// Reads what is left of the line that was taken last. With `</ADL>` the list is over, and what it lacks is told.
+    /// Reads a line and returns its fault, if any. At `</ADL>` the iteration is over, and the fault is a missing
+    /// section or rate.
     fn fault_of(&mut self, alloc: Global, line: &'a [u8]) -> Option<AdlFault>
         ensures next { (before : ℕ) (further : List Refusal) (complete : Bool) → self.old.is_over ≡ false
             → before + 1 ≡ self.old.lines.number
@@ -127,7 +130,8 @@ impl<'a> Faults<'a> {
         missing
     }
 
-    /// Passes over a line that is at fault, if it is one that can be emptied, and gives its fault.
+    /// Handles a faulty line: treats it as empty, or stops the iteration if later lines can't be judged without it.
+    /// Returns the fault.
     fn passed(
         &mut self,
         alloc: Global,
@@ -150,14 +154,14 @@ impl<'a> Faults<'a> {
         }
         self.is_in_faulty_entry |= opens_entry(line);
         if let Err(_) = self.draft.add(alloc, &[], number, self.rate) {
-            // An empty line is never at fault here, so no memory was left.
+            // An empty line is never faulty here, so this is out of memory.
             self.cut_short();
         }
         Some(fault)
     }
 }
 
-/// What is left of a line: nothing of that of the first fault, nor of the lines of an entry at fault.
+/// Returns the line, or an empty line if it has the first fault or belongs to a faulty entry.
 fn left_of<'a>(line: &'a [u8], number: u64, first: u64, is_in_faulty_entry: &mut bool) -> &'a [u8]
     ensures { (before : ℕ) (lines : List (List ℕ)) → before + 1 ≡ number
         → left first is_in_faulty_entry.old before (line.now ∷ lines)
@@ -171,8 +175,8 @@ fn left_of<'a>(line: &'a [u8], number: u64, first: u64, is_in_faulty_entry: &mut
     if *is_in_faulty_entry { &[] } else { line }
 }
 
-/// The rate of frames of a list of which lines may be at fault: as [`crate::rate_of`] says it of the list without those
-/// that can't stand where they stand.
+/// Returns the frame rate of a list with faulty lines: the rate [`crate::rate_of`] returns for the list without
+/// misplaced lines.
 #[tactic(auto, unfolding(crate::specs::Further::rate_beside))]
 fn rate_beside_faults(text: &[u8]) -> Rate
     ensures { frames_per_second result ≡ rate_beside nothing_passed (lines_of text.now) }
@@ -190,7 +194,7 @@ fn rate_beside_faults(text: &[u8]) -> Rate
     UNTOLD
 }
 
-/// The fault, unless no memory was left.
+/// Returns the fault, or `None` if out of memory.
 fn unless_memory(fault: AdlFault) -> Option<AdlFault>
     ensures { IfSome result (λ told. (told ≡ fault) × (fault ≡ Memory → ⊥)) }
 {
@@ -200,7 +204,7 @@ fn unless_memory(fault: AdlFault) -> Option<AdlFault>
     }
 }
 
-/// Whether what stands behind the line at fault can be judged without that line.
+/// Returns whether later lines can be judged without the faulty line.
 fn is_of_its_own(fault: AdlFault) -> bool
     ensures { result ≡ is_of_one_line fault }
 {
@@ -218,8 +222,8 @@ fn is_of_its_own(fault: AdlFault) -> bool
     }
 }
 
-/// Whether the fault is one of a line alone where it names neither an entry nor an index: what can't be honoured, a
-/// line of no entry, and a line of an entry or an index whose own number is bad.
+/// Returns whether a fault without an entry or index number concerns only its line: something unsupported, a line
+/// before the first entry, or a bad entry or index number.
 fn is_of_any_line(fault: TextFault) -> bool
     ensures { result ≡ spec.is_of_any_line fault }
 {
@@ -229,7 +233,7 @@ fn is_of_any_line(fault: TextFault) -> bool
     }
 }
 
-/// Whether the fault is one of a line alone, and not of its section.
+/// Returns whether a fault concerns only its line, not a section, the header or a rate.
 fn is_of_a_line(fault: TextFault) -> bool
     ensures { result ≡ spec.is_of_a_line fault }
 {
@@ -244,14 +248,14 @@ fn is_of_a_line(fault: TextFault) -> bool
     }
 }
 
-/// Whether no line from this one on belongs to the entry before it.
+/// Returns whether the line ends the entry before it.
 fn ends_entry(line: &[u8]) -> bool
     ensures { result ≡ (text.is_tag line.now || spec.opens_entry line.now) }
 {
     is_tag(line) || opens_entry(line)
 }
 
-/// Whether the line is that of an entry.
+/// Returns whether the line is an `(Entry)` line.
 fn opens_entry(line: &[u8]) -> bool
     ensures { result ≡ spec.opens_entry line.now }
 {

@@ -1,4 +1,4 @@
-// The fields of a line.
+// Fields of lines.
 ghost use Rattle.std.specs.Prelude.{◌≡◌, ◌≤◌, [], IfOk, IsTrue, OnErr, length, option_map, unwrap_or};
 ghost use Rattle.std.specs.List.{list_all};
 ghost use Rattle.list_terms.specs.Steps.{ok_map};
@@ -19,7 +19,7 @@ use adlmodel::Channels;
 use adltoken::{TextFault, Token, Tokens, behind_byte, length_before};
 use sampletime::{Rate, SampleTime, Separators, parse_time};
 
-/// The next token, which has to be there.
+/// Reads the next token, which is required.
 #[tactic(auto, unfolding(list_terms::specs::Fields::field))]
 pub fn field<'a>(tokens: &mut Tokens<'a>) -> Result<Token<'a>, TextFault>
     ensures exact { ok_map (λ token. (token_view token, tokens.new.rest.now)) result ≡ spec.field tokens.old.rest.now }
@@ -32,7 +32,7 @@ pub fn field<'a>(tokens: &mut Tokens<'a>) -> Result<Token<'a>, TextFault>
     }
 }
 
-/// The next token, which has to be the keyword of this name.
+/// Reads the keyword with the given name.
 #[tactic(auto, unfolding(list_terms::specs::Forms::value_at))]
 pub fn keyword_field(name: &[u8], tokens: &mut Tokens<'_>) -> Result<(), TextFault>
     ensures exact { ok_map (λ _. (tt, tokens.new.rest.now)) result ≡ value_at (keyword name.now) tokens.old.rest.now }
@@ -46,7 +46,7 @@ pub fn keyword_field(name: &[u8], tokens: &mut Tokens<'_>) -> Result<(), TextFau
     }
 }
 
-/// A number from 1 to 32767.
+/// Reads a number from 1 to 32767.
 #[tactic(auto, unfolding(list_terms::specs::Forms::value_at))]
 pub fn number_field(tokens: &mut Tokens<'_>) -> Result<u32, TextFault>
     ensures exact { ok_map (λ number. (number, tokens.new.rest.now)) result ≡ value_at form.Number tokens.old.rest.now }
@@ -57,7 +57,7 @@ pub fn number_field(tokens: &mut Tokens<'_>) -> Result<u32, TextFault>
     number_up_to(32_767, token.content).ok_or(TextFault::BadNumber)
 }
 
-/// A run of channels.
+/// Reads a run of channels.
 #[tactic(auto, unfolding(list_terms::specs::Forms::value_at))]
 pub fn channels_field(tokens: &mut Tokens<'_>) -> Result<Channels, TextFault>
     ensures exact { ok_map (λ channels. (channels, tokens.new.rest.now)) result
@@ -69,7 +69,7 @@ pub fn channels_field(tokens: &mut Tokens<'_>) -> Result<Channels, TextFault>
     channels_of(token.content).ok_or(TextFault::BadChannels)
 }
 
-/// A time and its separators.
+/// Reads a time and its separators.
 #[tactic(auto, unfolding(list_terms::specs::Forms::value_at))]
 pub fn time_field(
     tokens: &mut Tokens<'_>,
@@ -84,7 +84,7 @@ pub fn time_field(
     parse_time(token.content, rate).ok_or(TextFault::BadTime)
 }
 
-/// A time, or `_` where none is told.
+/// Reads a time, or `_` for none.
 #[tactic(auto, unfolding(list_terms::specs::Forms::value_at))]
 pub fn optional_time_field(
     tokens: &mut Tokens<'_>,
@@ -99,7 +99,7 @@ pub fn optional_time_field(
     optional_time(token.content, rate)
 }
 
-/// A time, or nothing where the text is `_`.
+/// Parses a time, or `_` for none.
 #[tactic(auto, unfolding(list_terms::specs::Fields::optional_time))]
 fn optional_time(text: &[u8], rate: Rate) -> Result<Option<SampleTime>, TextFault>
     ensures exact { result ≡ spec.optional_time (frames_per_second rate) text.now }
@@ -114,7 +114,7 @@ fn optional_time(text: &[u8], rate: Rate) -> Result<Option<SampleTime>, TextFaul
     }
 }
 
-/// An identifier, as it stands.
+/// Reads an identifier, which is any token, verbatim.
 #[tactic(auto, unfolding(list_terms::specs::Forms::value_at))]
 pub fn identifier_field<'a>(tokens: &mut Tokens<'a>) -> Result<&'a [u8], TextFault>
     ensures exact { ok_map (λ text. (text.now, tokens.new.rest.now)) result ≡ value_at form.Identifier tokens.old.rest.now }
@@ -124,7 +124,7 @@ pub fn identifier_field<'a>(tokens: &mut Tokens<'a>) -> Result<&'a [u8], TextFau
     Ok(token.text)
 }
 
-/// Cuts what is left of a line into tokens.
+/// Reads the tokens up to the end of the line.
 #[tactic(auto, unfolding(list_terms::specs::Fields::end_line, list_terms::specs::Tokens::all_tokens, crate::specs::FaultSpans::end_span))]
 pub fn end_line(tokens: &mut Tokens<'_>) -> Result<(), TextFault>
     ensures exact { ok_map (λ _. tt) result ≡ spec.end_line tokens.old.rest.now }
@@ -134,7 +134,7 @@ pub fn end_line(tokens: &mut Tokens<'_>) -> Result<(), TextFault>
     Ok(())
 }
 
-/// Cuts what is left of a line into tokens, each of which has to be a zero.
+/// Reads the tokens up to the end of the line, which must be zeros.
 #[tactic(auto, unfolding(list_terms::specs::Tokens::all_tokens, crate::specs::FaultSpans::end_span))]
 pub fn end_with_zeros(tokens: &mut Tokens<'_>) -> Result<(), TextFault>
     ensures exact { ok_map (λ _. tt) result ≡ all_tokens (λ t.
@@ -149,14 +149,14 @@ pub fn end_with_zeros(tokens: &mut Tokens<'_>) -> Result<(), TextFault>
     Ok(())
 }
 
-/// Whether a text is `_`, which stands for nothing.
+/// Returns whether a text is `_`, the mark of a missing value.
 pub fn is_missing(text: &[u8]) -> bool
     ensures { result ≡ spec.is_missing text.now }
 {
     text == b"_".as_slice()
 }
 
-/// Whether a text is `_`, or zeros with or without a sign and a full stop.
+/// Returns whether a text is `_` or a zero, with or without a sign and decimals.
 #[tactic(auto, unfolding(list_terms::specs::Fields::is_zero))]
 pub fn is_zero(text: &[u8]) -> bool
     ensures { result ≡ spec.is_zero text.now }
@@ -164,7 +164,6 @@ pub fn is_zero(text: &[u8]) -> bool
     is_missing(text) || is_plain_zero(without_sign(text))
 }
 
-/// The text behind a sign.
 fn without_sign(text: &[u8]) -> &[u8]
     ensures { result.now ≡ spec.without_sign text.now }
 {
@@ -174,7 +173,7 @@ fn without_sign(text: &[u8]) -> &[u8]
     }
 }
 
-/// Whether a text is one or more zeros, and further ones behind a full stop.
+/// Returns whether a text is one or more zeros, perhaps with a full stop and more zeros after it.
 fn is_plain_zero(text: &[u8]) -> bool
     ensures { result ≡ spec.is_plain_zero text.now }
 {
@@ -182,7 +181,7 @@ fn is_plain_zero(text: &[u8]) -> bool
     !whole.is_empty() && are_zeros(whole) && zeros_behind_stop(text)
 }
 
-/// Whether a text is this number, and `.` with zeros or nothing behind it.
+/// Returns whether a text is the given number, perhaps with a full stop and zeros after it.
 #[tactic(auto, unfolding(list_terms::specs::Fields::is_whole_number))]
 fn is_whole_number(number: &[u8], text: &[u8]) -> bool
     ensures { result ≡ spec.is_whole_number number.now text.now }
@@ -191,7 +190,7 @@ fn is_whole_number(number: &[u8], text: &[u8]) -> bool
     whole == number && zeros_behind_stop(text)
 }
 
-/// The rate of frames that a text tells: `24`, `25` or `30`, and `.` with zeros or nothing behind it.
+/// Parses a frame rate: `24`, `25` or `30`, perhaps with a full stop and zeros after it.
 #[tactic(auto, unfolding(list_terms::specs::Fields::told_rate))]
 pub fn told_rate(text: &[u8]) -> Option<Rate>
     ensures { option_map frames_per_second result ≡ spec.told_rate text.now }
@@ -207,7 +206,7 @@ pub fn told_rate(text: &[u8]) -> Option<Rate>
     }
 }
 
-/// Whether zeros or nothing stand behind the first full stop.
+/// Returns whether only zeros, or nothing, are after the first full stop.
 fn zeros_behind_stop(text: &[u8]) -> bool
     ensures { result ≡ list_all spec.is_zero_digit (unwrap_or (behind_byte 46 text.now) []) }
 {

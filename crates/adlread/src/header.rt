@@ -1,4 +1,4 @@
-// The header so far.
+// The header during reading.
 ghost use Rattle.std.specs.Prelude.{◌≡◌, OnErr, OnOk};
 ghost use Rattle.sampletime.specs.FrameRate.{frames_per_second};
 ghost use Rattle.list_terms.specs.Text.{is_tag, keep, kept_line, no_header, rates_with, with_text};
@@ -16,7 +16,7 @@ use list_terms::{Rates, Section};
 use sampletime::Rate;
 use std::alloc::{AllocError, Global};
 
-/// The kept lines of the header, how many they are, and the rates that it told.
+/// The header so far: its lines, their number, and the rates given.
 #[derive(Drop)]
 pub struct HeaderSoFar {
     pub lines: Header,
@@ -24,11 +24,10 @@ pub struct HeaderSoFar {
     pub rates: Rates,
 }
 
-/// How many lines of the header are kept at most.
 const MOST_LINES: u32 = 65_535;
 
 impl HeaderSoFar {
-    /// No section.
+    /// Returns a header without sections.
     pub fn new() -> Self
         ensures { header_so_far result ≡ no_header }
     {
@@ -48,7 +47,8 @@ impl HeaderSoFar {
         }
     }
 
-    /// Keeps the line of these tokens in this section, where it says nothing that isn't supported.
+    /// Keeps a line in a section of the header. Returns a fault if the line is unsupported or one too many, or if
+    /// out of memory.
     #[tactic(auto, unfolding(list_terms::specs::Text::kept_line))]
     pub fn keep(
         &mut self,
@@ -77,7 +77,7 @@ impl HeaderSoFar {
     }
 }
 
-/// The rates that the header told, with the line of these tokens in this section.
+/// Reads a header line and returns the rates given so far.
 fn rates_with(
     section: Section,
     rates: Rates,
@@ -107,7 +107,7 @@ fn rates_with(
     }
 }
 
-/// Whether a line begins with `<`, behind spaces and tabs.
+/// Returns whether a line begins with `<`, perhaps after spaces and tabs.
 pub fn is_tag(line: &[u8]) -> bool
     ensures { result ≡ text.is_tag line.now }
 {
@@ -117,7 +117,6 @@ pub fn is_tag(line: &[u8]) -> bool
     }
 }
 
-/// Adds a line to the kept ones of its section.
 fn keep_line(
     alloc: Global,
     section: Section,
@@ -139,7 +138,6 @@ fn keep_line(
     }
 }
 
-/// Adds a line to a section that is there.
 fn push_line(alloc: Global, line: &[u8], lines: &mut Option<KeptLines>) -> Result<(), AllocError>
     ensures pushed { OnOk result (lines.new ≡ with_text line.now lines.old) }
     ensures stays { OnErr result (lines.new ≡ lines.old) }

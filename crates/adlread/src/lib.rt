@@ -1,8 +1,7 @@
-//! Reads the text of an audio decision list (AES31-3) as a project.
+//! A reader for audio decision lists (AES31-3), in the profile that docs/LIST.md describes.
 //!
-//! The profile is this project's own: seven sections are known, and four of them are cut into tokens. They may come in
-//! any order, names and keywords in any case, and any number of spaces and tabs between tokens. 48000 samples, and 24,
-//! 25 or 30 frames a second are the rates that are read.
+//! The reader knows seven sections, which may be in any order, and cuts four of them into tokens. Names and
+//! keywords match in any case. The sample rate is 48,000 Hz; times are read at 24, 25 or 30 frames a second.
 #![tactic(auto)]
 
 ghost use Rattle.std.specs.Prelude.{[], false, IfErr, IfOk, IsTrue, Ok, ◌≡◌};
@@ -42,8 +41,10 @@ pub use rate::rate_of;
 use sampletime::Rate;
 use std::alloc::Global;
 
-/// The project that a list spells, or its first fault: that of the first line at fault, and of that line the leftmost.
-/// What follows the line `</ADL>` is ignored.
+/// Reads the text of a list and returns the project that it spells.
+///
+/// Returns the fault of the first faulty line; if the line has several, the leftmost one. Anything after the line
+/// `</ADL>` is ignored. Returns `AdlFault::Memory` if out of memory.
 pub fn read(alloc: Global, text: &[u8]) -> Result<Project, AdlFault>
     ensures exact { Gives (λ project. project) refusal (λ r. r.number) result (text_value text.now) }
     ensures spelled { IfOk result (λ project. Spells text.now project) }
@@ -58,7 +59,7 @@ pub fn read(alloc: Global, text: &[u8]) -> Result<Project, AdlFault>
     read_lines(alloc, text, rate)
 }
 
-/// Reads the lines of a list, one after another.
+/// Reads a list, line by line, at the given frame rate.
 #[tactic(auto, unfolding(list_terms::specs::Text::read_from, crate::specs::FaultSpans::lines_span))]
 fn read_lines(alloc: Global, text: &[u8], rate: Rate) -> Result<Project, AdlFault>
     ensures exact { Reads (λ project. project) result

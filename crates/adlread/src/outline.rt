@@ -1,4 +1,4 @@
-// How far the sections of a list are passed, whatever their lines say, and the rate of frames that it tells.
+// The outline of a list (its sections, whatever their lines contain), and the frame rate found there.
 ghost use Rattle.std.specs.Prelude.{◌≡◌, IfOk, option_map, is_ok};
 ghost use Rattle.sampletime.specs.FrameRate.{frames_per_second};
 ghost use Rattle.list_terms.specs.Fields as fields;
@@ -14,10 +14,10 @@ use adltoken::{Lines, Token, Tokens, trimmed};
 use list_terms::{Opened, Section, Stage};
 use sampletime::Rate;
 
-/// The rate of a list that tells none.
+/// The frame rate of a list that gives none.
 pub const UNTOLD: Rate = Rate::Frames25;
 
-/// The rate of frames of a list, for which its lines are passed up to the one that tells it.
+/// Returns the frame rate of a list, skipping over its lines up to the one that gives the rate.
 #[tactic(auto, unfolding(list_terms::specs::Text::rate_from, list_terms::specs::Text::rate_of))]
 pub fn rate_in_lines(text: &[u8]) -> Rate
     ensures { frames_per_second result ≡ spec.rate_of text.now }
@@ -36,7 +36,7 @@ pub fn rate_in_lines(text: &[u8]) -> Rate
     UNTOLD
 }
 
-/// The stage, the name of the open section, and the sections that were opened.
+/// The outline of a list so far: the stage, the name of the open section, and the sections opened.
 #[derive(Clone, Copy)]
 pub struct Outline<'a> {
     stage: Stage,
@@ -45,7 +45,7 @@ pub struct Outline<'a> {
 }
 
 impl<'a> Outline<'a> {
-    /// No line was passed.
+    /// Returns the outline before the first line.
     pub fn new() -> Self
         ensures { outline_of result ≡ spec.nothing_passed }
     {
@@ -64,7 +64,7 @@ impl<'a> Outline<'a> {
         }
     }
 
-    /// The rate that a line tells, where it stands in SEQUENCE.
+    /// Returns the rate that a line gives, if the line is in SEQUENCE.
     pub fn rate_in(&self, line: &[u8]) -> Option<Rate>
         ensures { option_map frames_per_second result ≡ spec.rate_in (outline_of self.now) line.now }
     {
@@ -80,7 +80,7 @@ impl<'a> Outline<'a> {
         }
     }
 
-    /// The outline behind a line; `None` where the line can't stand there.
+    /// Returns the outline after a line, or `None` if the line isn't allowed there.
     #[tactic(auto, unfolding(list_terms::specs::Text::passed))]
     pub fn passed(self, line: &'a [u8]) -> Option<Self>
         ensures { option_map outline_of result ≡ spec.passed (outline_of self.entry) line.now }
@@ -93,7 +93,7 @@ impl<'a> Outline<'a> {
         }
     }
 
-    /// Behind a line before the list.
+    /// Returns the outline after a line before the list.
     #[tactic(auto, unfolding(list_terms::specs::Text::passed_before))]
     fn passed_before(self, line: &[u8]) -> Option<Self>
         ensures { option_map outline_of result ≡ spec.passed_before (outline_of self.entry) line.now }
@@ -111,7 +111,7 @@ impl<'a> Outline<'a> {
         }
     }
 
-    /// Behind a line between sections.
+    /// Returns the outline after a line between sections.
     #[tactic(auto, unfolding(list_terms::specs::Text::passed_outside))]
     fn passed_outside(self, line: &'a [u8]) -> Option<Self>
         ensures { option_map outline_of result ≡ spec.passed_outside (outline_of self.entry) line.now }
@@ -132,7 +132,7 @@ impl<'a> Outline<'a> {
         }
     }
 
-    /// With the section of this name; `None` where it was opened before.
+    /// Opens the section with this name. Returns `None` if it was opened before.
     #[tactic(auto, unfolding(list_terms::specs::Text::opens))]
     fn opens(self, name: &'a [u8]) -> Option<Self>
         ensures { option_map outline_of result ≡ spec.opens (outline_of self.entry) name.now }
@@ -148,7 +148,7 @@ impl<'a> Outline<'a> {
         })
     }
 
-    /// Behind a line inside a section.
+    /// Returns the outline after a line inside a section.
     #[tactic(auto, unfolding(list_terms::specs::Text::passed_inside))]
     fn passed_inside(self, section: Section, line: &[u8]) -> Option<Self>
         ensures { option_map outline_of result ≡ spec.passed_inside (outline_of self.entry) section line.now }
@@ -167,7 +167,6 @@ impl<'a> Outline<'a> {
     }
 }
 
-/// Whether a section was opened.
 fn has_opened(opened: Opened, section: Section) -> bool
     ensures { result ≡ spec.has_opened opened section }
 {
@@ -183,7 +182,6 @@ fn has_opened(opened: Opened, section: Section) -> bool
     }
 }
 
-/// The sections that were opened, with this one.
 fn with_opened(opened: Opened, section: Section) -> Opened
     ensures { result ≡ spec.with_opened opened section }
 {
@@ -201,7 +199,7 @@ fn with_opened(opened: Opened, section: Section) -> Opened
     opened
 }
 
-/// Whether a line may stand in this section, whatever its fields say.
+/// Returns whether a line may occur in a section, apart from the values of its fields.
 fn may_stand(section: Section, line: &[u8]) -> bool
     ensures { result ≡ spec.may_stand section line.now }
 {
@@ -214,14 +212,13 @@ fn may_stand(section: Section, line: &[u8]) -> bool
     }
 }
 
-/// Whether a line doesn't begin with `<` and is cut whole into tokens.
+/// Returns whether a line doesn't begin with `<` and consists of whole tokens.
 fn is_cut_whole(line: &[u8]) -> bool
     ensures { result ≡ spec.is_cut_whole line.now }
 {
     !is_tag(line) && is_whole(line)
 }
 
-/// Whether a line is cut whole into tokens.
 fn is_whole(line: &[u8]) -> bool
     ensures { result ≡ is_ok (fields.end_line line.now) }
 {
@@ -232,7 +229,7 @@ fn is_whole(line: &[u8]) -> bool
     }
 }
 
-/// The rate that a line tells behind `(SEQ_FRAME_RATE)`.
+/// Returns the rate after `(SEQ_FRAME_RATE)`.
 #[tactic(auto, unfolding(list_terms::specs::Text::rate_of_line))]
 fn rate_of_line(line: &[u8]) -> Option<Rate>
     ensures { option_map frames_per_second result ≡ spec.rate_of_line line.now }
@@ -246,7 +243,7 @@ fn rate_of_line(line: &[u8]) -> Option<Rate>
     told_rate(value.content)
 }
 
-/// The next token; `None` where there is none, or it is broken.
+/// Returns the next token, or `None` if there is no valid token.
 fn whole_token<'a>(tokens: &mut Tokens<'a>) -> Option<Token<'a>>
     ensures { option_map (λ token. (token_view token, tokens.new.rest.now)) result
         ≡ spec.whole_token tokens.old.rest.now }

@@ -1,4 +1,4 @@
-// The rate of frames of a text.
+// The frame rate of a text. Equal to `rate_in_lines`, but quicker if the text never mentions `SEQ_FRAME_RATE`.
 ghost use Rattle.std.specs.Prelude.{◌≡◌, ◌≤◌, codes, length};
 ghost use Rattle.std.specs.Bool.{OnFalse};
 ghost use Rattle.sampletime.specs.FrameRate.{frames_per_second};
@@ -10,10 +10,11 @@ use adltoken::{Lines, starts_in_any_case};
 use memchr::memchr2;
 use sampletime::Rate;
 
-/// The rate of frames of a list: the first one that a line of SEQUENCE tells behind `(SEQ_FRAME_RATE)`, 24, 25 or 30.
+/// Returns the frame rate of a list: the first valid one, 24, 25 or 30, that a line of SEQUENCE gives after
+/// `(SEQ_FRAME_RATE)`.
 ///
-/// It is 25 where none does, or where an earlier line can't stand where it stands or isn't cut into tokens. What a line
-/// says beyond that plays no part: a list that [`crate::read`] refuses has a rate too.
+/// Returns 25 if there is none, or if an earlier line is misplaced or can't be cut into tokens. Other faults don't
+/// matter: a text that [`crate::read`] refuses has a rate too.
 pub fn rate_of(text: &[u8]) -> Rate
     ensures { frames_per_second result ≡ spec.rate_of text.now }
 {
@@ -24,7 +25,7 @@ pub fn rate_of(text: &[u8]) -> Rate
     }
 }
 
-/// Whether the first line of a text may stand before a list or begin one. Where it can't, no line tells a rate.
+/// Returns whether the first line may be before a list or begin one. Otherwise no line gives a rate.
 fn begins_list(text: &[u8]) -> bool
     ensures { OnFalse result (spec.rate_of text.now ≡ 25) }
 {
@@ -34,8 +35,9 @@ fn begins_list(text: &[u8]) -> bool
     }
 }
 
-/// Whether `SEQ_FRAME_RATE` stands somewhere in a text, in any case. Where it doesn't, no line tells a rate, so this
-/// spares a text without it, which may be no list and long, the cutting of its lines.
+/// Returns whether a text contains `SEQ_FRAME_RATE`, in any case.
+///
+/// If it doesn't, no line gives a rate. This saves cutting a long text that may not even be a list.
 pub fn has_rate_keyword(text: &[u8]) -> bool
     ensures { result ≡ has_word (codes "SEQ_FRAME_RATE") text.now }
 {
@@ -49,7 +51,7 @@ pub fn has_rate_keyword(text: &[u8]) -> bool
     false
 }
 
-/// The text from its first `S` or `s` on; nothing where it has none.
+/// Returns the text from its first `S` or `s` on, or nothing if it has none.
 fn from_first_letter(text: &[u8]) -> &[u8]
     ensures same { has_word (codes "SEQ_FRAME_RATE") result.now ≡ has_word (codes "SEQ_FRAME_RATE") text.now }
     ensures shorter { length result.now ≤ length text.now }

@@ -1,4 +1,4 @@
-// Where in its line the reader is.
+// The position of the token reader in its line.
 ghost use Rattle.std.specs.Prelude.{◌≡◌, ◌<◌, IfOk, IfSome, length, option_map};
 ghost use Rattle.list_terms.specs.Steps.{ok_map};
 ghost use Rattle.list_terms.specs.Tokens as spec;
@@ -9,7 +9,7 @@ ghost use Rattle.adlread.specs.FaultSpans as spans;
 
 use adltoken::{Span, TextFault, Token, Tokens};
 
-/// The tokens of a line, from its first byte on.
+/// Returns a reader at the first byte of a line.
 #[tactic(auto, using(crate::proofs::SpanLaws::span_of_line), unfolding(crate::specs::FaultSpans::line_length, crate::specs::FaultSpans::reached))]
 pub fn tokens_of(line: &[u8]) -> Tokens<'_>
     ensures rest { result.rest.now ≡ line.now }
@@ -19,7 +19,7 @@ pub fn tokens_of(line: &[u8]) -> Tokens<'_>
     Tokens::new(line)
 }
 
-/// The next token, as `Tokens::cut_next` gives it.
+/// Returns the next token; equal to `Tokens::cut_next`.
 #[inline(always)]
 #[tactic(auto, using(crate::proofs::SpanLaws::span_of_rest), unfolding(crate::specs::FaultSpans::line_length, crate::specs::FaultSpans::reached))]
 pub fn cut_next<'a>(tokens: &mut Tokens<'a>) -> Result<Option<Token<'a>>, TextFault>
@@ -33,7 +33,8 @@ pub fn cut_next<'a>(tokens: &mut Tokens<'a>) -> Result<Option<Token<'a>>, TextFa
     tokens.cut_next()
 }
 
-/// Where the token is that was asked for last, or the next one where none was.
+/// Returns the byte range to blame for a fault: the last token requested, or the next one if none was requested
+/// yet.
 #[tactic(auto, unfolding(crate::specs::FaultSpans::reached))]
 pub fn reached(tokens: &Tokens<'_>) -> Span
     ensures { result ≡ spans.reached tokens.now }

@@ -1,4 +1,4 @@
-// The source index and the event list so far.
+// SOURCE_INDEX and EVENT_LIST during reading.
 ghost use Rattle.std.specs.Prelude.{◌≡◌, ◌<◌, [], IfOk, IsTrue, OnErr, OnOk};
 ghost use Rattle.std.proofs.Props.{props};
 ghost use Rattle.sampletime.specs.FrameRate.{frames_per_second};
@@ -27,7 +27,7 @@ pub struct SourceIndex {
 }
 
 impl SourceIndex {
-    /// No source.
+    /// Returns an index without sources.
     pub fn new(alloc: Global) -> Self
         ensures { result.sources ≡ [] }
     {
@@ -36,7 +36,8 @@ impl SourceIndex {
         }
     }
 
-    /// Adds the source that a line says behind its number, where no other has that number.
+    /// Reads the fields of a source and adds it. Returns a fault if its number isn't new, if a field is invalid, or
+    /// if out of memory.
     #[tactic(auto, unfolding(list_terms::specs::Text::source_with, crate::specs::FaultSpans::form_span))]
     pub fn add(
         &mut self,
@@ -61,8 +62,8 @@ impl SourceIndex {
     }
 }
 
-/// The events so far, the last entry, which further lines may be of, the separators of the first one's destination in,
-/// and the numbers of all.
+/// The event list so far: the complete events, the last entry, the separators of the first destination in, and the
+/// numbers used.
 #[derive(Drop)]
 pub struct EventList {
     pub events: Vec<Event>,
@@ -76,7 +77,7 @@ pub struct EventList {
 impl EventList {
     ghost use Rattle.adlread.specs.Entries.{entries_of};
 
-    /// No event.
+    /// Returns an event list without entries.
     pub fn new(alloc: Global) -> Result<Self, AllocError>
         ensures { IfOk result (λ list. entries_of list ≡ no_entry) }
     {
@@ -89,7 +90,7 @@ impl EventList {
         })
     }
 
-    /// Puts the last entry behind those before it, so that it has no further line.
+    /// Completes the last entry.
     pub fn close(&mut self) -> Result<(), AllocError>
         ensures closed { OnOk result (entries_of self.new ≡ closed_entries (entries_of self.old)) }
         ensures stays { OnErr result (entries_of self.new ≡ entries_of self.old) }
@@ -101,7 +102,8 @@ impl EventList {
         Ok(())
     }
 
-    /// Adds the event that a line says behind its number, where no other has that number.
+    /// Reads the fields of an entry and adds it. Returns a fault if its number isn't new, if a field is invalid, or
+    /// if out of memory.
     #[tactic(auto, unfolding(list_terms::specs::Text::entry_of, crate::specs::FaultSpans::form_span))]
     pub fn add(&mut self, number: u32, tokens: &mut Tokens<'_>, rate: Rate) -> Result<(), LineFault>
         requires { IsTrue (is_number number) }
@@ -126,7 +128,7 @@ impl EventList {
         Ok(())
     }
 
-    /// Adds what a line that is no entry of its own says of the entry before it.
+    /// Reads any other line of EVENT_LIST, which belongs to the entry before it.
     #[tactic(auto, unfolding(list_terms::specs::Text::further_line))]
     pub fn add_further(
         &mut self,

@@ -1,4 +1,4 @@
-// Lines that open and end sections.
+// Lines that open and close sections.
 ghost use Rattle.std.specs.Prelude.{◌≡◌, option_map};
 ghost use Rattle.std.specs.List.{list_all};
 ghost use Rattle.list_terms.specs.Text as text;
@@ -6,7 +6,7 @@ ghost use Rattle.list_terms.specs.Text as text;
 use adltoken::{is_same_name, starts_in_any_case};
 use list_terms::Section;
 
-/// What stands between `<` and a last `>`.
+/// Returns the text between `<` and a final `>`.
 fn tag_of(line: &[u8]) -> Option<&[u8]>
     ensures { option_map (λ tag. tag.now) result ≡ text.tag_of line.now }
 {
@@ -16,14 +16,14 @@ fn tag_of(line: &[u8]) -> Option<&[u8]>
     }
 }
 
-/// What stands before a last `>`.
+/// Returns the text before a final `>`.
 fn before_close(tag: &[u8]) -> Option<&[u8]>
     ensures { option_map (λ front. front.now) result ≡ text.before_close tag.now }
 {
     tag.strip_suffix(b">")
 }
 
-/// Whether a line is `</NAME>` of this name, in any case.
+/// Returns whether a line is `</NAME>`, in any case.
 pub fn is_end(name: &[u8], line: &[u8]) -> bool
     ensures { result ≡ text.is_end name.now line.now }
 {
@@ -33,7 +33,7 @@ pub fn is_end(name: &[u8], line: &[u8]) -> bool
     }
 }
 
-/// The name of a section that this line opens: letters, digits and `_`.
+/// Returns the name of the section that a line opens: letters, digits and `_`.
 pub fn opened_name(line: &[u8]) -> Option<&[u8]>
     ensures { option_map (λ name. name.now) result ≡ text.opened_name line.now }
 {
@@ -63,7 +63,7 @@ fn is_name_byte(byte: u8) -> bool
     byte.is_ascii_alphanumeric() || byte == b'_'
 }
 
-/// Whether a line is `<ADL>`.
+/// Returns whether a line is `<ADL>`, in any case.
 pub fn is_list_begin(line: &[u8]) -> bool
     ensures { result ≡ text.is_list_begin line.now }
 {
@@ -73,7 +73,7 @@ pub fn is_list_begin(line: &[u8]) -> bool
     }
 }
 
-/// The section of this name.
+/// Returns the section with the given name.
 #[tactic(auto, unfolding(list_terms::specs::Text::section_of))]
 pub fn section_of(name: &[u8]) -> Section
     ensures { result ≡ text.section_of name.now }
@@ -99,7 +99,7 @@ pub fn section_of(name: &[u8]) -> Section
     }
 }
 
-/// Whether a name tells of gain, automation, pan, mute or fades.
+/// Returns whether a section's name contains GAIN, AUTOMATION, PAN, MUTE or FADE.
 fn is_unsupported(name: &[u8]) -> bool
     ensures { result ≡ text.is_unsupported name.now }
 {
@@ -110,7 +110,7 @@ fn is_unsupported(name: &[u8]) -> bool
         || has_word(b"FADE", name)
 }
 
-/// Whether some part of a name is this word, in any case.
+/// Returns whether a name contains the given word, in any case.
 fn has_word(word: &[u8], name: &[u8]) -> bool
     ensures { result ≡ text.has_word word.now name.now }
 {

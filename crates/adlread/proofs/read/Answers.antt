@@ -17,7 +17,7 @@ use Rattle.adlread.proofs.Blocks.{value_of}
 use Rattle.adlread.proofs.SpelledLists.{spelled_of}
 use Rattle.adlread.proofs.read.Goals as goal
 
--- no fault of a text is excused
+-- No fault of a text is an out-of-memory or device failure.
 not_excused : (f : TextFault) → is_excused (fault_number f) ≡ false
 not_excused fault.BadByte = refl
 not_excused fault.BadLine = refl
@@ -52,7 +52,7 @@ exact_from_reads :
 unfolding text_value
 exact_from_reads text result h = gives_from_reads result (read_from (rate_of text) nothing_read 0 (lines_of text)) h
 
--- what was read at the rate of the text
+-- Reading at the rate of the text.
 at_its_rate :
     (text : List ℕ) (result : Result ListProject AdlFault) (rate : ℕ) → rate ≡ rate_of text
     → Reads (λ p. p) result (read_from rate nothing_read 0 (lines_of text))

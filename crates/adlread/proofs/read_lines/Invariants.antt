@@ -9,7 +9,7 @@ use Rattle.adlread.specs.SoFar.{IsSoFar}
 use Rattle.adlread.specs.FaultSpans.{lines_span}
 use Rattle.adlread.proofs.read_lines.Given as goal
 
--- what is left to read, behind what was read so far, gives what the whole gives
+-- Reading the remaining lines from the current state gives the result of the whole text.
 abbrev pub invariant-lines : goal.invariant-lines
 invariant-lines l = record {
   same : read_from (frames_per_second l.rate) (context_of l.draft) l.lines.number l.lines.lines

@@ -3,7 +3,7 @@ use Rattle.work_terms.specs.Refusals.{Refusal}
 use Rattle.adlread.specs.Further.{IsLeft}
 use Rattle.adlread.proofs.faults.Faults.next_fault.Given as goal
 
--- what was left is left, and they aren't over
+-- The faults that remained at the start remain, and the iteration isn't over.
 abbrev pub invariant-lines : goal.invariant-lines
 invariant-lines l = record {
   left : (further : List Refusal) (complete : Bool) → IsLeft l.initial.self further complete
