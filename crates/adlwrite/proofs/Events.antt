@@ -24,7 +24,7 @@ use Rattle.adlwrite.proofs.Lines.{event_fields-written, fade_is_read, fade_keywo
 use Rattle.adlwrite.proofs.Reading.{Gives, ending, one_line, so_far}
 use Rattle.adlwrite.proofs.Sources.{is_no_end}
 
--- an entry whose fades aren't told yet
+-- An entry before its fades.
 abbrev without_fades : Event → Event
 without_fades event = record event { rise = record { length = 0 }; fall = record { length = 0 } }
 
@@ -44,15 +44,15 @@ regrouped a b c d = simp append_assoc
 module _
     (project : ListProject) (rate : IsTrue (is_rate project.rate)) (separators : IsTrue (are_separators project.separators))
     (header : HeaderRead) (sources : List Source) where
-  -- in the event list, behind these entries
+  -- The state inside the event list, after these entries.
   abbrev in_list : Entries → Context
   in_list entries = so_far (Inside section.EventList) (codes "EVENT_LIST") header true sources true entries
 
-  -- the event list with a last entry
+  -- The event list with a last entry.
   abbrev opened : List Event → OpenEntry → Option (List ℕ) → Entries
   opened events entry separators = record { events = events; entry = Some entry; separators = separators }
 
-  -- an entry, and which of its fades were told
+  -- An entry, and which of its fades have been given.
   abbrev told : Event → Bool → Bool → OpenEntry
   told event has_rise has_fall = record { event = event; has_rise = has_rise; has_fall = has_fall }
 
@@ -75,11 +75,11 @@ module _
         event_fields-written project rate separators event facts,
       )
 
-  -- what stands behind the keyword of a fade
+  -- The rest of a fade's line after its keyword.
   abbrev fade_end : ℕ → List ℕ
   fade_end length = codes " " ++ (time_text project (Some length) ++ codes " LIN _ _ _")
 
-  -- the last entry with a fade
+  -- The last entry with a fade.
   fade_line_is_read :
       (is_rise : Bool) (events : List Event) (entry : OpenEntry) (found : Option (List ℕ)) (length n : ℕ)
       → length ≤ 4147200000 → (length == 0) ≡ false → is_told is_rise entry ≡ false
@@ -98,7 +98,7 @@ module _
         fade_is_read project rate separators false entry length h some new,
       )
 
-  -- an entry of this event, whichever of its fades were told
+  -- The rest of the list yields `result`, whichever fades of the last entry have been given.
   abbrev GivesBehind : List Event → Event → Option (List ℕ) → List (List ℕ) → ListProject → Type 0
   GivesBehind events event found lines result =
       (has_rise has_fall : Bool)
@@ -158,7 +158,7 @@ module _
         (falls_are_read events (record event { fall = record { length = 0 } })
         true found event.fall.length rest result facts.fall refl gives))
 
-  -- the separators that were found before are those of the project, or no entry was read
+  -- The separators so far are the project's, or there is no entry.
   abbrev pub AreFound : Option (List ℕ) → List Event → Type 0
   AreFound found events = MatchOption found (events ≡ []) (λ f. f ≡ project.separators)
 

@@ -1,4 +1,4 @@
--- The fields of a line, each behind a space, are read as they were written.
+-- The fields of a line, each after a space, are read as written.
 use Rattle.std.proofs.Common.{◌≡◌, ℕ, ◌≤◌, true, false, List, [], ◌∷◌, ◌++◌, Option, None, Some, Result, Ok, Err, IsTrue, refl, arith}
 use Rattle.std.specs.Prelude.{bytes_eq, codes, is_some}
 use Rattle.std.specs.List.{list_all}
@@ -52,7 +52,7 @@ time_field-written rate t separators rest known h i s =
       samples_of-text_of rate t separators known h i,
     )
 
--- a text that is a time isn't `_`
+-- The text of a time isn't `_`.
 not_missing : (rate : ℕ) (text : List ℕ) (time : ℕ × List ℕ) → samples_of rate text ≡ Some time → bytes_eq text (codes "_") ≡ false
 not_missing rate [] time e = refl
 not_missing rate (a ∷ []) time e = absurd (cc)

@@ -11,16 +11,16 @@ use Rattle.list_terms.specs.Text.{HeaderRead, no_header, opened, outside, sectio
 use Rattle.list_terms.specs.WholeProject.{IsHeader, both_rates, lines_of_section, no_rates}
 use Rattle.adlwrite.proofs.Reading.{Gives, in_head, optional_section, read_to, written_section}
 
--- how many lines a section has
+-- The number of lines in a section.
 abbrev pub count : Option (List (List ℕ)) → ℕ
 count lines = length (lines_of_section lines)
 
--- the header with one section more, and the rates that are told then
+-- The header with one more section, and the rates given after it.
 abbrev with_section : Section → Option (List (List ℕ)) → Rates → HeaderRead → HeaderRead
 with_section s lines rates head = read_to (put_lines s lines head.lines) (head.kept + count lines) rates
 
 module _ (rate : ℕ) (header : Header) (is : IsHeader rate header) (rest : List (List ℕ)) (project : ListProject) where
-  -- the header up to its first one to five sections
+  -- The header with its first one to five sections.
   abbrev head_one : HeaderRead
   head_one = with_section section.Version header.version no_rates no_header
 
@@ -36,11 +36,11 @@ module _ (rate : ℕ) (header : Header) (is : IsHeader rate header) (rest : List
   abbrev head_five : HeaderRead
   head_five = with_section section.TrackList header.track_list both_rates head_four
 
-  -- these lines behind this header give the project, whatever the last section is called
+  -- Reading these lines after this header yields the project, whatever the last section is called.
   abbrev GivesBehind : HeaderRead → List (List ℕ) → Type 0
   GivesBehind head lines = (known : List ℕ) → Gives rate (in_head Outside known head) lines project
 
-  -- one section after another
+  -- One section after another.
   pub header_is_read :
       GivesBehind head_five rest
       → GivesBehind no_header (written_section (codes "VERSION") header.version

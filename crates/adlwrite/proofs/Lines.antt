@@ -1,4 +1,4 @@
--- The lines of a source, of an entry and of a fade are read as they were written.
+-- The lines of a source, an entry and a fade are read as written.
 use Rattle.std.proofs.Common.{◌≡◌, ℕ, ◌≤◌, Bool, true, false, List, [], ◌∷◌, ◌++◌, length, Option, Some, Ok, IsTrue, refl, ap, sym, ◌∙◌, arith}
 use Rattle.std.specs.Prelude.{codes, ◌==◌}
 use Rattle.std.proofs.lemmas.Bool.Decides.{nat_tests}
@@ -20,7 +20,7 @@ use Rattle.list_terms.specs.WrittenText.{channels_text, number_text, time_text}
 use Rattle.adlwrite.proofs.Facts.{EventFacts, source_facts}
 use Rattle.adlwrite.proofs.Fields.{channels_field-written, number_field-written, optional_time_field-written, time_field-written, uid_field-written, url_field-written}
 
--- ---- fields that are always the same
+-- ---- constant fields
 
 file_is_read :
     (rest : List ℕ) → value_at (keyword (codes "F")) (codes " (F) \"" ++ rest) ≡ Ok (tt, codes " \"" ++ rest)
@@ -44,7 +44,7 @@ curve_ends : all_tokens any (length (codes " _ _ _")) (codes " _ _ _") ≡ Ok tt
 unfolding all_tokens token_at
 curve_ends = refl
 
--- a curve stands where a fade is longer than zero
+-- The curve of a fade longer than zero.
 long_curve :
     (length : ℕ) → (length == 0) ≡ false
     → curve_field length ≡ Then (Passes is_linear Unsupported) (λ _. Done any length)
@@ -56,7 +56,7 @@ unfolding reads
 curve_is_read length some =
     ap (λ form. reads form (codes " LIN _ _ _")) (long_curve length some) ∙ rw (linear_is_read, curve_ends) refl
 
--- the fade in of an entry, or its fade out: its keyword, the entry with it, and whether it was told
+-- The fade-in or fade-out of an entry: its keyword, the entry with it, and whether it was given.
 abbrev pub fade_keyword : (is_rise : Bool) → List ℕ
 fade_keyword true = codes "Infade"
 fade_keyword false = codes "Outfade"
@@ -113,7 +113,7 @@ module _ (project : ListProject) (rate : IsTrue (is_rate project.rate)) (separat
 
     -- ---- an entry
 
-    -- an entry before its fades are told
+    -- An entry before its fades.
     pub event_fields-written :
         (event : Event) → EventFacts event
         → reads (event_fields project.rate event.number) (codes " (Cut) I " ++ (number_text event.index

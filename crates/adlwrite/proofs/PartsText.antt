@@ -1,4 +1,4 @@
--- The parts of a list, one after another, are its text.
+-- The parts of a list, joined in order, are its text.
 use Rattle.std.proofs.Common.{◌≡◌, ◌≢◌, ℕ, Bool, true, false, List, [], ◌∷◌, ◌++◌, Option, None, Some, refl, sym, ap, ◌∙◌, append_assoc, arith}
 use Rattle.std.specs.Prelude.{codes, flat_map, ◌==◌}
 use Rattle.std.proofs.lemmas.Bool.Decides.{nat_tests}
@@ -113,7 +113,7 @@ whole_list project =
     (line (codes "<EVENT_LIST>")) (flat_map line (flat_map (event_lines project) project.events))
     (line (codes "</EVENT_LIST>")) (line (codes "</ADL>")))
 
--- ---- a fade, a source, an entry and the header, by the parts that are put
+-- ---- a fade, a source, an entry and the header, from the parts written
 
 pub no_fade : (project : ListProject) (keyword : List ℕ) (n length : ℕ) → n ≡ 0 → n ≡ length → [] ≡ fade_text project keyword length
 unfolding fade_text

@@ -1,4 +1,4 @@
--- Reading on from a context: one line, and the lines of a section that are kept.
+-- Reading the rest of a list: one line, and the lines of a kept section.
 use Rattle.std.proofs.Common.{◌≡◌, ℕ, ◌+◌, ◌≤◌, ◌<◌, Bool, true, false, List, [], ◌∷◌, ◌++◌, length, Option, None, Some, Ok, refl, sym, subst, append_assoc, arith}
 use Rattle.std.specs.Prelude.{codes, nat_le}
 use Rattle.std.specs.List.{list_all}
@@ -17,7 +17,7 @@ use Rattle.list_terms.specs.Text.{Context, Entries, HeaderRead, finished, in_hea
 use Rattle.list_terms.specs.Tokens.{trimmed}
 use Rattle.list_terms.specs.WholeProject.{is_kept, is_line_byte, lines_of_section}
 
--- what was read so far, without a notice
+-- The state of reading, without notices.
 abbrev pub so_far : Stage → List ℕ → HeaderRead → Bool → List Source → Bool → Entries → Context
 so_far stage name header has_index sources has_events entries = record {
   stage = stage;
@@ -30,27 +30,27 @@ so_far stage name header has_index sources has_events entries = record {
   notices = [];
 }
 
--- before the source index and the event list
+-- The state before the source index and the event list.
 abbrev pub in_head : Stage → List ℕ → HeaderRead → Context
 in_head stage name header = so_far stage name header false [] false no_entry
 
 abbrev pub read_to : Header → ℕ → Rates → HeaderRead
 read_to lines kept rates = record { lines = lines; kept = kept; rates = rates }
 
--- the line that opens a section, and the one that ends it
+-- The lines that open and close a section.
 abbrev pub opening : List ℕ → List ℕ
 opening name = codes "<" ++ (name ++ codes ">")
 
 abbrev pub ending : List ℕ → List ℕ
 ending name = codes "</" ++ (name ++ codes ">")
 
--- the lines of a section, where it is there
+-- The lines of a section, if it exists.
 abbrev pub written_section : List ℕ → Option (List (List ℕ)) → List (List ℕ)
 written_section name None = []
 written_section name (Some lines) = opening name ∷ (lines ++ (ending name ∷ []))
 
 module _ (rate : ℕ) where
-  -- the lines give this project from here on, whatever their numbers
+  -- The lines yield this project from this state on, whatever their numbers.
   abbrev pub Gives : Context → List (List ℕ) → ListProject → Type 0
   Gives c lines project = (n : ℕ) → read_from rate c n lines ≡ Ok project
 
@@ -67,7 +67,7 @@ module _ (rate : ℕ) where
   unfolding read_from
   last_line c next line project e behind ends n = rw (e (n + 1), behind) (ends (n + 1))
 
-  -- a section whose lines are kept
+  -- A section whose lines are kept.
   module _ (section : Section) (name : List ℕ) (is : IsKept section) (ends : is_end name (trimmed (ending name)) ≡ true)
     where
       line_is_kept :
@@ -141,7 +141,7 @@ module _ (rate : ℕ) where
           one_line _ _ (opening name) (lines ++ (ending name ∷ rest)) project opens refl
           (kept_lines [] lines h kept rates after rest project all few says gives)
 
-      -- a section that may be there
+      -- A section that may exist.
       pub optional_section :
           (before : List ℕ) (option : Option (List (List ℕ))) (h : Header) (kept : ℕ) (rates after : Rates)
           (rest : List (List ℕ)) (project : ListProject)

@@ -1,4 +1,4 @@
--- What is written for a project is read as that project.
+-- The text written for a project is read as that project.
 use Rattle.std.proofs.Common.{◌≡◌, ℕ, ◌+◌, true, false, List, [], ◌∷◌, ◌++◌, Option, None, Some, Ok, MatchOption, refl, ap, sym, ◌∙◌, subst, append_assoc}
 use Rattle.std.specs.Prelude.{codes, flat_map, map, unwrap_or}
 use Rattle.sampletime.specs.TimeCode.{default_separators}
@@ -16,7 +16,7 @@ use Rattle.adlwrite.proofs.Reading.{Gives, ending, in_head, last_line, one_line,
 use Rattle.adlwrite.proofs.Sources.{sources_are_read}
 use Rattle.adlwrite.proofs.TextLines.{lines_of-text_of_project, written_lines}
 
--- the separators that were found are those of the project
+-- The separators found are the project's.
 separators_again :
     (project : ListProject) (found : Option (List ℕ)) → IsProject project
     → MatchOption found (project.events ≡ []) (λ f. f ≡ project.separators)

@@ -19,7 +19,7 @@ use Rattle.adlwrite.proofs.Fields.{number_field-written}
 use Rattle.adlwrite.proofs.Lines.{source_fields-written}
 use Rattle.adlwrite.proofs.Reading.{Gives, ending, one_line, so_far}
 
--- a line that begins with a parenthesis ends no section
+-- A line that begins with a parenthesis closes no section.
 front_is_no_end : (name rest : List ℕ) (k : ℕ) → is_end name (take k (40 ∷ rest)) ≡ false
 front_is_no_end name rest zero = refl
 front_is_no_end name rest (suc k) = refl
@@ -31,7 +31,7 @@ is_no_end name rest = front_is_no_end name rest _
 
 module _ (project : ListProject) (rate : IsTrue (is_rate project.rate)) (separators : IsTrue (are_separators project.separators))
     (header : HeaderRead) where
-  -- in the source index and behind it, with these sources
+  -- The states inside and after the source index, with these sources.
   abbrev in_index : List Source → Context
   in_index sources = so_far (Inside section.SourceIndex) (codes "SOURCE_INDEX") header true sources false no_entry
 

@@ -42,7 +42,7 @@ lines_in-lines (text ∷ lines) h =
     rw (append_assoc text (13 ∷ 10 ∷ []) rest, cut_lines-line text rest is, without_cr-cr text)
     (ap (λ ls. text ∷ ls) (lines_in-lines lines (and_right (list_all is_line_byte text) _ h)))
 
--- ---- the text is the text of these lines
+-- ---- the text consists of these lines
 
 abbrev pub written_lines : ListProject → List (List ℕ)
 written_lines project =
@@ -88,7 +88,7 @@ text_is_its_lines project =
     (section_is_its_lines (codes "EVENT_LIST") (Some (flat_map (event_lines project) project.events))
     (codes "</ADL>" ∷ []) (line (codes "</ADL>")) refl))))))))
 
--- ---- no line has a line feed
+-- ---- no line contains LF
 
 pub record IsLine (text : List ℕ) : Type 0 where
   pub each : list_all is_line_byte text ≡ true
@@ -98,7 +98,7 @@ all-append :
     → list_all test (s ++ t) ≡ true
 all-append test s t a b = list_all-append test s t ∙ and_both (list_all test s) (list_all test t) a b
 
--- a part in front
+-- A part in front.
 part : (s : List ℕ) {t : List ℕ} → IsLine s → IsLine t → IsLine (s ++ t)
 part s {t} a b = record { each = all-append is_line_byte s t a.each b.each }
 

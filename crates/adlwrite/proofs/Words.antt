@@ -1,4 +1,4 @@
--- Numbers, channels and times are written as words that are read as those numbers, channels and times.
+-- Numbers, channels and times are written as words, and read back as the same values.
 use Rattle.std.proofs.Common.{◌≡◌, ℕ, ◌+◌, ◌/◌, ◌%◌, ◌<◌, ◌≤◌, Bool, true, false, List, [], ◌∷◌, ◌++◌, Option, Some, IsTrue, refl, ap, ◌∙◌, arith}
 use Rattle.std.specs.Prelude.{decimal, length, replicate, ◌-◌, ◌==◌, ◌&&◌}
 use Rattle.std.specs.List.{list_all}
@@ -73,7 +73,7 @@ same_channels :
 same_channels channels e =
     ap (λ (last : ℕ). let c : Channels = record { first = channels.first; last = last } in Some c) e
 
--- channels are written as a word that is read as those channels
+-- Channels are written as one word that is read back as the same channels.
 pub record IsReadAs (channels : Channels) (text : List ℕ) : Type 0 where
   pub word : is_word text ≡ true
   pub value : channels_of text ≡ Some channels
@@ -119,7 +119,7 @@ digit_is_of_words n h = grind (arith, nat_tests)
 separator_is_of_words : (b : ℕ) → is_separator b ≡ true → is_word_byte b ≡ true
 separator_is_of_words b h = grind (arith, nat_tests)
 
--- bytes of words alone
+-- Word bytes only.
 record AreOfWords (text : List ℕ) : Type 0 where
   each : list_all is_word_byte text ≡ true
 

@@ -1,11 +1,11 @@
-// Why a list isn't written.
+// Errors of writing a list.
 ghost use Rattle.std.specs.Prelude.{◌≡◌};
 ghost use Rattle.adlwrite.specs.declared.fault.WriteFault.TheVariants.{Device};
 
 use devices::DeviceFault;
 use thiserror::Error;
 
-/// Why a list isn't written.
+/// The reason why a list can't be written.
 #[derive(Clone, Copy, Debug, PartialEq, Eq, Error)]
 pub enum WriteFault {
     /// 19: the device failed.
@@ -14,7 +14,7 @@ pub enum WriteFault {
 }
 
 impl WriteFault {
-    /// The number of the refusal: 19.
+    /// Returns the refusal number, 19.
     pub fn number(&self) -> u8
         ensures { result ≡ 19 }
     {

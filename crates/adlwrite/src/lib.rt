@@ -1,7 +1,7 @@
-//! Writes a project as the text of an audio decision list (AES31-3).
+//! A writer for audio decision lists (AES31-3).
 //!
-//! Lines end with CR LF, and one space parts tokens. The sections come in one order: those of the header that were
-//! there, with the lines that were kept, then the source index and the event list.
+//! Lines end with CR LF, and one space separates tokens. The header sections that exist come first, with their kept
+//! lines, then SOURCE_INDEX and EVENT_LIST.
 #![tactic(auto)]
 
 ghost use Rattle.std.specs.Prelude.{◌≡◌, ◌≢◌, ℕ, List, Ok, Err, IfOk, IsTrue, OnErr, OnOk, ⊤, length};
@@ -23,14 +23,16 @@ use parts::put_list;
 use std::alloc::{AllocError, Global};
 use text_file::TextFile;
 
-/// What is written for a project is read as that project again.
+/// States that the text written for a project is read as that project.
 fn is_read_again(project: &Project)
     ensures { text_value (text_of_project project.now) ≡ Ok (without_notices project.now) }
 {
     let _ = project.header();
 }
 
-/// The text that a project is written as; it is read as that project again, without its notices.
+/// Returns the text of a project. Reading it gives the same project, without its notices.
+///
+/// Returns `AllocError` if out of memory.
 pub fn text_of(alloc: Global, project: &Project) -> Result<Vec<u8>, AllocError>
     ensures text { IfOk result (λ text. text.items ≡ text_of_project project.now) }
     ensures reads_back { text_value (text_of_project project.now) ≡ Ok (without_notices project.now) }
@@ -45,7 +47,9 @@ pub fn text_of(alloc: Global, project: &Project) -> Result<Vec<u8>, AllocError>
     }
 }
 
-/// Adds the text of a project at the end of the file of this name, which has to be there. It takes no memory.
+/// Appends the text of a project to an existing file, without allocating memory.
+///
+/// Returns `WriteFault::Device` if the device fails; the file may then have part of the text.
 pub fn write<B: Bench>(project: &Project, bench: &mut B, name: &str) -> Result<(), WriteFault>
     ensures written { IsTrue (B.honest bench.old) → OnOk result
         (Changes (IsAppended (text_of_project project.now)) name.now (B.stored bench.old) (B.stored bench.new)) }

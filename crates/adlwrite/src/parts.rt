@@ -1,4 +1,4 @@
-// The parts of a list, each added at the end of its file. No part takes memory.
+// The parts of a list, each appended to its file without allocating memory.
 ghost use Rattle.std.specs.Prelude.{◌≡◌, ◌-◌, ℕ, IsSome, IsTrue, List, OnOk, codes, flat_map, length, replicate};
 ghost use Rattle.list_terms.specs.Project.{ListProject};
 ghost use Rattle.list_terms.specs.WrittenText as written;
@@ -12,25 +12,24 @@ use devices::{Bench, DeviceFault};
 use itoa::Buffer;
 use sampletime::{SampleTime, text_of};
 
-/// The file that a list is added to, and the project that it is the list of: its times have the rate and the separators
-/// of that project.
+/// The file that a list is appended to, and its project, whose frame rate and separators the times have.
 #[derive(Clone, Copy)]
 struct ListFile<'a> {
     name: &'a str,
     project: &'a Project,
 }
 
-/// What is written into a list.
+/// Anything that can be written into a list.
 trait Written {
-    /// Its text, in a list of this project.
+    /// The text, in a list of this project.
     ghost text: { ListProject → Self → List ℕ };
 
-    /// Adds it.
+    /// Appends the text.
     fn put<B: Bench>(&self, bench: &mut B, file: &ListFile<'_>) -> Result<(), DeviceFault>
         ensures { Appends B.Bench file.now.name.now (text file.now.project.now self.now) bench.old bench.new result };
 }
 
-/// All of these, one after another.
+/// Appends each element in order.
 fn put_all<B: Bench, W: Written>(
     bench: &mut B,
     file: &ListFile<'_>,
@@ -44,7 +43,6 @@ fn put_all<B: Bench, W: Written>(
     Ok(())
 }
 
-/// A text as it stands.
 impl Written for &[u8] {
     ghost text = { λ _ text. text.now };
 
@@ -56,19 +54,18 @@ impl Written for &[u8] {
 /// A part of a line.
 #[derive(Clone, Copy)]
 enum Part<'a> {
-    /// A text as it stands.
+    /// Verbatim text.
     Plain(&'a [u8]),
     /// A number with at least four digits.
     Number(u32),
-    /// A run of channels behind a blank: `n` for one, else `a~b`.
+    /// A run of channels after a space: `n` for one channel, `a~b` for several.
     Run(Channels),
-    /// A time with the separators of the project, and `_` where it is missing.
+    /// A time with the separators of the project, or `_` if it is missing.
     Time(Option<SampleTime>),
-    /// The line of a fade, where it is longer than zero: its keyword, and its length.
+    /// The line of a fade, by its keyword and its length; nothing if the length is zero.
     Fade(&'a [u8], SampleTime),
 }
 
-/// A part, by its texts.
 impl Written for Part<'_> {
     ghost text = { part_text };
 
@@ -83,7 +80,7 @@ impl Written for Part<'_> {
     }
 }
 
-/// A number with at least four digits.
+/// Appends a number with at least four digits.
 fn put_number<B: Bench>(bench: &mut B, file: &ListFile<'_>, number: u32) -> Result<(), DeviceFault>
     ensures { Appends B.Bench file.now.name.now (number_text number) bench.old bench.new result }
 {
@@ -92,7 +89,7 @@ fn put_number<B: Bench>(bench: &mut B, file: &ListFile<'_>, number: u32) -> Resu
     put_all(bench, file, &[zeros_for(digits), digits])
 }
 
-/// The zeros that fill a number up to four digits.
+/// Returns the zeros that fill a number up to four digits.
 fn zeros_for(digits: &[u8]) -> &'static [u8]
     ensures { result.now ≡ replicate (4 - length digits.now) 48 }
 {
@@ -105,7 +102,7 @@ fn zeros_for(digits: &[u8]) -> &'static [u8]
     }
 }
 
-/// The time with the separators of the project, and `_` where it is missing.
+/// Formats a time with the separators of the project, or `_` if it is missing.
 fn time_in<'a>(room: &'a mut [u8; 16], project: &Project, time: Option<SampleTime>) -> &'a [u8]
     ensures { result.now ≡ time_text project.now time }
 {
@@ -119,7 +116,7 @@ fn time_in<'a>(room: &'a mut [u8; 16], project: &Project, time: Option<SampleTim
     }
 }
 
-/// The channels behind a blank: `n` for one, else `a~b`.
+/// Appends a space and a run of channels: `n` for one channel, `a~b` for several.
 #[tactic(auto, unfolding(crate::specs::Parts::channels_behind))]
 fn put_channels<B: Bench>(
     bench: &mut B,
@@ -138,7 +135,7 @@ fn put_channels<B: Bench>(
     put_all(bench, file, &[b" ", first, b"~", last])
 }
 
-/// The line of a fade, where it is longer than zero.
+/// Appends the line of a fade, unless its length is zero.
 fn put_fade<B: Bench>(
     bench: &mut B,
     file: &ListFile<'_>,
@@ -155,7 +152,7 @@ fn put_fade<B: Bench>(
     put_all(bench, file, &[keyword, time, b" LIN _ _ _\r\n"])
 }
 
-/// A line as it stands.
+/// A verbatim line.
 impl Written for Bytes {
     ghost text = { λ _ line. written.line line };
 
@@ -186,7 +183,7 @@ impl Written for Source {
     }
 }
 
-/// The line of an entry, and those of its fades.
+/// The lines of an entry and its fades.
 impl Written for Event {
     ghost text = { event_text };
 
@@ -212,7 +209,7 @@ impl Written for Event {
     }
 }
 
-/// A section of these lines.
+/// Appends a section with the given content.
 fn put_section<B: Bench, W: Written>(
     bench: &mut B,
     file: &ListFile<'_>,
@@ -227,11 +224,11 @@ fn put_section<B: Bench, W: Written>(
     put_all(bench, file, &[b"</", section, b">\r\n"])
 }
 
-/// A section of the header: its name, and its lines where it is there.
+/// A header section: its name, and its lines if the list has it.
 #[derive(Clone, Copy)]
 struct HeaderSection<'a>(&'a [u8], &'a Option<KeptLines>);
 
-/// A section of the header, where it is there.
+/// A header section, if the list has it.
 impl Written for HeaderSection<'_> {
     ghost text = { λ _ section. header_text section.0.now section.1.now };
 
@@ -244,7 +241,7 @@ impl Written for HeaderSection<'_> {
     }
 }
 
-/// The sections of the header.
+/// Appends the header sections.
 fn put_head<B: Bench>(
     bench: &mut B,
     file: &ListFile<'_>,
@@ -262,7 +259,7 @@ fn put_head<B: Bench>(
     put_all(bench, file, &sections)
 }
 
-/// The first line of a list, at the end of the file, which has to be there.
+/// Appends the first line of a list to an existing file.
 fn put_start<B: Bench>(bench: &mut B, name: &str) -> Result<(), DeviceFault>
     ensures appends { Appends B.Bench name.now (codes "<ADL>\r\n") bench.old bench.new result }
     ensures there { IsTrue (B.honest bench.old) → OnOk result (IsSome (B.stored bench.old name.now)) }
@@ -270,7 +267,7 @@ fn put_start<B: Bench>(bench: &mut B, name: &str) -> Result<(), DeviceFault>
     bench.append(name, b"<ADL>\r\n")
 }
 
-/// A list of these parts.
+/// Appends a list with the given parts.
 fn put_parts<B: Bench>(
     bench: &mut B,
     file: &ListFile<'_>,
@@ -290,7 +287,7 @@ fn put_parts<B: Bench>(
     end.put(bench, file)
 }
 
-/// The whole list, at the end of the file, which has to be there.
+/// Appends a whole list to an existing file.
 pub fn put_list<B: Bench>(bench: &mut B, name: &str, project: &Project) -> Result<(), DeviceFault>
     ensures appends { Appends B.Bench name.now (text_of_project project.now) bench.old bench.new result }
     ensures there { IsTrue (B.honest bench.old) → OnOk result (IsSome (B.stored bench.old name.now)) }

@@ -1,11 +1,11 @@
-// One file in memory, whose name is empty, as an output that texts are added to.
+// A bench with one append-only file in memory.
 ghost use Rattle.std.specs.Prelude.{◌≡◌, ◌==◌, ◌^◌, ⊤, None, Some, if◌then◌else◌, length, true};
 ghost use Rattle.adlwrite.specs.LeftText.{IsLeftText, left_nothing, left_whole};
 
 use devices::{Bench, DeviceFault, ShelfFault};
 
-/// One file in memory, whose name is empty. It is only added to: every other call fails, and so does growth where no
-/// memory is left. Its failures aren't counted.
+/// A bench with one file in memory, whose name is empty. Appending to it fails only if out of memory; every other
+/// call fails.
 #[derive(Drop)]
 pub struct TextFile {
     pub text: Vec<u8>,
@@ -20,12 +20,12 @@ impl Bench for TextFile {
 
     ghost failed_at = { λ _ _. ⊤ };
 
-    /// It is never synced: a crash may leave any text that is no longer.
+    /// The file is never synced, so a crash may leave any text that is no longer.
     ghost may_leave = { λ file. IsLeftText file.text.items };
 
     ghost moment = { λ _. 0 };
 
-    /// It only grows, so a crash now may leave what one before might have left.
+    /// The file only grows, so an earlier crash could have left the same.
     ghost left_since = { λ file _. IsLeftText file.text.items };
 
     fn create(&mut self, _: &str) -> Result<(), DeviceFault> {
