@@ -1,4 +1,4 @@
--- A binding with one more index is one.
+-- A binding stays a binding when one more index is added.
 use Rattle.std.proofs.Math.Bool.{or-true}
 use Rattle.std.proofs.Common.{◌≡◌, ◌∙◌, ℕ, zero, suc, ◌≤◌, Bool, true, false, ◌||◌, nat_eq, bytes_eq, List, [], ◌∷◌, ◌++◌, length, None, Some, refl, subst, arith, length-append, eq-eqb}
 use Rattle.std.specs.List.{slice_get}
@@ -12,7 +12,7 @@ use Rattle.list_terms.specs.Binding.{Binding, OpenedFile, addressable_from, base
 use Rattle.list_terms.specs.BoundHomes.{IsBinding, IsBoundTo, has_index}
 use Rattle.sourceindex.proofs.Places.{position-push}
 
--- the index of this source over a file of these facts
+-- The index of a source over a file with these facts.
 abbrev pub index_over : Source → SoundFacts → ℕ → BoundIndex
 index_over source facts file = record {
   number = source.number;
@@ -21,7 +21,7 @@ index_over source facts file = record {
   addressable = addressable_from (base_of source facts) facts;
 }
 
--- a list and one more element
+-- Lookup in a list with one more element.
 get_append : {X : Type 0} (xs ys : List X) (i : ℕ) (x : X) → slice_get xs i ≡ Some x → slice_get (xs ++ ys) i ≡ Some x
 get_append [] ys i x there = cc
 get_append (y ∷ xs) ys zero x there = there
@@ -31,7 +31,7 @@ pub get_last : {X : Type 0} (xs : List X) (x : X) → slice_get (xs ++ x ∷ [])
 get_last [] x = refl
 get_last (y ∷ xs) x = get_last xs x
 
--- what stands in a list with one more element: an element of the list, or that one
+-- An element of a list with one more element is an element of the list, or the new one.
 by_push : {X : Type 0} (P : ℕ → X → Type 0) (xs : List X) (x : X) → ((i : ℕ) (y : X) → slice_get xs i ≡ Some y → P i y)
     → P (length xs) x
     → (i : ℕ) (y : X) → slice_get (xs ++ x ∷ []) i ≡ Some y → P i y
@@ -56,7 +56,7 @@ has_index-push (first ∷ indexes) index file =
       by_test later true e = rw e refl
       by_test later false e = rw e later
 
--- a file that had an index has one
+-- A file that had an index still has one.
 still_has : (indexes : List BoundIndex) (index : BoundIndex) (file : ℕ) → has_index indexes file ≡ true
     → has_index (indexes ++ index ∷ []) file ≡ true
 still_has indexes index file has = has_index-push indexes index file ∙ rw has refl
@@ -66,7 +66,7 @@ now_has : (indexes : List BoundIndex) (index : BoundIndex) (file : ℕ) → inde
 now_has indexes index file same =
     has_index-push indexes index file ∙ rw (eq-eqb index.file file same) (or-true (has_index indexes file))
 
--- an index of a file that is opened already
+-- An index of a file that is already open.
 pub known_index : (binding : Binding) (source : Source) (file : ℕ) (opened : OpenedFile) (told : Bool)
     → IsBinding binding
     → slice_get binding.files file ≡ Some opened
@@ -80,13 +80,13 @@ known_index binding source file opened told is there =
       used = λ n below. still_has binding.indexes index n (is.used n below);
     }
 
--- an index is bound also where more files are opened
+-- A bound index stays bound when more files are opened.
 in_more_files : (files more : List OpenedFile) (index : BoundIndex) → IsBoundTo files index
     → IsBoundTo (files ++ more) index
 in_more_files files more index is =
     record { file = is.file; there = get_append files more index.file is.file is.there; addressable = is.addressable }
 
--- the first file of a name stays the first
+-- The first file with a name stays the first.
 named_still : (files : List OpenedFile) (file : OpenedFile) (name : List ℕ) (i : ℕ) → file_named name files ≡ Some i
     → file_named name (files ++ file ∷ []) ≡ Some i
 named_still files file name i found =
@@ -98,7 +98,7 @@ named_last files file none =
     position-push (λ (f : OpenedFile). bytes_eq f.facts.name file.facts.name) file files
     ∙ rw (none, (bytes_eq-Decides file.facts.name file.facts.name).1 refl) refl
 
--- an index of a file that is opened for it
+-- An index of a file that is opened for it.
 pub new_index : (binding : Binding) (source : Source) (path : List ℕ) (facts : SoundFacts) (told : Bool)
     → IsBinding binding
     → file_named facts.name binding.files ≡ None

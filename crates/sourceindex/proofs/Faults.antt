@@ -1,4 +1,4 @@
--- What the fault of a source tells of the project.
+-- The consequences of a source's fault for the project.
 use Rattle.std.proofs.Common.{◌≡◌, ◌∙◌, ◌⊎◌, ℕ, zero, suc, Bool, true, false, List, [], ◌∷◌, Option, None, Some, Result, Ok, Err, IsSome, MatchBool, inl, inr, refl, sym, ap, subst}
 use Rattle.std.specs.Prelude.{string_bytes, take}
 use Rattle.std.specs.declared.string.String.{String}
@@ -31,7 +31,7 @@ all_at p (y ∷ ys) i x all there = by_first (λ k. all_at p ys k x) (p y) refl 
   by_first later true e (suc i) there = later i (sym (rw e refl) ∙ all) there
   by_first later false e i there = let h : false ≡ true = sym (rw e refl) ∙ all in cc
 
--- a source of a whole project names a file
+-- A source of a whole project names a file.
 names_file : (sources : List Source) (place : ℕ) (source : Source) → list_all is_source sources ≡ true
     → slice_get sources place ≡ Some source
     → IsSome (place_of_url source.url)
@@ -46,7 +46,7 @@ names_file sources place source whole there =
       by_place None e true f = let h : false ≡ true = sym (rw (f, e) refl) ∙ is in cc
       by_place None e false f = let h : false ≡ true = sym (rw f refl) ∙ is in cc
 
--- the source at a place of a project
+-- The source at a position of the project.
 pub source_at : (project : ListProject) (sources : List Source) (place : ℕ) (source : Source)
     → sources ≡ project.sources → list_all is_source sources ≡ true → slice_get sources place ≡ Some source
     → IsSourceAt project place source.number
@@ -57,7 +57,7 @@ source_at project sources place source listed whole there = record {
   file = names_file sources place source whole there;
 }
 
--- the name of a file that isn't accepted
+-- The name of a file that isn't accepted.
 named_of : (source : Source) (named : NamedFault) (fault : MediaFault) → named.fault ≡ Media fault
     → IsNamedAs source named → IsNameOf source named.name fault
 named_of source named fault is = by_name named.name refl where
@@ -70,7 +70,7 @@ named_of source named fault is = by_name named.name refl where
       let same : fault ≡ media.Memory = cc in
       rw e same
 
--- what is told of the index
+-- The blamed index belongs to the project.
 pub own_index : (project : ListProject) (sources : List Source) (place : ℕ) (source : Source) (named : NamedFault)
     → sources ≡ project.sources → list_all is_source sources ≡ true → slice_get sources place ≡ Some source
     → IsNamedAs source named → (named.fault ≡ Media media.Memory) ⊎ (is_used project.events source.number ≡ true)
@@ -91,7 +91,7 @@ own_index project sources place source named listed whole there name = by_fault 
       rw is ((place, at, named_of source named fault is name), inr same)
   by_fault (Media fault) is (inr used) = rw is ((place, at, named_of source named fault is name), inl used)
 
--- no source before it is at fault
+-- No source before it is faulty.
 pub first_index : (project : ListProject) (files : Files) (place : ℕ) (source : Source) (named : NamedFault)
     (binding : Binding) → IsSourceAt project place source.number
     → with_sources files project.events nothing_bound (take place project.sources) ≡ Ok binding
@@ -101,7 +101,7 @@ first_index project files place source named binding at bound = by_fault named.f
   by_fault SameName is = rw is tt
   by_fault (Media fault) is = rw is (place, at, (binding, bound))
 
--- the refusal of the project is that of the source, wherever it is due
+-- The refusal of the project is the refusal of the source.
 pub due_refusal : (source : Source) (named : NamedFault) (reading : Result Binding Refusal) → IsNamedAs source named
     → MatchBool (is_excused (refusal_of_source source named.fault).number) (Unit {0})
     (reading ≡ Err (refusal_of_source source named.fault))
@@ -122,7 +122,7 @@ due_refusal source named reading name = by_fault named.fault refl named.name ref
       let memory : named.fault ≡ Media media.Memory = rw e at name in
       rw (memory) tt
 
--- its number is that of the source's
+-- Both refusals have the same number.
 same_number : (source : Source) (named : NamedFault)
     → (refusal_of (at_index source.number named)).number ≡ (refusal_of_source source named.fault).number
 same_number source named = by_fault named.fault refl where
@@ -131,7 +131,7 @@ same_number source named = by_fault named.fault refl where
   by_fault SameName is = rw is refl
   by_fault (Media fault) is = rw is refl
 
--- 22 tells of the device alone
+-- Only device failures have number 22.
 device_told : (source : Source) (fault : SourceFault) → (refusal_of_source source fault).number ≡ 22
     → fault ≡ Media media.Device
 device_told source SameName told = cc
@@ -146,7 +146,7 @@ device_told source (Media media.BadDs64) told = cc
 device_told source (Media media.WrongRate) told = cc
 device_told source (Media media.Memory) told = cc
 
--- a device fails at a file whose name is told
+-- A device failure names its file.
 device_place : (P : List ℕ → Type 0) (source : Source) (named : NamedFault) → named.fault ≡ Media media.Device
     → IsNamedAs source named → P (name_of_source source)
     → HoldsOfFile P (refusal_of (at_index source.number named)).location
@@ -161,7 +161,7 @@ device_place P source named is = by_name named.name refl where
       let h : Media media.Device ≡ Media media.Memory = sym is ∙ memory in
       cc
 
--- behind quiet reads, one more
+-- One more read after quiet reads.
 pub read_on : {S : Type 0} (stored : S → Files) (honest : S → Bool) (failures : S → ℕ) (failed_at : S → List ℕ → Type 0)
     (old mid new : S) (source : Source) (named : NamedFault) (fault : BindFault)
     → fault ≡ at_index source.number named → IsNamedAs source named

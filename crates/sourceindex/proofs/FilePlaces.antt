@@ -1,4 +1,4 @@
--- Opened files by their paths and sounds, and the place of each by its name.
+-- Opened files with their paths, and the position of each by name.
 use Rattle.std.proofs.Common.{◌≡◌, ◌∙◌, ℕ, zero, suc, ◌<◌, Bool, true, false, cond, List, [], ◌∷◌, ◌++◌, length, map, None, Some, Global, get_or, refl, sym, ap, arith, bytes_eq, string_bytes, length-append}
 use Rattle.std.specs.BTreeMap as tree
 use Rattle.std.specs.BTreeMap.{BTreeMap, get_by_text}
@@ -39,7 +39,7 @@ length-opened_of paths [] = refl
 length-opened_of [] (s ∷ sounds) = ap suc (length-opened_of [] sounds)
 length-opened_of (p ∷ paths) (s ∷ sounds) = ap suc (length-opened_of paths sounds)
 
--- the parts of the file at a place
+-- The path and the sound of the file at a position.
 pub opened_at : (paths : List (List ℕ)) (sounds : List SoundFacts) (place : ℕ) (file : OpenedFile)
     → length paths ≡ length sounds
     → slice_get (opened_of paths sounds) place ≡ Some file
@@ -53,7 +53,7 @@ opened_at (p ∷ paths) (s ∷ sounds) zero file together there =
 opened_at (p ∷ paths) (s ∷ sounds) (suc place) file together there =
     opened_at paths sounds place file (omega (arith, together)) there
 
--- a place in the list of files is one in both of its parts
+-- A position in the list of files is one in both of its parts.
 module _ {paths : List (List ℕ)} {sounds : List SoundFacts} {places : BTreeMap (String Global) ℕ} {files : List OpenedFile}
     (placed : ArePlaced paths sounds places) (view : opened_of paths sounds ≡ files) (place : ℕ)
     (within : place < length files) where
@@ -63,7 +63,7 @@ module _ {paths : List (List ℕ)} {sounds : List SoundFacts} {places : BTreeMap
   pub path_within : place < length paths
   path_within = omega (arith, sound_within, placed.together)
 
-  -- what is read there is of the file
+  -- The parts at that position belong to the file.
   module _ (file : OpenedFile) (there : slice_get files place ≡ Some file) where
     both_at : (slice_get paths place ≡ Some file.path) × (slice_get sounds place ≡ Some file.facts)
     both_at = opened_at paths sounds place file placed.together (ap (λ l. slice_get l place) view ∙ there)
@@ -78,7 +78,7 @@ module _ {paths : List (List ℕ)} {sounds : List SoundFacts} {places : BTreeMap
         let own = slice_get_read paths (length paths) place path refl path_within read in
         let both = both_at in cc
 
--- the name of the file at a place, by the facts of the files
+-- The name of the file at a position, from the facts of the files.
 pub named_at : (files : List OpenedFile) (place : ℕ) (name : List ℕ) (facts : SoundFacts)
     → ((file : OpenedFile) → slice_get files place ≡ Some file → name ≡ file.facts.name)
     → slice_get (map (λ (file : OpenedFile). file.facts) files) place ≡ Some facts → name ≡ facts.name
@@ -87,7 +87,7 @@ named_at (f ∷ files) zero name facts is there = let same : f.facts ≡ facts =
     is f refl ∙ ap (λ (s : SoundFacts). s.name) same
 named_at (f ∷ files) (suc place) name facts is there = named_at files place name facts is there
 
--- one more file, whose name is new
+-- One more file, whose name is new.
 pub placed_push : (old new : BTreeMap (String Global) ℕ) (paths : List (List ℕ)) (sounds : List SoundFacts)
     (path : List ℕ) (facts : SoundFacts) (name : List ℕ)
     → ArePlaced paths sounds old → name ≡ facts.name → file_named facts.name (opened_of paths sounds) ≡ None

@@ -1,4 +1,4 @@
--- The home index of a file.
+-- Laws of the home index of a file.
 use Rattle.std.proofs.Common.{◌≡◌, ◌≢◌, ◌∙◌, ℕ, zero, suc, ◌+◌, ◌-◌, ◌<◌, ◌≤◌, Bool, true, false, cond, nat_eq, nat_le, List, [], ◌∷◌, ◌++◌, length, min, Option, None, Some, refl, sym, ap, subst, arith, unwrap_or, add-zero, eqb-true, eq-eqb, option_map, IfSome, le_of_eq, zero-add}
 use Rattle.std.specs.List.{slice_get, position_or_len}
 use Rattle.std.proofs.lemmas.List.Folds.{find_at}
@@ -13,7 +13,7 @@ use Rattle.list_terms.specs.Binding.{Binding, OpenedFile}
 use Rattle.list_terms.specs.BoundHomes.{IsBinding, IsBoundTo, earlier_home, has_index, home_at, home_from, homes_from, homes_of, no_home}
 use Rattle.sourceindex.specs.Homes.{least_so_far}
 
--- the least of three, from either side
+-- The minimum of three homes, from either side.
 of_three : (first second third : Home)
     → earlier_home first (Some (least_so_far (Some second) third))
     ≡ least_so_far (Some (earlier_home first (Some second))) third
@@ -31,7 +31,7 @@ of_three first second third =
       by_tests false e false f true g = absurd (grind (arith, nat_tests, e, f, g))
       by_tests false e false f false g = rw (e, f, e, g) refl
 
--- one more behind a home and those that follow it
+-- One more home after a home and those that follow it.
 one_behind : (b c : Bool) (home later : Home) (rest with : Option Home)
     → with ≡ cond c (Some (least_so_far rest later)) rest
     → cond b (Some (earlier_home home with)) with
@@ -42,7 +42,7 @@ one_behind true true home later (Some second) with e = rw e (ap Some (of_three h
 one_behind true false home later rest with e = rw e refl
 one_behind false c home later rest with e = e
 
--- one more index
+-- One more index.
 pub home_from-push : (place : ℕ) (indexes : List BoundIndex) (index : BoundIndex) (file : ℕ)
     → home_from place (indexes ++ index ∷ []) file
     ≡ cond (nat_eq index.file file) (Some (least_so_far (home_from place indexes file)
@@ -58,7 +58,7 @@ home_from-push place (first ∷ indexes) index file =
     (least_so_far (home_from (place + 1) indexes file) (home_at at index))) (home_from (place + 1) indexes file))
     behind)
 
--- the index that is the home, and that no index of the file has a lesser base
+-- The index that is the home: no index of the file has a smaller base.
 pub record IsHome (place : ℕ) (indexes : List BoundIndex) (file : ℕ) (home : Home) : Type 0 where
   pub at : ℕ
   pub index : BoundIndex
@@ -68,7 +68,7 @@ pub record IsHome (place : ℕ) (indexes : List BoundIndex) (file : ℕ) (home :
   pub least : (i : ℕ) (other : BoundIndex) → slice_get indexes i ≡ Some other → other.file ≡ file
       → home.base ≤ other.base
 
--- no index is of a file without a home
+-- A file without a home has no index.
 without_home : (place : ℕ) (indexes : List BoundIndex) (file : ℕ) → home_from place indexes file ≡ None
     → (i : ℕ) (index : BoundIndex) → slice_get indexes i ≡ Some index → index.file ≢ file
 without_home place [] file none i index there = cc
@@ -87,7 +87,7 @@ without_home place (first ∷ indexes) file none i index there =
           absurd (cc)
       by_first false e later (suc i) there = later tt (sym (rw e refl) ∙ none) i there
 
--- a later index is the home, whose base isn't above the first's where they are of one file
+-- A later index is the home; its base isn't greater than the first index's, if both have the same file.
 home_behind : (place : ℕ) (first : BoundIndex) (indexes : List BoundIndex) (file : ℕ) (home : Home)
     → (first.file ≡ file → home.base ≤ first.base)
     → IsHome (place + 1) indexes file home → IsHome place (first ∷ indexes) file home
@@ -113,7 +113,7 @@ home_later place first indexes file home other =
     home_behind place first indexes file home
     (λ same. let h : nat_eq first.file file ≡ true = eq-eqb first.file file same in absurd (cc))
 
--- the first index is the home
+-- The first index is the home.
 home_first : (place : ℕ) (first : BoundIndex) (indexes : List BoundIndex) (file : ℕ) → first.file ≡ file
     → ((i : ℕ) (index : BoundIndex) → slice_get indexes i ≡ Some index → index.file ≡ file → first.base ≤ index.base)
     → IsHome place (first ∷ indexes) file (home_at place first)
@@ -130,7 +130,7 @@ home_first place first indexes file mine least = record {
   by_place zero index there of_file = let one : first ≡ index = cc in le_of_eq (ap (λ (x : BoundIndex). x.base) one)
   by_place (suc i) index there of_file = least i index there of_file
 
--- a later index is the home, with a lesser base than the first
+-- A later index is the home, with a smaller base than the first.
 home_second : (place : ℕ) (first : BoundIndex) (indexes : List BoundIndex) (file : ℕ) (home : Home)
     → nat_le first.base home.base ≡ false
     → IsHome (place + 1) indexes file home → IsHome place (first ∷ indexes) file home
@@ -169,7 +169,7 @@ home_is place (first ∷ indexes) file home is =
       by_first rest_is false e rest found =
           home_later place first indexes file home e (rest_is home (sym (rw e refl) ∙ is))
 
--- a file that has an index has a home
+-- A file that has an index has a home.
 pub has_home : (place : ℕ) (indexes : List BoundIndex) (file : ℕ) → has_index indexes file ≡ true
     → (home : Home) × (home_from place indexes file ≡ Some home)
 has_home place [] file has = cc
@@ -185,7 +185,7 @@ has_home place (first ∷ indexes) file has =
             (home_from (place + 1) indexes file)) e ∙ rest.1,
       )
 
--- the home of a file as it stands in the table
+-- The home of a file in the table.
 pub home_in_table : (indexes : List BoundIndex) (from : ℕ) (files : List OpenedFile) (i : ℕ) → i < length files
     → slice_get (homes_from indexes from files) i ≡ Some (unwrap_or (home_from 0 indexes (from + i)) no_home)
 home_in_table indexes from [] i below = absurd (omega (arith, below))
@@ -199,7 +199,7 @@ pub length-homes_from : (indexes : List BoundIndex) (from : ℕ) (files : List O
 length-homes_from indexes from [] = refl
 length-homes_from indexes from (file ∷ files) = ap suc (length-homes_from indexes (from + 1) files)
 
--- the home of a file of a binding
+-- The home of a file of a binding.
 pub home_of_file : (binding : Binding) → IsBinding binding → (file : ℕ) → file < length binding.files
     → (home : Home) × (slice_get (homes_of binding) file ≡ Some home) × IsHome 0 binding.indexes file home
 home_of_file binding is file below =
@@ -211,14 +211,14 @@ home_of_file binding is file below =
       home_is 0 binding.indexes file has.0 has.1,
     )
 
--- what an index is bound to
+-- The index at a position is bound to its file.
 pub bound_at : (binding : Binding) → IsBinding binding → (at : ℕ) (index : BoundIndex)
     → slice_get binding.indexes at ≡ Some index → IsBoundTo binding.files index
 bound_at binding is at index there =
     subst (IsBoundTo binding.files) (get_or_from_slice_get binding.indexes at index index there)
     (is.bound at index (slice_get_within binding.indexes at index there))
 
--- where a home stands in the table its file is one of the files
+-- A home in the table belongs to one of the files.
 home_within : (binding : Binding) (i : ℕ) (home : Home) → slice_get (homes_of binding) i ≡ Some home
     → i < length binding.files
 home_within binding i home there =
@@ -255,7 +255,7 @@ are_homes binding is = record {
       → base + addressable ≤ day
   ends_in_day base addressable frames some is = omega (arith, some, is)
 
--- what an index addresses its file's home does
+-- A file's home reaches everything that an index of the file reaches.
 pub home_holds : (binding : Binding) → IsBinding binding → (at : ℕ) (index : BoundIndex)
     → slice_get binding.indexes at ≡ Some index
     → index.addressable ≤ addressable_by (homes_of binding) index.file
@@ -278,7 +278,7 @@ home_holds binding is at index there =
           → a ≤ b
       no_fewer a b frames home base less is_a is_b = omega (arith, less, is_a, is_b)
 
--- the index of a number, where there is one
+-- The index with a number, if there is one.
 found_at : (binding : Binding) (number : ℕ) (index : BoundIndex) → index_of binding.indexes number ≡ Some index
     → slice_get binding.indexes (position_or_len (λ (i : BoundIndex). nat_eq i.number number) binding.indexes)
     ≡ Some index

@@ -1,4 +1,4 @@
--- The table of homes as it is made.
+-- The table of homes under construction.
 use Rattle.std.proofs.Common.{◌≡◌, ◌∙◌, ℕ, suc, ◌+◌, ◌<◌, ◌≤◌, Bool, true, false, nat_eq, List, [], ◌∷◌, ◌++◌, length, map, take, take-suc, add-one, length-take-le, get_or, set, Option, None, Some, refl, sym, ap, arith, unwrap_or, add-zero, zero-add, eqb-true, get_or-set_same, get_or-set_other, length-set}
 use Rattle.std.proofs.lemmas.Bool.Decides.{nat_tests}
 use Rattle.sound_terms.specs.declared.BoundIndex.{BoundIndex}
@@ -8,7 +8,7 @@ use Rattle.list_terms.specs.BoundHomes.{home_at, home_from, homes_from, no_home}
 use Rattle.sourceindex.specs.Homes.{AreLeast, least_so_far}
 use Rattle.sourceindex.proofs.HomeLaws.{home_from-push}
 
--- an index of the list, and those before it
+-- An index of the list, and those before it.
 abbrev pub index_in : List BoundIndex → ℕ → BoundIndex
 index_in indexes i = get_or indexes i (record { number = 0; file = 0; base = 0; addressable = 0 })
 
@@ -17,7 +17,7 @@ pub one_index : (indexes : List BoundIndex) (i : ℕ) → i < length indexes
 one_index indexes i below =
     (length-take-le i indexes (omega arith), ap (λ n. take n indexes) (add-one i) ∙ take-suc indexes i _ below)
 
--- the home of a file that an index isn't of stays
+-- The home of a file doesn't change with an index of another file.
 pub other_file : (before : List BoundIndex) (index : BoundIndex) (file : ℕ) → nat_eq index.file file ≡ false
     → home_from 0 (before ++ index ∷ []) file ≡ home_from 0 before file
 other_file before index file other = home_from-push 0 before index file ∙ rw other refl
@@ -27,7 +27,7 @@ pub own_file : (before : List BoundIndex) (index : BoundIndex) (file : ℕ) → 
     ≡ Some (least_so_far (home_from 0 before file) (home_at (length before) index))
 own_file before index file own = home_from-push 0 before index file ∙ rw (own, zero-add (length before)) refl
 
--- one more index
+-- One more index.
 pub least_put : (homes : List (Option Home)) (before : List BoundIndex) (index : BoundIndex) → AreLeast homes before
     → index.file < length homes
     → AreLeast (set homes index.file (Some (least_so_far (get_or homes index.file None)
@@ -60,7 +60,7 @@ pub least_skipped : (homes : List (Option Home)) (before : List BoundIndex) (ind
 least_skipped homes before index are outside = λ file below.
     are file below ∙ sym (other_file before index file (grind (arith, nat_tests, below, outside)))
 
--- the whole table
+-- The whole table.
 pub table_from : (indexes : List BoundIndex) (from : ℕ) (least : List (Option Home)) (files : List OpenedFile)
     → length files ≡ length least
     → ((i : ℕ) → i < length least → get_or least i None ≡ home_from 0 indexes (from + i))

@@ -1,4 +1,4 @@
--- Sources bound one after the other.
+-- Sources that are bound one after another.
 use Rattle.std.proofs.Common.{◌≡◌, ◌∙◌, Bool, true, false, List, [], ◌∷◌, ◌++◌, Result, Ok, Err, MatchBool, refl, ap}
 use Rattle.sound_terms.specs.declared.Event.{Event}
 use Rattle.work_terms.specs.Disk.{Files}
@@ -23,14 +23,14 @@ with_sources-append files events binding (source ∷ sources) more =
       by_first later (Ok next) e = rw e (later next)
       by_first later (Err refusal) e = rw e refl
 
--- one more source
+-- One more source.
 pub one_more : (files : Files) (events : List Event) (before next : Binding) (sources : List Source) (source : Source)
     → with_sources files events nothing_bound sources ≡ Ok before → with_source files events before source ≡ Ok next
     → with_sources files events nothing_bound (sources ++ source ∷ []) ≡ Ok next
 one_more files events before next sources source so_far step =
     with_sources-append files events nothing_bound sources (source ∷ []) ∙ rw (so_far, step) refl
 
--- the first source that is refused
+-- The first source that is refused.
 pub refused_at : (project : ListProject) (files : Files) (before : Binding) (sources more : List Source)
     (source : Source) (refusal : Refusal)
     → project.sources ≡ sources ++ source ∷ more

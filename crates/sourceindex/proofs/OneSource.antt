@@ -1,4 +1,4 @@
--- One more source: the file that it names is opened already, or is opened for it.
+-- One more source, whose file is already open or is opened for it.
 use Rattle.std.proofs.Common.{◌≡◌, ◌∙◌, ℕ, zero, suc, ◌<◌, Bool, true, false, not, bytes_eq, List, [], ◌∷◌, ◌++◌, length, Option, None, Some, Result, Ok, Err, MatchBool, refl, sym, ap, arith, ltb, ltb-true, option_map, unwrap_or}
 use Rattle.std.specs.List.{position, position_or_len, slice_get}
 use Rattle.std.proofs.lemmas.Bool.{not-false, not-true}
@@ -27,7 +27,7 @@ element_at [] i below = absurd (omega (arith, below))
 element_at (x ∷ xs) zero below = (x, refl)
 element_at (x ∷ xs) (suc i) below = element_at xs i (omega (arith, below))
 
--- a place that is found is one of the list
+-- A position that was found is within the list.
 found_within : {X : Type 0} (p : X → Bool) (xs : List X) (place : ℕ) → position p xs ≡ Some place → place < length xs
 found_within p xs place found = by_test (ltb (position_or_len p xs) (length xs)) refl where
   by_test : (within : Bool) → ltb (position_or_len p xs) (length xs) ≡ within → place < length xs
@@ -37,25 +37,25 @@ found_within p xs place found = by_test (ltb (position_or_len p xs) (length xs))
       omega (arith, same, ltb-true (position_or_len p xs) (length xs) within)
   by_test false past = let e : None ≡ Some place = sym (rw past refl) ∙ found in cc
 
--- the file that is found by its name
+-- The file found by its name.
 pub found_file : (name : List ℕ) (files : List OpenedFile) (place : ℕ) → file_named name files ≡ Some place
     → (file : OpenedFile) × (slice_get files place ≡ Some file)
 found_file name files place found =
     element_at files place (found_within (λ (f : OpenedFile). bytes_eq f.facts.name name) files place found)
 
--- the file that the place names is opened already
+-- The file is already open.
 module _ (binding : Binding) (source : Source) (place : Place) (file : ℕ)
     (found : file_named place.name binding.files ≡ Some file) where
   opened : (o : OpenedFile) × (slice_get binding.files file ≡ Some o)
   opened = found_file place.name binding.files file found
 
-  -- its own path and that of the place, as they were read
+  -- The paths of the file and of the source, as they were read.
   module _ (own other : List ℕ)
       (own_is : (o : OpenedFile) → slice_get binding.files file ≡ Some o → own ≡ o.path) (other_is : other ≡ place.path) where
     same_test : bytes_eq own other ≡ bytes_eq opened.0.path place.path
     same_test = ap (λ (p : List ℕ). bytes_eq p other) (own_is opened.0 opened.1) ∙ ap (bytes_eq opened.0.path) other_is
 
-    -- another path names the file
+    -- The source names the file by another path.
     pub known_refused : not (bytes_eq own other) ≡ true
         → with_known_file binding source place file (slice_get binding.files file)
         ≡ Err (record { number = 30; location = Index source.number; late = false })
@@ -80,7 +80,7 @@ same_number BadFormat = refl
 same_number BadDs64 = refl
 same_number WrongRate = refl
 
--- a file that is refused, by the number of its fault
+-- A refused file, by its fault number.
 refused_under : (name : List ℕ) (stored : Option (List ℕ)) (fault : MediaFault) → sound_of_file name stored ≡ Err fault
     → sound_under name stored ≡ Err (number_of fault)
 refused_under name None fault refused = let same : Err (number_of fault) ≡ Err 21 = let e = refused in cc in sym same
@@ -93,7 +93,7 @@ refused_under name (Some file) fault refused = by_sound (sound_of name file) ref
       let same : media_fault own ≡ fault = cc in
       rw e (ap Err (same_number own ∙ ap number_of same))
 
--- a file that is accepted
+-- An accepted file.
 accepted_under : (name : List ℕ) (stored : Option (List ℕ)) (facts : SoundFacts) → sound_of_file name stored ≡ Ok facts
     → sound_under name stored ≡ Ok facts
 accepted_under name None facts accepted = cc
@@ -103,11 +103,11 @@ accepted_under name (Some file) facts accepted = by_sound (sound_of name file) r
       rw e (ap Ok same)
   by_sound (Err own) e = let h : Err (media_fault own) ≡ Ok facts = sym (ap as_media e) ∙ accepted in cc
 
--- the name that is told is the one that the URL has
+-- The reported name is the one in the URL.
 named : (source : Source) (place : Place) → place_of_url source.url ≡ Some place → name_of_source source ≡ place.name
 named source place url = ap (λ p. unwrap_or (option_map (λ (x : Place). x.name) p) []) url
 
--- the file of the source is refused
+-- The file of the source is refused.
 pub new_refused : (files : Files) (binding : Binding) (source : Source) (place : Place) (fault : MediaFault)
     → place_of_url source.url ≡ Some place
     → MatchBool (is_excused (number_of fault)) (Unit {0}) (sound_of_file place.name (files place.name) ≡ Err fault)
@@ -122,7 +122,7 @@ new_refused files binding source place fault url told = by_kind (is_excused (num
       let name = named source place url in
       rw (under, name) refl
 
--- the file of the source is opened
+-- The file of the source is opened.
 pub new_added : (files : Files) (binding : Binding) (source : Source) (place : Place) (facts : SoundFacts)
     → sound_of_file place.name (files place.name) ≡ Ok facts
     → bound_to_new files binding source place
@@ -131,11 +131,11 @@ pub new_added : (files : Files) (binding : Binding) (source : Source) (place : P
 new_added files binding source place facts opened = let under =
     accepted_under place.name (files place.name) facts opened in rw under refl
 
--- a binding of these parts
+-- A binding with these parts.
 abbrev pub bound_parts : List OpenedFile → List BoundIndex → List Notice → Binding
 bound_parts files indexes notices = record { files = files; indexes = indexes; notices = notices }
 
--- the index is added behind the new file
+-- The index is added after the new file.
 pub pushed_new : (binding new : Binding) (files : List OpenedFile) (opened : OpenedFile) (file : ℕ) (source : Source)
     → files ≡ binding.files ++ opened ∷ [] → file ≡ length binding.files
     → ((o : OpenedFile) → slice_get files file ≡ Some o

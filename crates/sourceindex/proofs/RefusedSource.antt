@@ -1,4 +1,4 @@
--- What is told where a source of a project is refused.
+-- Facts about a source of a project that is refused.
 use Rattle.std.proofs.Common.{◌≡◌, ◌∙◌, ◌⊎◌, ◌+◌, ◌<◌, ◌∷◌, ◌++◌, List, ℕ, MatchBool, Ok, Err, Some, add-one, ap, drop, drop-cons, get_or, length, refl, subst, sym, take, take-append-drop, true}
 use Rattle.std.specs.List.{list_all, slice_get}
 use Rattle.std.proofs.lemmas.Option.{slice_get_read}
@@ -24,7 +24,7 @@ module _ (project : ListProject) (sources : List Source) (place : ℕ) (source :
   there : slice_get sources place ≡ Some source
   there = slice_get_read sources (length sources) place source refl below read
 
-  -- the project is refused for it
+  -- The project is refused because of it.
   pub refused_there : (files : Files) (before : Binding)
       → with_sources files project.events nothing_bound (take place sources) ≡ Ok before
       → MatchBool (is_excused (refusal_of_source source named.fault).number) (Unit {0})
@@ -42,13 +42,13 @@ module _ (project : ListProject) (sources : List Source) (place : ℕ) (source :
       (refusal_of_source source named.fault) cut so_far told))
 
   module _ (whole : list_all is_source sources ≡ true) where
-    -- it is one of the project's
+    -- The source belongs to the project.
     pub owned_there : (named.fault ≡ Media media.Memory) ⊎ (is_used project.events source.number ≡ true)
         → IsOfProject project fault
     owned_there used =
         subst (IsOfProject project) (sym is) (own_index project sources place source named listed whole there name used)
 
-    -- no source before it is refused
+    -- No source before it is refused.
     pub first_there : (files : Files) (before : Binding)
         → with_sources files project.events nothing_bound (take place sources) ≡ Ok before → ComesFirst project files fault
     first_there files before so_far =

@@ -1,4 +1,4 @@
--- The number and the place of each fault of binding.
+-- Refusals of binding.
 use Rattle.std.specs.Prelude.{ℕ, List, [], false, Option, None, Some, option_map, string_bytes, unwrap_or}
 use Rattle.std.specs.declared.string.String.{String}
 use Rattle.std.specs.Global.{Global}
@@ -12,27 +12,29 @@ use Rattle.sourceindex.specs.declared.fault.SourceFault.TheVariants as of_source
 use Rattle.sourceindex.specs.declared.fault.BindFault.{BindFault}
 use Rattle.sourceindex.specs.declared.fault.BindFault.TheVariants.{SameName, Media}
 
--- the name of the file that a source's URL names
+-- The name of the file that a source's URL gives.
 abbrev pub name_of_source : Source → List ℕ
 name_of_source source = unwrap_or (option_map (λ place. place.name) (place_of_url source.url)) []
 
+-- The refusal of a source with this fault.
 abbrev pub refusal_of_source : Source → SourceFault → Refusal
 refusal_of_source source of_source.SameName = record { number = 30; location = Index source.number; late = false }
 refusal_of_source source (of_source.Media fault) =
     record { number = media.number_of fault; location = IndexFile source.number (name_of_source source); late = false }
 
--- the fault of the project at this index
+-- The project's fault, from an index's fault.
 abbrev pub at_index : ℕ → NamedFault → BindFault
 at_index index named = by_fault named.fault where
   by_fault : SourceFault → BindFault
   by_fault of_source.SameName = SameName index
   by_fault (of_source.Media fault) = Media index named.name fault
 
--- an index, and the name of its file, where there was memory for it
+-- The location of a fault: an index and, if there was memory for it, the name of its file.
 abbrev pub file_at : ℕ → Option (String Global) → Where
 file_at index (Some name) = IndexFile index (string_bytes name)
 file_at index None = Index index
 
+-- The refusal of a project with this fault.
 abbrev pub refusal_of : BindFault → Refusal
 refusal_of (SameName index) = record { number = 30; location = Index index; late = false }
 refusal_of (Media index name fault) =

@@ -1,4 +1,4 @@
--- Opened files by their paths and sounds, and the place of each by its name.
+-- Opened files with their paths, and the position of each by name.
 use Rattle.std.specs.Prelude.{◌≡◌, ℕ, List, [], ◌∷◌, length}
 use Rattle.std.specs.BTreeMap.{BTreeMap, get_by_text}
 use Rattle.std.specs.declared.string.String.{String}
@@ -6,13 +6,14 @@ use Rattle.std.proofs.Common.{Global}
 use Rattle.sound_terms.specs.Sounds.{SoundFacts}
 use Rattle.list_terms.specs.Binding.{OpenedFile, file_named}
 
--- the files of these paths and sounds, one path a sound
+-- The files with these paths and sounds, in parallel lists.
 abbrev pub opened_of : List (List ℕ) → List SoundFacts → List OpenedFile
 opened_of paths [] = []
 opened_of [] (facts ∷ sounds) = record { path = []; facts = facts } ∷ opened_of [] sounds
 opened_of (path ∷ paths) (facts ∷ sounds) = record { path = path; facts = facts } ∷ opened_of paths sounds
 
--- there is a path for each sound, and each name has the place of the first file of that name
+-- The invariants of opened files: one path for each sound, and for each name the position of the first file with
+-- that name.
 pub record ArePlaced (paths : List (List ℕ)) (sounds : List SoundFacts)
     (places : BTreeMap (String Global) ℕ) : Type 0 where
   pub together : length paths ≡ length sounds

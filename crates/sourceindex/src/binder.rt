@@ -1,4 +1,4 @@
-// A binding in the making.
+// A binding under construction.
 ghost use Rattle.std.specs.Prelude.{◌≡◌, ◌^◌, ◌<◌, ◌⊎◌, IfErr, IsTrue, None, OnOk, Some, length, slice_get, string_bytes, true};
 ghost use Rattle.sound_terms.specs.Mix.{index_of};
 ghost use Rattle.devices.specs.Frame.{OnlyReads};
@@ -23,7 +23,7 @@ use std::alloc::{AllocError, Global};
 use std::marker::Model;
 use wavread::{MediaFault, Sound, open};
 
-/// What is bound so far.
+/// The files, indexes and notices bound so far.
 #[derive(Drop)]
 pub struct Binder {
     files: Files,
@@ -40,7 +40,7 @@ impl Model for Binder {
 }
 
 impl Binder {
-    /// Nothing is bound.
+    /// Returns an empty binding.
     pub fn new(alloc: Global) -> Self
         ensures { result ≡ nothing_bound }
     {
@@ -51,14 +51,14 @@ impl Binder {
         }
     }
 
-    /// The files that are opened.
+    /// Returns the files opened so far.
     pub fn sounds(&self) -> &[Sound]
         ensures { result.now ≡ sounds_of self.now }
     {
         self.files.sounds()
     }
 
-    /// The indexes that are bound.
+    /// Returns the indexes bound so far.
     pub fn indexes(&self) -> &[BoundIndex]
         ensures all { result.now ≡ self.now.indexes }
         ensures few { length result.now < 2 ^ 32 }
@@ -66,21 +66,21 @@ impl Binder {
         self.indexes.as_slice()
     }
 
-    /// The bound index of this number.
+    /// Returns the bound index with this number.
     pub fn index(&self, number: u32) -> Option<BoundIndex>
         ensures { result ≡ index_of self.now.indexes number }
     {
         self.indexes.find(number)
     }
 
-    /// What was told so far.
+    /// Returns the notices so far.
     pub fn notices(&self) -> &[Notice]
         ensures { result.now ≡ self.now.notices }
     {
         self.notices.as_slice()
     }
 
-    /// Hands out the name of the file at this place.
+    /// Returns the name of the file at this position, without copying.
     pub fn into_name(self, file: u32) -> String
         requires { file < length self.files }
         ensures { (opened : OpenedFile) → slice_get self.files file ≡ Some opened
@@ -89,7 +89,7 @@ impl Binder {
         self.files.into_name(file)
     }
 
-    /// Adds the index of this source, over the file at this place.
+    /// Adds the index of a source, bound to the file at this position.
     fn push_index(
         &mut self,
         alloc: Global,
@@ -106,7 +106,7 @@ impl Binder {
         tell(&mut self.notices, source, sound, is_new)
     }
 
-    /// Binds the index of this source to a file that is opened already.
+    /// Binds a source to a file that is already open. Returns an error if the source names another path.
     fn add_known(
         &mut self,
         alloc: Global,
@@ -128,7 +128,7 @@ impl Binder {
         Ok(())
     }
 
-    /// Opens the file of this place, and binds the index of this source to it.
+    /// Opens a file and binds a source to it.
     fn add_new<S: Shelf>(
         &mut self,
         alloc: Global,
@@ -151,7 +151,7 @@ impl Binder {
         Ok(())
     }
 
-    /// Binds the index of this source to the file of this place, which is opened where it isn't yet.
+    /// Binds a source to the file at this location, which is opened if it isn't open yet.
     fn add_at<S: Shelf>(
         &mut self,
         alloc: Global,
@@ -173,7 +173,7 @@ impl Binder {
         }
     }
 
-    /// Binds the index of this source to the file that its URL names.
+    /// Binds a source to the file that its URL names.
     fn add<S: Shelf>(
         &mut self,
         alloc: Global,
@@ -198,7 +198,7 @@ impl Binder {
         }
     }
 
-    /// Takes one more source of the project: its index is bound where an entry names it, and else told as unused.
+    /// Adds a source: binds it if an entry names it, or else adds a notice.
     pub fn take<S: Shelf>(
         &mut self,
         alloc: Global,

@@ -13,11 +13,11 @@ use adlmodel::Project;
 use devices::Shelf;
 use std::alloc::Global;
 
-/// Binds each index that an entry names, in the order of the source index: the file that its URL names is opened, once
-/// for all indexes that name it. No other file is opened.
+/// Binds each index that an entry names, in the order of SOURCE_INDEX. Each file is opened once, even if several
+/// indexes name it; other files aren't opened.
 ///
-/// `SameName` where an earlier index names the file by another path. `Media` where the file isn't accepted, with
-/// `Device` where a read fails, and `Memory` where no memory was left, also to tell of an index that no entry names.
+/// Returns `SameName` if an earlier index names the file by another path, and `Media` if the file isn't accepted,
+/// if the device fails or if out of memory.
 pub fn bind<S: Shelf>(alloc: Global, project: &Project, shelf: &mut S) -> Result<Bound, BindFault>
     ensures exact { IsTrue (S.honest shelf.old)
         → Gives (λ bound. bound) refusal_of (λ refusal. refusal.number) result

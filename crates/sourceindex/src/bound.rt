@@ -1,4 +1,4 @@
-// What a project is bound to.
+// Bound projects.
 ghost use Rattle.std.specs.Prelude.{◌≡◌, ◌^◌, ◌<◌, ◌≤◌, IfOk, IfSome, IsSome, Some, length, slice_get, string_bytes};
 ghost use Rattle.sound_terms.specs.Homes.{addressable_by};
 ghost use Rattle.sound_terms.specs.Mix.{index_of};
@@ -14,13 +14,13 @@ use std::alloc::{AllocError, Global};
 use std::marker::Model;
 use wavread::Sound;
 
-/// What the used indexes of a project are bound to: their files, each opened once, in the order in which the indexes
-/// name them; the base and the addressable frames of each index; and what their user should know of.
+/// A binding of a project: the files of its used indexes, each opened once, in the order of the indexes; the base
+/// and the reach of each index in sample frames; and notices.
 pub struct Bound {
     binder: Binder,
 }
 
-// Written out, so that it is one call where it is dropped.
+// Written by hand so that callers drop it with a single call.
 impl Drop for Bound {
     fn drop(self) {
         let Bound { binder } = self;
@@ -40,7 +40,7 @@ impl Model for Bound {
 }
 
 impl Bound {
-    /// What was bound.
+    /// Wraps a binding whose invariants hold.
     pub(crate) fn of(binder: Binder) -> Self
         requires { IsBinding binder }
         ensures { result ≡ binder }
@@ -48,7 +48,7 @@ impl Bound {
         Bound { binder }
     }
 
-    /// The files, in the order in which they were opened. An index names its file by its place here.
+    /// Returns the files in the order in which they were opened. Indexes refer to them by position.
     pub fn sounds(&self) -> &[Sound]
         ensures sounds { result.now ≡ sounds_of self.now }
         ensures bound { IsBinding self.now }
@@ -56,7 +56,7 @@ impl Bound {
         self.binder.sounds()
     }
 
-    /// The bound indexes, in the order of their sources.
+    /// Returns the bound indexes in the order of their sources.
     pub fn indexes(&self) -> &[BoundIndex]
         ensures indexes { result.now ≡ self.now.indexes }
         ensures few { length result.now < 2 ^ 32 }
@@ -65,7 +65,7 @@ impl Bound {
         self.binder.indexes()
     }
 
-    /// The bound index of this number, by a table.
+    /// Returns the bound index with this number, in constant time.
     pub fn index(&self, number: u32) -> Option<BoundIndex>
         ensures index { result ≡ index_of self.now.indexes number }
         ensures bound { IfSome result (IsBoundTo self.now.files) }
@@ -74,7 +74,7 @@ impl Bound {
         self.binder.index(number)
     }
 
-    /// Hands out the name of a file, by its place among those opened.
+    /// Returns the name of the file at this position, without copying.
     pub fn into_name(self, file: u32) -> String
         requires there { IsSome (slice_get (sounds_of self) file) }
         ensures { (facts : SoundFacts) → slice_get (sounds_of self) file ≡ Some facts
@@ -84,24 +84,25 @@ impl Bound {
         binder.into_name(file)
     }
 
-    /// 3 for an index that no entry names, 4 for one whose base isn't its file's, and at the first index of a file 5
-    /// where its `bext` is too short, 6 where it has chunks that aren't carried, 7 where the end of its CodingHistory
-    /// isn't.
+    /// Returns the notices of binding, by index number. Kind 3: no entry names the index. Kind 4: its base isn't
+    /// the TimeReference of the file's `bext`. For the first index of a file, kind 5: the `bext` is too short; 6:
+    /// some chunks aren't carried over; 7: the end of the CodingHistory isn't carried over.
     pub fn notices(&self) -> &[Notice]
         ensures { result.now ≡ self.now.notices }
     {
         self.binder.notices()
     }
 
-    /// The home index of a file, by its place among those opened: of its bound indexes the first of those with the least
-    /// base. `None` behind the last file.
+    /// Returns the home index of the file at this position: the first of its indexes with the smallest base.
+    /// Returns `None` past the last file.
     pub fn home(&self, file: u32) -> Option<Home>
         ensures { result ≡ home_from 0 self.now.indexes file }
     {
         home_among(self.indexes(), file)
     }
 
-    /// The home index of each file: of its bound indexes the first of those with the least base.
+    /// Returns the home index of each file: the first of its indexes with the smallest base. Returns `AllocError`
+    /// if out of memory.
     pub fn homes(&self, alloc: Global) -> Result<Homes, AllocError>
         ensures { IfOk result (λ homes. homes ≡ homes_of self.now) }
     {

@@ -1,4 +1,4 @@
-// The indexes that are bound, each found by its number.
+// The bound indexes, with a table by number. `find` is equal to a linear search.
 ghost use Rattle.std.specs.Prelude.{◌≡◌, ◌^◌, ◌<◌, length, ℕ, List, [], ◌∷◌, ◌++◌, IfOk, is_ok, if◌then◌else◌, None, slice_index_or};
 ghost use Rattle.sound_terms.specs.Mix.{index_of};
 ghost use Rattle.sound_terms.specs.declared.BoundIndex.{BoundIndex};
@@ -8,13 +8,13 @@ use sound_terms::BoundIndex;
 use std::alloc::{AllocError, Global};
 use std::marker::Model;
 
-/// The numbers below this one have a place in the table: all that a list spells.
+/// The length of the table. A list has no higher index numbers.
 const PLACES: usize = 32_768;
 
-/// The most indexes: the place of each fits 32 bits.
+/// The maximum number of indexes, whose positions fit in 32 bits.
 const MOST: usize = 4_294_967_295;
 
-/// The indexes that are bound so far, in the order of their sources.
+/// The indexes bound so far, in the order of their sources.
 #[derive(Drop)]
 pub struct BoundIndexes {
     indexes: Vec<BoundIndex>,
@@ -34,7 +34,7 @@ impl Model for BoundIndexes {
         × (length bound.indexes.items < 2 ^ 32) };
 }
 
-/// A table of so many numbers, none of which has a place.
+/// Returns a table of `count` numbers without positions.
 fn no_places(alloc: Global, count: usize) -> Result<Vec<Option<usize>>, AllocError>
     ensures { IfOk result (λ places. (n : ℕ) → slice_index_or places.items n None ≡ None) }
 {
@@ -42,7 +42,7 @@ fn no_places(alloc: Global, count: usize) -> Result<Vec<Option<usize>>, AllocErr
 }
 
 impl BoundIndexes {
-    /// No index. The table is made with the first one.
+    /// Returns an empty list. The table is allocated with the first index.
     pub fn new(alloc: Global) -> Self
         ensures { result ≡ [] }
     {
@@ -52,7 +52,7 @@ impl BoundIndexes {
         }
     }
 
-    /// All of them.
+    /// Returns all indexes.
     pub fn as_slice(&self) -> &[BoundIndex]
         ensures all { result.now ≡ self.now }
         ensures few { length result.now < 2 ^ 32 }
@@ -60,7 +60,7 @@ impl BoundIndexes {
         self.indexes.as_slice()
     }
 
-    /// The first index of this number. One that the table doesn't hold is sought among all.
+    /// Returns the first index with this number. Numbers outside the table are found by a linear search.
     pub fn find(&self, number: u32) -> Option<BoundIndex>
         ensures { result ≡ index_of self.now number }
     {
@@ -75,7 +75,7 @@ impl BoundIndexes {
         Some(self.indexes[position])
     }
 
-    /// Makes the table where there is no index yet.
+    /// Allocates the table before the first index.
     fn make_places(&mut self, alloc: Global) -> Result<(), AllocError>
         ensures { self.new ≡ self.old }
     {
@@ -85,8 +85,8 @@ impl BoundIndexes {
         Ok(())
     }
 
-    /// Adds an index behind the others. An error leaves them as they were; it also stands for more than 32 bits can
-    /// number.
+    /// Appends an index. Returns `AllocError` if out of memory or if there are 2^32 - 1 indexes already, and then
+    /// leaves them unchanged.
     pub fn push(&mut self, alloc: Global, index: BoundIndex) -> Result<(), AllocError>
         ensures { self.new ≡ (if is_ok result then self.old ++ index ∷ [] else self.old) }
     {

@@ -1,4 +1,4 @@
-// Why a project isn't bound.
+// Errors of binding.
 ghost use Rattle.std.specs.Prelude.{◌≡◌, ◌≤◌, None, Some, option_map, string_bytes};
 ghost use Rattle.riff.specs.declared.fault.MediaFault.TheVariants as media;
 ghost use Rattle.sourceindex.specs.declared.fault.SourceFault.TheVariants as of_source;
@@ -9,13 +9,13 @@ use std::alloc::AllocError;
 use thiserror::Error;
 use wavread::MediaFault;
 
-/// Why an index isn't bound.
+/// The reason why an index can't be bound.
 #[derive(Clone, Copy, Debug, PartialEq, Eq, Error)]
 pub enum SourceFault {
-    /// Another path names its file in an earlier index.
+    /// An earlier index names the file by another path.
     #[error("another path names its file")]
     SameName,
-    /// Its file isn't accepted, the device failed, or no memory was left.
+    /// The file isn't accepted, the device failed, or out of memory.
     #[error("{0}")]
     Media(MediaFault),
 }
@@ -37,7 +37,7 @@ impl From<AllocError> for SourceFault {
 }
 
 impl SourceFault {
-    /// The fault with the name of the file at this place.
+    /// Attaches the name of the file at this location.
     pub fn at(self, location: Place) -> NamedFault
         ensures fault { result.fault ≡ self }
         ensures name { option_map string_bytes result.name ≡ Some location.name }
@@ -49,7 +49,7 @@ impl SourceFault {
     }
 }
 
-/// Why an index isn't bound, and the name of its file; `None` where no memory was left.
+/// The reason why an index can't be bound, and the name of its file (`None` if out of memory).
 #[derive(Debug, Drop)]
 pub struct NamedFault {
     pub fault: SourceFault,
@@ -68,7 +68,7 @@ impl From<AllocError> for NamedFault {
 }
 
 impl NamedFault {
-    /// The fault of the project at the index of this number.
+    /// Attaches the number of the index.
     pub fn of_index(self, index: u32) -> BindFault
         ensures { result ≡ at_index index self }
     {
@@ -80,16 +80,16 @@ impl NamedFault {
     }
 }
 
-/// Why a project isn't bound, by the first index at fault.
+/// The reason why a project can't be bound: the first faulty index.
 #[derive(Debug, Drop, Error)]
 pub enum BindFault {
-    /// 30: another path names the index's file in an earlier index.
+    /// 30: an earlier index names the file by another path.
     #[error("index {index}: another path names its file")]
     SameName {
         index: u32,
     },
-    /// 21 to 29: the index's file, of this media name, isn't accepted, or 22 where its device failed; 31 where no memory
-    /// was left, be it for the name, which is `None` then alone.
+    /// 21 to 29: the file of the index isn't accepted; 22 if its device failed; 31 if out of memory. The name is
+    /// `None` only if there was no memory for it.
     #[error("index {index}: {fault}")]
     Media {
         index: u32,
@@ -99,7 +99,7 @@ pub enum BindFault {
 }
 
 impl BindFault {
-    /// The number of the refusal: 21 to 31.
+    /// Returns the refusal number, 21 to 31.
     pub fn number(&self) -> u8
         ensures number { result ≡ (refusal_of self.now).number }
         ensures within { (21 ≤ result) × (result ≤ 31) }

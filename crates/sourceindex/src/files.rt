@@ -1,4 +1,4 @@
-// The files that are opened, each found by its name.
+// Opened files, with a lookup by name.
 ghost use Rattle.std.specs.Prelude.{◌≡◌, ◌<◌, ◌∷◌, ◌++◌, [], IfOk, None, OnErr, OnOk, Some, length, map, slice_get, string_bytes};
 ghost use Rattle.list_terms.specs.Binding.{OpenedFile, file_named};
 
@@ -8,7 +8,7 @@ use std::collections::BTreeMap;
 use std::marker::Model;
 use wavread::Sound;
 
-/// Sound files in the order in which they were opened, each with the path that names it.
+/// Opened sound files in the order of opening, with the paths that name them.
 #[derive(Drop)]
 pub struct Files {
     sounds: Vec<Sound>,
@@ -29,7 +29,7 @@ impl Model for Files {
 }
 
 impl Files {
-    /// No file.
+    /// Returns an empty set of files.
     pub fn new(alloc: Global) -> Self
         ensures { result ≡ [] }
     {
@@ -40,14 +40,14 @@ impl Files {
         }
     }
 
-    /// The place of the file of this name, from 0.
+    /// Returns the position of the file with this name, from 0.
     pub fn position(&self, name: &str) -> Option<u32>
         ensures { result ≡ file_named name.now self.now }
     {
         self.places.get(name).copied()
     }
 
-    /// The path of the file at this place.
+    /// Returns the path of the file at this position.
     pub fn path(&self, position: u32) -> &[u8]
         requires { position < length self.now }
         ensures { (file : OpenedFile) → slice_get self.now position ≡ Some file → result.now ≡ file.path }
@@ -55,7 +55,7 @@ impl Files {
         self.paths[position as usize].as_slice()
     }
 
-    /// The file at this place.
+    /// Returns the file at this position.
     pub fn sound(&self, position: u32) -> &Sound
         requires { position < length self.now }
         ensures { (file : OpenedFile) → slice_get self.now position ≡ Some file → result.now ≡ file.facts }
@@ -63,14 +63,14 @@ impl Files {
         &self.sounds[position as usize]
     }
 
-    /// All of them.
+    /// Returns all files.
     pub fn sounds(&self) -> &[Sound]
         ensures { result.now ≡ map (λ file. file.facts) self.now }
     {
         self.sounds.as_slice()
     }
 
-    /// Hands out the name of the file at this place.
+    /// Returns the name of the file at this position, without copying.
     pub fn into_name(self, position: u32) -> String
         requires { position < length self }
         ensures { (file : OpenedFile) → slice_get self position ≡ Some file → string_bytes result ≡ file.facts.name }
@@ -79,8 +79,8 @@ impl Files {
         sounds.swap_remove(position as usize).into_name()
     }
 
-    /// Adds a file behind the others, and gives its place. An error leaves them as they were; it also stands for more
-    /// files than 32 bits can number.
+    /// Appends a file and returns its position. Returns `AllocError` if out of memory or if there are 2^32 files
+    /// already, and then leaves the files unchanged.
     pub fn push(&mut self, alloc: Global, path: Bytes, sound: Sound) -> Result<u32, AllocError>
         requires missing { file_named sound.name self.old ≡ None }
         ensures position { IfOk result (λ position. position ≡ length self.old) }

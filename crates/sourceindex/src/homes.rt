@@ -1,4 +1,4 @@
-// The home index of each file.
+// The home index of each file. `homes_by` is equal to calling `home_among` for each file, but takes one pass.
 ghost use Rattle.std.specs.Prelude.{◌≡◌, ◌^◌, ◌<◌, List, [], IfOk, length, map, unwrap_or};
 ghost use Rattle.list_terms.specs.Binding.{OpenedFile};
 ghost use Rattle.list_terms.specs.BoundHomes as spec;
@@ -8,14 +8,14 @@ ghost use Rattle.sourceindex.specs.Homes.{AreLeast, least_so_far};
 use sound_terms::{BoundIndex, Home};
 use std::alloc::{AllocError, Global};
 
-/// Of a file without an index, which no binding has.
+/// The home of a file without an index, which no binding has.
 const NO_HOME: Home = Home {
     base: 0,
     addressable: 0,
     position: 0,
 };
 
-/// So many files without a home.
+/// Returns `files` files without homes.
 fn no_homes(alloc: Global, files: usize) -> Result<Vec<Option<Home>>, AllocError>
     ensures none { IfOk result (λ homes. AreLeast homes.items []) }
     ensures count { IfOk result (λ homes. length homes.items ≡ files) }
@@ -23,7 +23,7 @@ fn no_homes(alloc: Global, files: usize) -> Result<Vec<Option<Home>>, AllocError
     vec![in alloc; None; files]
 }
 
-/// Of the home so far and a later one that with the lesser base, of equal ones the first.
+/// Returns the home with the smaller base, or the earlier one if the bases are equal.
 fn least(home: Option<Home>, later: Home) -> Home
     ensures { result ≡ least_so_far home later }
 {
@@ -33,7 +33,6 @@ fn least(home: Option<Home>, later: Home) -> Home
     }
 }
 
-/// What an index tells that stands at this place among those bound.
 fn home_at(position: u32, index: &BoundIndex) -> Home
     ensures { result ≡ spec.home_at position index.now }
 {
@@ -44,7 +43,7 @@ fn home_at(position: u32, index: &BoundIndex) -> Home
     }
 }
 
-/// The first with the least base of the indexes of this file; `None` where it has no index.
+/// Returns the home index of a file: the first of its indexes with the smallest base, or `None` if it has none.
 pub fn home_among(indexes: &[BoundIndex], file: u32) -> Option<Home>
     requires { length indexes.now < 2 ^ 32 }
     ensures { result ≡ spec.home_from 0 indexes.now file }
@@ -58,8 +57,8 @@ pub fn home_among(indexes: &[BoundIndex], file: u32) -> Option<Home>
     home
 }
 
-/// The first with the least base of the indexes of each file; `None` where a file has no index. The error also stands
-/// for more indexes than 32 bits can number.
+/// Returns the home index of each file, or `None` for files without an index. Returns an error if out of memory or
+/// if positions don't fit in 32 bits.
 fn least_homes(
     alloc: Global,
     indexes: &[BoundIndex],
@@ -82,7 +81,7 @@ fn least_homes(
     Ok(homes)
 }
 
-/// The homes of files that have one each.
+/// Unwraps the homes of files that all have one.
 fn filled(alloc: Global, least: &[Option<Home>]) -> Result<Vec<Home>, AllocError>
     ensures { IfOk result (λ homes. homes.items ≡ map (λ home. unwrap_or home no_home) least.now) }
 {
@@ -92,7 +91,7 @@ fn filled(alloc: Global, least: &[Option<Home>]) -> Result<Vec<Home>, AllocError
         .collect(alloc)
 }
 
-/// The home of each of so many files, by the indexes that are bound to them.
+/// Returns the home of each of the first `files` files.
 pub fn homes_by(
     alloc: Global,
     indexes: &[BoundIndex],

@@ -1,4 +1,5 @@
-//! Which file each used index of a project is bound to, from which time on, and with how many frames.
+//! The binding of a project to its files: for each used index the file, the time of its first sample frame, and the
+//! number of sample frames in reach.
 #![tactic(auto)]
 
 mod binder;

@@ -1,4 +1,4 @@
-// What an index tells of its file: the time of the first frame, what can be addressed, and notices.
+// An index and its file: the time of the first sample, the reach, and notices.
 ghost use Rattle.std.specs.Prelude.{◌≡◌, ◌++◌, OnOk};
 ghost use Rattle.list_terms.specs.Binding as spec;
 ghost use Rattle.list_terms.specs.Binding.{addressable_from, notice_if};
@@ -11,7 +11,6 @@ use sound_terms::BoundIndex;
 use std::alloc::AllocError;
 use wavread::Sound;
 
-/// The time reference of the file's `bext`, where it has one.
 fn time_reference(sound: &Sound) -> Option<u64>
     ensures { result ≡ sound.now.time_reference }
 {
@@ -21,7 +20,8 @@ fn time_reference(sound: &Sound) -> Option<u64>
     }
 }
 
-/// The time of the file's first frame: the index's, else that of the file's `bext` (EBU Tech 3285), else midnight.
+/// Returns the time of the file's first sample: the index's in, or else the TimeReference of the file's `bext` (EBU
+/// Tech 3285), or else midnight.
 fn base_of(source: &Source, sound: &Sound) -> u64
     ensures { result ≡ spec.base_of source.now sound.now }
 {
@@ -31,7 +31,7 @@ fn base_of(source: &Source, sound: &Sound) -> u64
     }
 }
 
-/// The source's index over the file at this place, with the frames from the first on up to the day's end.
+/// Returns the index of a source, bound to the file at this position. Its reach ends with the file or the day.
 pub fn index_over(source: &Source, sound: &Sound, file: u32) -> BoundIndex
     ensures { result ≡ record {
       number = source.now.number;
@@ -50,7 +50,7 @@ pub fn index_over(source: &Source, sound: &Sound, file: u32) -> BoundIndex
     }
 }
 
-/// Adds a notice of this kind at an index where it is told.
+/// Adds a notice at an index if `is_reported` is set.
 pub fn tell_if(
     notices: &mut Vec<Notice>,
     is_reported: bool,
@@ -68,7 +68,7 @@ pub fn tell_if(
     Ok(())
 }
 
-/// Whether the file tells another time of its first frame than the index has.
+/// Returns whether the file's TimeReference differs from the base of the index.
 fn tells_other_base(source: &Source, sound: &Sound) -> bool
     ensures { result ≡ is_other_base source.now sound.now }
 {
@@ -78,7 +78,7 @@ fn tells_other_base(source: &Source, sound: &Sound) -> bool
     }
 }
 
-/// Adds the notices of an index over this file, and where the file is new those of the file.
+/// Adds the notices of an index and, if its file is new, those for the file.
 pub fn tell(
     notices: &mut Vec<Notice>,
     source: &Source,

@@ -1,4 +1,4 @@
-// The index numbers that the entries of a project name.
+// The set of index numbers that the entries of a project name. Equal to a search through the entries.
 ghost use Rattle.std.specs.Prelude.{◌≡◌, ◌<◌, ℕ, IfOk, length, slice_index_or, false};
 ghost use Rattle.list_terms.specs.Binding.{is_used};
 
@@ -6,18 +6,17 @@ use sound_terms::Event;
 use std::alloc::{AllocError, Global};
 use std::marker::Model;
 
-/// The numbers below this one have a flag: all that a list spells.
+/// The number of flags. A list has no higher index numbers.
 const FLAGS: usize = 32_768;
 
-/// So many flags, none of them set.
+/// Returns `count` cleared flags.
 fn cleared_flags(alloc: Global, count: usize) -> Result<Vec<bool>, AllocError>
     ensures { IfOk result (λ flags. (n : ℕ) → slice_index_or flags.items n false ≡ false) }
 {
     vec![in alloc; false; count]
 }
 
-/// The index numbers that some of these entries name. They are flagged, so that the entries aren't sought through for
-/// each number.
+/// The set of index numbers that some entries name, as one flag per number.
 #[derive(Drop)]
 pub struct UsedNumbers<'a> {
     events: &'a [Event],
@@ -35,7 +34,8 @@ impl<'a> Model for UsedNumbers<'a> {
 }
 
 impl<'a> UsedNumbers<'a> {
-    /// Flags the numbers that these entries name; none where there is no memory for flags.
+    /// Collects the numbers that the entries name. If there is no memory for flags, `contains` searches the entries
+    /// instead.
     pub fn new(alloc: Global, events: &'a [Event]) -> Self
         ensures { result ≡ events.now }
     {
@@ -52,7 +52,8 @@ impl<'a> UsedNumbers<'a> {
         UsedNumbers { events, flags }
     }
 
-    /// Whether some entry names the number. One without a flag is sought among the entries.
+    /// Returns whether some entry names the number. Numbers without a flag are found by a search through the
+    /// entries.
     pub fn contains(&self, number: u32) -> bool
         ensures { result ≡ is_used self.now number }
     {

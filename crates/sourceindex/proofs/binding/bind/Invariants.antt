@@ -5,7 +5,7 @@ use Rattle.list_terms.specs.Bound.{with_sources}
 use Rattle.list_terms.specs.BoundHomes.{IsBinding}
 use Rattle.sourceindex.proofs.binding.bind.Given as goal
 
--- the sources so far are bound
+-- The sources so far are bound.
 abbrev pub invariant-loop-source : goal.invariant-loop-source
 invariant-loop-source g l = record {
   so_far : IsTrue (g.S.Shelf.honest l.fn.shelf)

@@ -10,7 +10,7 @@ use Rattle.list_terms.specs.Heard.{sounds_of}
 use Rattle.sourceindex.proofs.HomeLaws.{are_homes}
 use Rattle.sourceindex.proofs.bound.Bound.homes.Goals as goal
 
--- the table by as many files as there are sounds is that of the binding
+-- The table for this number of files is the binding's.
 all_homes : (binding : Binding) (indexes : List BoundIndex) (sounds : List SoundFacts) (homes : List Home)
     → indexes ≡ binding.indexes → sounds ≡ sounds_of binding
     → ((opened : List OpenedFile) → length opened ≡ length sounds → homes ≡ homes_from indexes 0 opened)
