@@ -1,4 +1,4 @@
-// A project without a fault.
+// Checked projects.
 ghost use Rattle.std.specs.Prelude.{◌≡◌, IfOk, IsSome, None, Some, slice_get, string_bytes};
 ghost use Rattle.work_terms.specs.Refusals.{Answers};
 ghost use Rattle.sound_terms.specs.Sounds.{SoundFacts};
@@ -11,14 +11,14 @@ use adlmodel::Project;
 use sound_terms::Event;
 use sourceindex::Bound;
 
-/// A project and what it is bound to, with no entry at fault.
+/// A project and its binding, without a faulty entry.
 pub struct Checked {
     project: Project,
     bound: Bound,
     ghost accepted: { event_fault bound project.events ≡ None },
 }
 
-// Written out, so that it is one call where it is dropped.
+// Written by hand so that callers drop it with a single call.
 impl Drop for Checked {
     fn drop(self) {
         let Checked { project, bound } = self;
@@ -28,7 +28,7 @@ impl Drop for Checked {
 }
 
 impl Checked {
-    /// The project.
+    /// Returns the project.
     pub fn project(&self) -> &Project
         ensures lent { result.now ≡ self.now.project }
         ensures accepted { event_fault self.now.bound self.now.project.events ≡ None }
@@ -36,7 +36,7 @@ impl Checked {
         &self.project
     }
 
-    /// Hands out the name of a file, by its place among those opened.
+    /// Returns the name of the file at this position among the opened files, without copying.
     pub fn into_name(self, file: u32) -> String
         requires there { IsSome (slice_get (sounds_of self.bound) file) }
         ensures { (facts : SoundFacts) → slice_get (sounds_of self.bound) file ≡ Some facts
@@ -47,7 +47,7 @@ impl Checked {
         bound.into_name(file)
     }
 
-    /// What it is bound to.
+    /// Returns the binding.
     pub fn bound(&self) -> &Bound
         ensures { result.now ≡ self.now.bound }
     {
@@ -55,7 +55,7 @@ impl Checked {
     }
 }
 
-/// Checks the entries in their order. The first that is at fault is told.
+/// Checks the entries in order and returns the first fault.
 fn check_entries(bound: &Bound, events: &[Event]) -> Result<(), EventFault>
     ensures { Answers refusal_of result (event_fault bound.now events.now) }
 {
@@ -70,7 +70,7 @@ fn check_entries(bound: &Bound, events: &[Event]) -> Result<(), EventFault>
     Ok(())
 }
 
-/// The project with what it is bound to, where no entry is at fault. The first that is, in their order, is told.
+/// Checks each entry of a project against its binding. Returns the fault of the first faulty entry, in list order.
 pub fn check(project: Project, bound: Bound) -> Result<Checked, EventFault>
     ensures exact { Answers refusal_of result (event_fault bound project.events) }
     ensures lends { IfOk result (λ checked. (checked.project ≡ project) × (checked.bound ≡ bound)) }

@@ -1,4 +1,4 @@
-// What is wrong with an entry of a bound project.
+// Faults of an entry of a bound project.
 ghost use Rattle.std.specs.Prelude.{◌≡◌, option_map};
 ghost use Rattle.list_terms.specs.Accepted as list;
 ghost use Rattle.projectcheck.specs.Fault.{number_of};
@@ -8,9 +8,13 @@ use sound_terms::{BoundIndex, Event};
 use sourceindex::Bound;
 use wavread::Sound;
 
-/// What is wrong with an entry: its index isn't bound, it ends before it starts, its fades are longer than it is, its
-/// file has no such channel, or not all frames that it plays can be addressed. The first of these is told; `None` where
-/// it has no fault.
+/// Returns the fault of an entry, or `None` if it has none. Of several faults the first one in this order is
+/// returned:
+/// - 41: its index isn't bound.
+/// - 42: it ends before it starts.
+/// - 43: its fades are longer than the entry.
+/// - 44: its file has no such channel.
+/// - 46: its index can't address all samples that it plays.
 pub fn fault_of(bound: &Bound, event: &Event) -> Option<EntryFault>
     ensures { option_map number_of result ≡ list.entry_fault bound.now event.now }
 {
@@ -20,7 +24,6 @@ pub fn fault_of(bound: &Bound, event: &Event) -> Option<EntryFault>
     }
 }
 
-/// What is wrong with an entry of this index, which is bound to this file.
 fn span_fault(index: BoundIndex, sound: &Sound, event: &Event) -> Option<EntryFault>
     ensures { option_map number_of result ≡ list.span_fault index sound.now event.now }
 {
@@ -40,7 +43,7 @@ fn span_fault(index: BoundIndex, sound: &Sound, event: &Event) -> Option<EntryFa
     None
 }
 
-/// Whether the frames that an entry plays don't all lie in those that its index can address.
+/// Returns whether an entry plays a sample frame that its index can't address.
 fn is_outside(index: BoundIndex, event: &Event) -> bool
     ensures { result ≡ list.is_outside index event.now }
 {

@@ -1,31 +1,31 @@
-// What is wrong with the entries of a project.
+// Errors of checking entries.
 ghost use Rattle.std.specs.Prelude.{◌≡◌};
 ghost use Rattle.projectcheck.specs.Fault.{number_of, refusal_of};
 
 use thiserror::Error;
 
-/// What is wrong with an entry, in the order in which it is told.
+/// A fault of an entry, in the order of precedence.
 #[derive(Clone, Copy, Debug, PartialEq, Eq, Error)]
 pub enum EntryFault {
-    /// 41
+    /// 41: no source has the number of its index.
     #[error("no source has the index's number")]
     UnknownIndex,
-    /// 42
+    /// 42: it ends before it starts.
     #[error("it ends before it starts")]
     EndBeforeStart,
-    /// 43
+    /// 43: its fades are longer than the entry.
     #[error("its fades are longer than it is")]
     FadesTooLong,
-    /// 44
+    /// 44: its file has no such channel.
     #[error("its file has no such channel")]
     SourceChannel,
-    /// 46
+    /// 46: its index can't address all samples that it plays.
     #[error("its file doesn't have all the frames that it plays")]
     SpanOutside,
 }
 
 impl EntryFault {
-    /// The number of the refusal: 41 to 44, or 46.
+    /// Returns the refusal number: 41 to 44, or 46.
     pub fn number(&self) -> u8
         ensures { result ≡ number_of self.now }
     {
@@ -39,7 +39,7 @@ impl EntryFault {
     }
 }
 
-/// The first entry that is at fault, by its number, and what is wrong with it.
+/// The first faulty entry, by its number, and its fault.
 #[derive(Clone, Copy, Debug, PartialEq, Eq, Error)]
 #[error("entry {entry}: {fault}")]
 pub struct EventFault {
@@ -48,7 +48,7 @@ pub struct EventFault {
 }
 
 impl EventFault {
-    /// The number of the refusal: 41 to 44, or 46.
+    /// Returns the refusal number: 41 to 44, or 46.
     pub fn number(&self) -> u8
         ensures { result ≡ (refusal_of self.now).number }
     {

@@ -1,4 +1,4 @@
-//! A project that was checked against its files.
+//! The check of a project against its files.
 #![tactic(auto)]
 
 mod checked;

@@ -8,7 +8,7 @@ use Rattle.projectcheck.specs.declared.fault.EntryFault.TheVariants.{UnknownInde
 use Rattle.projectcheck.specs.Fault.{number_of, refusal_of}
 use Rattle.projectcheck.proofs.checked.check_entries.Goals as goal
 
--- no fault of an entry is excused
+-- No fault of an entry is an out-of-memory or device failure.
 is_due : (entry : ℕ) (fault : EntryFault) (due : Option Refusal)
     → due ≡ Some (refusal_of (record { entry = entry; fault = fault }))
     → IsDue (refusal_of (record { entry = entry; fault = fault })) due
@@ -18,7 +18,7 @@ is_due entry FadesTooLong due same = same
 is_due entry SourceChannel due same = same
 is_due entry SpanOutside due same = same
 
--- the first entry's fault comes first
+-- A fault of the first entry is the first fault.
 fault_here : (binding : Binding) (event : Event) (events : List Event) (number : ℕ)
     → entry_fault binding event ≡ Some number
     → event_fault binding (event ∷ events) ≡ Some (entry_refusal event number)
