@@ -1,4 +1,4 @@
--- The runs of spans that were put in order are the maximal runs of all kept frames.
+-- The runs of sorted spans are the maximal runs of all kept sample frames.
 use Rattle.std.proofs.Common.{◌≡◌, ℕ, suc, List, [], ◌∷◌, sym, ap, ◌∙◌, arith}
 use Rattle.std.specs.List.{All, flat_map}
 use Rattle.std.specs.List.Sorted.{IsNonDecreasingBy, IsPermutation}
@@ -16,7 +16,7 @@ use Rattle.mediaset.proofs.Gathered.{gathered_are, has_gathered}
 use Rattle.mediaset.proofs.InOrder.{Rises, merged_runs}
 use Rattle.mediaset.proofs.SpansKept.{all_spans, pieces_kept}
 
--- keys that don't fall, one after the other
+-- Keys that don't decrease.
 rises : (s : Span) (spans : List Span) → IsNonDecreasingBy (λ (t : Span). t.key) (s ∷ spans) → Rises s.key spans
 rises s [] order = tt
 rises s (t ∷ spans) order = (

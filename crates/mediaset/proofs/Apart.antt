@@ -1,4 +1,4 @@
--- Runs of kept frames, one behind the other.
+-- Laws of runs, one after another.
 use Rattle.std.proofs.Common.{◌≡◌, ◌≢◌, ℕ, zero, suc, ◌+◌, ◌-◌, ◌<◌, ◌≤◌, Bool, true, false, List, [], ◌∷◌, Some, refl, sym, ap, subst, ◌∙◌, ◌⊎◌, ⊎_elim, arith}
 use Rattle.std.specs.Prelude.{◌==◌, ◌&&◌, ◌||◌, nat_le, nat_lt, Contains}
 use Rattle.std.specs.List.{slice_get}
@@ -10,21 +10,21 @@ use Rattle.facts.specs.Lists.{holds_there}
 use Rattle.sound_terms.specs.declared.piece.Run.{Run}
 use Rattle.sound_terms.specs.Kept.{AreRuns, HasFrame, IsMaximal, comes_before}
 
--- the run has this frame
+-- The run contains this sample frame.
 abbrev pub is_in : Run → ℕ → ℕ → Bool
 is_in run file frame = run.file == file && (nat_le run.first frame && nat_lt frame (run.first + run.length))
 
--- frames of a run, or kept otherwise
+-- A sample frame of the run, or kept otherwise.
 abbrev pub with_run : Run → (ℕ → ℕ → Bool) → ℕ → ℕ → Bool
 with_run run kept file frame = is_in run file frame || kept file frame
 
--- every kept frame comes behind the run, and one frame at least lies between
+-- Every kept sample frame is after the run, with a gap of at least one.
 abbrev pub StandsBefore : (ℕ → ℕ) → Run → (ℕ → ℕ → Bool) → Type 0
 StandsBefore home run kept =
     (file frame : ℕ) → kept file frame ≡ true
     → (home run.file < home file) ⊎ ((run.file ≡ file) × (run.first + run.length < frame))
 
--- nothing is kept
+-- Nothing is kept.
 pub no_runs : (home : ℕ → ℕ) → AreRuns (λ file frame. false) home []
 no_runs home = record {
   maximal = All-nil (IsMaximal (λ file frame. false));
@@ -32,7 +32,7 @@ no_runs home = record {
   order = λ i j a b below first second. absurd (cc);
 }
 
--- the same frames are kept
+-- Maximality depends only on which sample frames are kept.
 maximal_alike : (kept other : ℕ → ℕ → Bool) → ((file frame : ℕ) → kept file frame ≡ other file frame) → (run : Run)
     → IsMaximal kept run → IsMaximal other run
 maximal_alike kept other same run is = record {
@@ -51,7 +51,7 @@ runs_alike kept other home runs same are = record {
   order = are.order;
 }
 
--- ---- one run more in front
+-- ---- one more run in front
 
 other_file : (home : ℕ → ℕ) (a b : ℕ) → home a < home b → a ≢ b
 other_file home a b below same = let e = ap home same in omega (arith, below, e)
@@ -77,7 +77,7 @@ has_frame_of run file frame is = record {
 
 module _ (home : ℕ → ℕ) (run : Run) (kept : ℕ → ℕ → Bool) (stands : StandsBefore home run kept) (some : 0 < run.length)
   where
-    -- no frame of its file up to its end is kept otherwise
+    -- No sample frame of its file up to its end is kept otherwise.
     none_before : (frame : ℕ) → frame ≤ run.first + run.length → kept run.file frame ≡ false
     none_before frame few = false_from_ne_true (kept run.file frame) (λ is. ⊎_elim
         (λ later. omega (arith, later))
@@ -94,7 +94,7 @@ module _ (home : ℕ → ℕ) (run : Run) (kept : ℕ → ℕ → Bool) (stands 
           (none_before (run.first + run.length) (omega arith));
     }
 
-    -- a later run comes behind
+    -- A later run is after the gap.
     later_run : (other : Run) → IsMaximal kept other
         → (home run.file < home other.file) ⊎ ((run.file ≡ other.file) × (run.first + run.length < other.first))
     later_run other is =

@@ -1,4 +1,4 @@
--- Spans that are joined as they come are spans, and have the frames of all.
+-- Joining spans preserves their invariants and the sample frames that they contain.
 use Rattle.std.proofs.Common.{◌≡◌, ◌∙◌, ℕ, ◌≤◌, max, Bool, true, false, List, [], ◌∷◌, ◌++◌, refl, sym, ap, arith}
 use Rattle.std.specs.Prelude.{◌==◌, ◌&&◌, ◌||◌, nat_le, nat_lt, if◌then◌else◌}
 use Rattle.std.specs.List.{All, fold}
@@ -9,7 +9,7 @@ use Rattle.sound_terms.specs.declared.piece.Home.{Home}
 use Rattle.mediaset.specs.Spans.{IsSpan, any_has, gathered, goes_on, has_frame, joined, put_span}
 use Rattle.mediaset.specs.declared.spans.Span.{Span}
 
--- a span that is put behind the last one, or joined to it
+-- A span that is appended, or joined to the last one.
 pub put_last : (front : List Span) (last later : Span) → put_span (front ++ last ∷ []) later
     ≡ (if goes_on last later then front ++ joined last later ∷ [] else front ++ last ∷ later ∷ [])
 put_last [] last later = refl
@@ -26,7 +26,7 @@ put_last (s ∷ front) last later = put_next front ∙ by_test (goes_on last lat
   by_test false is = ap (λ (rest : List Span). s ∷ rest) is
 
 module _ (file frame : ℕ) where
-  -- both as one, where no frame lies between
+  -- Two spans joined without a gap contain the sample frames of both.
   has_joined : (s later : Span) → goes_on s later ≡ true
       → has_frame file frame (joined s later) ≡ (has_frame file frame s || has_frame file frame later)
   has_joined s later on =

@@ -1,4 +1,4 @@
--- Spans that stand in order make the maximal runs of their frames.
+-- Spans in order yield the maximal runs of their sample frames.
 use Rattle.std.proofs.Common.{◌≡◌, ◌≢◌, ℕ, ◌+◌, ◌-◌, ◌*◌, ◌<◌, ◌≤◌, Bool, true, false, List, [], ◌∷◌, refl, sym, ap, ◌∙◌, ◌⊎◌, inl, inr, ⊎_elim, arith}
 use Rattle.std.specs.Prelude.{◌==◌, ◌&&◌, ◌||◌, nat_le, nat_lt, max}
 use Rattle.std.specs.List.{All, list_any}
@@ -12,12 +12,12 @@ use Rattle.mediaset.specs.Spans.{IsSpan, any_has, has_frame, joined, merged, run
 use Rattle.mediaset.specs.declared.spans.Span.{Span}
 use Rattle.mediaset.proofs.Apart.{StandsBefore, is_in, no_runs, one_more, runs_alike, with_run}
 
--- the keys of spans don't fall
+-- The keys of the spans don't decrease.
 abbrev pub Rises : ℕ → List Span → Type 0
 Rises low [] = Unit {0}
 Rises low (s ∷ spans) = (low ≤ s.key) × Rises s.key spans
 
--- keys in order are places in order, then first frames
+-- The order of keys is the order of positions, then of first sample frames.
 keys_in_order : (place first other later : ℕ) → first < 4294967296 → later < 4294967296
     → place * 4294967296 + first ≤ other * 4294967296 + later → (place < other) ⊎ ((place ≡ other) × (first ≤ later))
 keys_in_order place first other later few many rises = by_place (nat_lt place other) refl where
@@ -30,7 +30,7 @@ keys_in_order place first other later few many rises = by_place (nat_lt place ot
 small : (homes : List Home) (s : Span) → IsSpan homes s → s.first < 4294967296
 small homes s is = omega (arith, is.some, is.in_day)
 
--- a span that begins no earlier stands by the place of its file's home, then by its first frame
+-- A span with a greater key has a home at a later position, or the same home and a later first sample frame.
 in_order : (homes : List Home) (s later : Span) → IsSpan homes s → IsSpan homes later → s.key ≤ later.key
     → (place_by homes s.file < place_by homes later.file)
     ⊎ ((place_by homes s.file ≡ place_by homes later.file) × (s.first ≤ later.first))
@@ -39,7 +39,7 @@ in_order homes s later is other rises =
     (small homes later other)
     (omega (arith, is.key, other.key, rises))
 
--- two files of one place are one
+-- Two files with homes at the same position are the same file.
 same_file : (homes : List Home) → AreHomes homes → (s later : Span) → IsSpan homes s → IsSpan homes later
     → place_by homes s.file ≡ place_by homes later.file → s.file ≡ later.file
 same_file homes are s later is other same = by_test (s.file == later.file) refl where
@@ -64,7 +64,7 @@ run_has s file frame some =
     let whole : s.first + (s.end - s.first) ≡ s.end = omega (arith, some) in rw whole refl
 
 module _ (homes : List Home) (are : AreHomes homes) where
-  -- what is kept behind a span that the next one doesn't touch
+  -- All sample frames kept after a span that the next one doesn't touch.
   stands_before : (s later : Span) (spans : List Span) → IsSpan homes s → All (IsSpan homes) (later ∷ spans)
       → Rises s.key (later ∷ spans)
       → touches s later ≡ false → StandsBefore (place_by homes) (run_of s) (any_has (later ∷ spans))
@@ -107,7 +107,7 @@ module _ (homes : List Home) (are : AreHomes homes) where
           place_rises a b one two rises =
               ⊎_elim (λ l. omega (arith, l)) (λ e. omega (arith, e.0)) (in_order homes a b one two rises)
 
-  -- two spans that touch have together the frames of both
+  -- Two spans that touch contain, joined, the sample frames of both.
   joined_has : (s later : Span) → IsSpan homes s → IsSpan homes later → s.key ≤ later.key → touches s later ≡ true
       → (file frame : ℕ)
       → has_frame file frame (joined s later) ≡ (has_frame file frame s || has_frame file frame later)
@@ -141,7 +141,7 @@ module _ (homes : List Home) (are : AreHomes homes) where
   or_assoc true b c d same = rw same refl
   or_assoc false b c d same = rw same refl
 
-  -- the runs of spans in order
+  -- The runs of spans in order.
   pub merged_runs : (s : Span) (spans : List Span) → IsSpan homes s → All (IsSpan homes) spans → Rises s.key spans
       → AreRuns (any_has (s ∷ spans)) (place_by homes) (merged s spans)
   merged_runs s [] is all rises =

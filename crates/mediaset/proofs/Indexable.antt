@@ -1,4 +1,4 @@
--- Runs of kept frames are apart, and end before the day does.
+-- Runs of kept sample frames are disjoint, and end before the end of the day.
 use Rattle.std.proofs.Common.{◌≡◌, ◌⊎◌, inl, inr, ℕ, ◌+◌, ◌-◌, ◌<◌, ◌≤◌, Bool, true, false, List, Some, refl, arith, subst, All, length}
 use Rattle.std.specs.Prelude.{◌==◌, ◌&&◌, nat_lt}
 use Rattle.std.specs.List.{slice_get}
@@ -19,7 +19,7 @@ module _ (kept : ℕ → ℕ → Bool) (homes : List Home) (runs : List Run)
   maximal_at : (i : ℕ) (run : Run) → slice_get runs i ≡ Some run → IsMaximal kept run
   maximal_at i run there = holds_there (IsMaximal kept) runs i run are.maximal there
 
-  -- the frames of a run are kept
+  -- The sample frames of a run are kept.
   run_kept : (run : Run) → IsMaximal kept run → (frame : ℕ) → run.first ≤ frame → frame < run.first + run.length
       → kept run.file frame ≡ true
   run_kept run is frame from to =
@@ -66,7 +66,7 @@ module _ (kept : ℕ → ℕ → Bool) (homes : List Home) (runs : List Run)
   pub runs_end_in_day : All (EndsInDay homes) runs
   runs_end_in_day = λ i d below. run_ends _ (are.maximal i d below)
 
--- the runs round groups, where they are few
+-- The runs around groups, if there are few enough.
 pub indexable : (groups : List (List Piece)) (homes : List Home) (handle : ℕ) (runs : List Run) → AreHomes homes
     → AreRuns (kept_of groups homes handle) (place_by homes) runs → length runs ≤ 32767
     → AreIndexable (record { homes = homes; runs = runs })

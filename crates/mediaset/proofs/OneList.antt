@@ -1,4 +1,4 @@
--- There is one list of the maximal runs of kept frames, in order.
+-- The list of maximal runs, in order, is unique.
 use Rattle.std.proofs.Common.{◌≡◌, ℕ, zero, suc, ◌+◌, ◌-◌, ◌<◌, ◌≤◌, Bool, true, false, List, [], ◌∷◌, length, Some, refl, sym, ap, subst, ◌∙◌, ◌⊎◌, inl, inr, ⊎_elim, arith}
 use Rattle.std.specs.Prelude.{nat_lt, Contains}
 use Rattle.std.specs.List.{All, slice_get}
@@ -16,7 +16,7 @@ same_run a b file first length =
     ap (λ (n : ℕ). built n a.first a.length) file ∙ ap (λ (n : ℕ). built b.file n a.length) first
     ∙ ap (built b.file b.first) length
 
--- two maximal runs that share a frame are one
+-- Two maximal runs that share a sample frame are equal.
 overlap : (kept : ℕ → ℕ → Bool) (a b : Run) → IsMaximal kept a → IsMaximal kept b → a.file ≡ b.file
     → b.first ≤ a.first → a.first < b.first + b.length → a ≡ b
 overlap kept a b is other file from to = same_run a b file begins long where
@@ -34,7 +34,7 @@ overlap kept a b is other file from to = same_run a b file begins long where
         let clash : true ≡ false = sym here ∙ none in cc
     by_test false test = let least : a.first ≤ b.first = grind (arith, nat_tests, test) in omega (arith, least, from)
 
-  -- where one run ends, no longer one of the same beginning is maximal
+  -- Of two runs with the same beginning, only the longer one can be maximal.
   no_longer : (c d : Run) → IsMaximal kept c → IsMaximal kept d → c.file ≡ d.file → c.first ≡ d.first
       → c.length < d.length → ⊥
   no_longer c d one two same start less =
@@ -57,7 +57,7 @@ overlap kept a b is other file from to = same_run a b file begins long where
         let most = by_more (nat_lt b.length a.length) refl in omega (arith, least, most)
 
 module _ (kept : ℕ → ℕ → Bool) (home : ℕ → ℕ) where
-  -- a run of the one list is a run of the other
+  -- A run of one list is in the other.
   is_among : (runs others : List Run) → All (IsMaximal kept) runs → AreRuns kept home others → (run : Run)
       → Contains runs run → Contains others run
   is_among runs others all are run among =
@@ -69,7 +69,7 @@ module _ (kept : ℕ → ℕ → Bool) (home : ℕ → ℕ) where
       let same = overlap kept run found.0 is other (sym found.2.same_file) found.2.from found.2.to in
       subst (Contains others) (sym same) found.1
 
-  -- in order, one way alone
+  -- The order is strict.
   no_circle : (a b : Run) → comes_before home a b ≡ true → comes_before home b a ≡ true → ⊥
   no_circle a b one two = grind (arith, nat_tests, one, two)
 
@@ -94,12 +94,12 @@ module _ (kept : ℕ → ℕ → Bool) (home : ℕ → ℕ) where
   behind : (r : Run) (runs : List Run) (run : Run) → Contains runs run → Contains (r ∷ runs) run
   behind r runs run is = (suc is.0, omega (arith, is.1), is.2)
 
-  -- an element is the first one, or behind it
+  -- An element is the first one, or one after it.
   first_or_behind : (r : Run) (runs : List Run) (run : Run) → Contains (r ∷ runs) run → (r ≡ run) ⊎ Contains runs run
   first_or_behind r runs run (zero, below, same) = inl same
   first_or_behind r runs run (suc k, below, same) = inr (k, omega (arith, below), same)
 
-  -- two lists in order with the same elements are one
+  -- Two ordered lists with the same elements are equal.
   same_lists : (runs others : List Run) → InOrder runs → InOrder others
       → ((run : Run) → Contains runs run → Contains others run)
       → ((run : Run) → Contains others run → Contains runs run) → runs ≡ others

@@ -1,4 +1,4 @@
--- The frames of all spans are the frames that are kept.
+-- The sample frames in the spans are exactly the kept ones.
 use Rattle.std.proofs.Common.{◌≡◌, ℕ, ◌+◌, ◌-◌, ◌*◌, ◌<◌, ◌≤◌, Bool, true, false, min, if◌then◌else◌, List, [], ◌∷◌, Option, None, Some, refl, sym, ap, ◌∙◌, arith}
 use Rattle.std.specs.Prelude.{◌==◌, ◌&&◌, ◌||◌, nat_le, nat_lt}
 use Rattle.std.specs.List.{All, flat_map, list_any, slice_get}
@@ -14,7 +14,7 @@ use Rattle.sound_terms.specs.Kept.{is_near}
 use Rattle.mediaset.specs.Spans.{IsSpan, any_has, has_frame, span_of}
 use Rattle.mediaset.specs.declared.spans.Span.{Span}
 
--- a frame near a piece, of frames that can be addressed, by plain numbers
+-- The condition for a sample frame within a handle and in reach, in plain numbers.
 near : (here some : Bool) (frame h a at n : ℕ) → (some ≡ nat_lt 0 n)
     → (if nat_lt (at - h) (min (at + n + h) a) && some
     then (here && (nat_le (at - h) frame && nat_lt frame (min (at + n + h) a))) else false)
@@ -28,7 +28,7 @@ one_span : (test : Bool) (s : Span) (file frame : ℕ)
 one_span true s file frame = or-false (has_frame file frame s)
 one_span false s file frame = refl
 
--- of another file nothing is near
+-- The span of a piece contains the kept sample frames of its file, and none of other files.
 piece_kept : (homes : List Home) (handle : ℕ) (p : Piece) (file frame : ℕ)
     → any_has (span_of homes handle p) file frame
     ≡ (nat_lt frame (addressable_by homes file) && is_near handle file frame p)
@@ -59,7 +59,7 @@ piece_kept homes handle p file frame = by_file (p.file == file) refl where
       ∙ rw here (and-false (nat_lt frame (addressable_by homes p.file))
       ∙ sym (and-false (nat_lt frame (addressable_by homes file))))
 
--- all spans of pieces
+-- All spans of pieces.
 pub pieces_kept : (homes : List Home) (handle : ℕ) (pieces : List Piece) (file frame : ℕ)
     → any_has (flat_map (span_of homes handle) pieces) file frame
     ≡ (nat_lt frame (addressable_by homes file) && list_any (is_near handle file frame) pieces)
@@ -72,7 +72,7 @@ pieces_kept homes handle (p ∷ ps) file frame =
     ∙ ap (λ (b : Bool). (within && is_near handle file frame p) || b) (pieces_kept homes handle ps file frame)
     ∙ sym (and-or_distrib_left within (is_near handle file frame p) (list_any (is_near handle file frame) ps))
 
--- ---- every span is one
+-- ---- every span is well formed
 
 addressed : (homes : List Home) → AreHomes homes → (file : ℕ) → 0 < addressable_by homes file
     → (home : Home) × (slice_get homes file ≡ Some home) × (addressable_by homes file ≤ day)

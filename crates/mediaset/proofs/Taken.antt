@@ -1,4 +1,4 @@
--- One span after another is taken into runs.
+-- Merging spans one by one.
 use Rattle.std.proofs.Common.{◌≡◌, true, false, List, [], ◌∷◌, ◌++◌, refl, ◌∙◌}
 use Rattle.std.proofs.lemmas.List.{append_assoc}
 use Rattle.sound_terms.specs.declared.piece.Run.{Run}

@@ -1,4 +1,4 @@
-// The runs over a bound list.
+// Runs for a bound project.
 ghost use Rattle.std.specs.Prelude.{◌≡◌, ◌<◌, ℕ, List, true, length, IfOk, IsErrOf};
 ghost use Rattle.std.specs.List.{All};
 ghost use Rattle.list_terms.specs.BoundHomes.{homes_of};
@@ -14,10 +14,10 @@ use sound_terms::Run;
 use sourceindex::Bound;
 use std::alloc::Global;
 
-/// The runs of the frames that groups play and of those at most `handle` away, as far as they can be addressed by the
-/// home index of their file in this bound list: those of [`Runs::kept`], which a consolidation keeps with the homes.
+/// Returns the runs of sample frames that the groups play or that are at most `handle` away, as far as the home
+/// index of their file can address them. Equal to [`Runs::kept`] with the homes of the bound project.
 ///
-/// `TooManyRuns` where there are more than 32,767, `Memory` where no memory was left.
+/// Returns `TooManyRuns` if there are more than 32,767 runs, and `Memory` if out of memory.
 pub fn runs(
     alloc: Global,
     intervals: &Intervals,

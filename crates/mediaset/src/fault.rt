@@ -1,4 +1,4 @@
-// Why no runs are given.
+// Errors of finding runs.
 ghost use Rattle.std.specs.Prelude.{◌≡◌};
 ghost use Rattle.mediaset.specs.Fault.{number_of};
 ghost use Rattle.mediaset.specs.declared.fault.RunFault.TheVariants.{Memory};
@@ -6,19 +6,19 @@ ghost use Rattle.mediaset.specs.declared.fault.RunFault.TheVariants.{Memory};
 use std::alloc::AllocError;
 use thiserror::Error;
 
-/// Why no runs are given.
+/// The reason why there are no runs.
 #[derive(Clone, Copy, Debug, PartialEq, Eq, Error)]
 pub enum RunFault {
-    /// 53: there would be more than 32,767.
+    /// 53: there would be more than 32,767 runs.
     #[error("too many media")]
     TooManyRuns,
-    /// 54
+    /// 54: out of memory.
     #[error("out of memory")]
     Memory,
 }
 
 impl RunFault {
-    /// The number of the refusal.
+    /// Returns the refusal number, 53 or 54.
     pub fn number(&self) -> u8
         ensures { result ≡ number_of self.now }
     {

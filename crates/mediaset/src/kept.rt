@@ -1,4 +1,4 @@
-// The runs of kept frames.
+// Runs of kept sample frames.
 ghost use Rattle.std.specs.Prelude.{◌≡◌, ◌<◌, ℕ, List, true, length, IfOk, IsErrOf};
 ghost use Rattle.std.specs.List.{All};
 ghost use Rattle.sound_terms.specs.Groups.{pieces_of, reads};
@@ -15,11 +15,11 @@ use sound_terms::{Homes, Run};
 use std::alloc::{AllocError, Global};
 use std::marker::Model;
 
-/// The most runs: as many as a list has indexes.
+/// The maximum number of runs, which is the maximum number of indexes in a list.
 const MOST_RUNS: usize = 32_767;
 
-/// Runs of kept frames, in order of the home indexes of their files, then of the frames, with these homes. They are no
-/// more than 32,767, none touches another, and each ends before the day does. A clause sees the lists of both.
+/// Runs of kept sample frames and the homes of their files, ordered by the home indexes of the files and then by
+/// position. There are at most 32,767; no two of them touch, and each ends before the end of the day.
 #[derive(Drop)]
 pub struct Runs {
     homes: Homes,
@@ -36,7 +36,7 @@ impl Model for Runs {
     ghost invariant = { λ kept. AreIndexable (record { homes = kept.homes; runs = kept.runs.items }) };
 }
 
-/// All runs, however many.
+/// Returns all runs, without a limit on their number.
 fn all_runs(
     alloc: Global,
     intervals: &Intervals,
@@ -47,7 +47,7 @@ fn all_runs(
         homes.now) runs.items) }
     ensures homes { AreHomes homes.now }
 {
-    // The homes are known to be apart from here on.
+    // This call makes the invariant of the homes available.
     let _ = homes.as_slice();
     let mut spans = spans_of(alloc, intervals, homes, handle)?;
     spans.sort_by_key(|span| span.key)?;
@@ -56,10 +56,10 @@ fn all_runs(
 }
 
 impl Runs {
-    /// The runs of the frames that groups play and of those at most `handle` away, as far as they can be addressed by
-    /// the home index of their file.
+    /// Returns the runs of sample frames that the groups play or that are at most `handle` away, as far as the home
+    /// index of their file can address them.
     ///
-    /// `TooManyRuns` where there are more than 32,767, `Memory` where no memory was left.
+    /// Returns `TooManyRuns` if there are more than 32,767 runs, and `Memory` if out of memory.
     pub fn kept(
         alloc: Global,
         intervals: &Intervals,
@@ -84,7 +84,7 @@ impl Runs {
         Ok(Runs { homes, runs })
     }
 
-    /// These runs of files with these homes.
+    /// Combines runs with the homes of their files.
     pub fn with(homes: Homes, runs: Vec<Run>) -> Self
         requires { AreIndexable (homed homes runs.items) }
         ensures { result ≡ homed homes runs.items }
@@ -92,14 +92,14 @@ impl Runs {
         Runs { homes, runs }
     }
 
-    /// How many runs there are.
+    /// Returns the number of runs.
     pub fn len(&self) -> usize
         ensures { result ≡ length self.now.runs }
     {
         self.runs.len()
     }
 
-    /// The runs.
+    /// Returns the runs.
     pub fn as_slice(&self) -> &[Run]
         ensures lent { result.now ≡ self.now.runs }
         ensures sound { AreIndexable self.now }
@@ -107,14 +107,14 @@ impl Runs {
         self.runs.as_slice()
     }
 
-    /// The homes of their files.
+    /// Returns the homes of the files.
     pub fn homes(&self) -> &Homes
         ensures { result.now ≡ self.now.homes }
     {
         &self.homes
     }
 
-    /// Hands out the runs.
+    /// Returns the runs as a vector, without copying.
     pub fn into_vec(self) -> Vec<Run>
         ensures runs { result.items ≡ self.runs }
         ensures sound { AreIndexable self }

@@ -1,4 +1,4 @@
-//! Which frames of the sources are kept: those that are played and those near them, as runs.
+//! The runs of sample frames that a consolidation keeps: those that are played, and those within a handle of them.
 #![tactic(auto)]
 
 mod bound;

@@ -1,4 +1,4 @@
-// Spans that touch, merged into runs.
+// Merging of spans that touch.
 ghost use Rattle.std.specs.Prelude.{◌≡◌, ◌<◌, ◌-◌, ◌++◌, ◌∷◌, List, IfOk};
 ghost use Rattle.std.specs.List.{All};
 ghost use Rattle.mediaset.specs.Spans as spec;
@@ -9,14 +9,13 @@ use crate::spans::Span;
 use sound_terms::Run;
 use std::alloc::{AllocError, Global};
 
-/// Whether the later span is of the same file, and no frame lies between.
+/// Returns whether a later span has the same file and begins within this one or at its end.
 fn touches(span: &Span, later: &Span) -> bool
     ensures { result ≡ spec.touches span.now later.now }
 {
     span.file == later.file && later.first <= span.end
 }
 
-/// The span as a run.
 fn run_of(span: &Span) -> Run
     requires { IsOpen span.now }
     ensures { result ≡ spec.run_of span.now }
@@ -28,7 +27,7 @@ fn run_of(span: &Span) -> Run
     }
 }
 
-/// Joins the next span to the one that is held where they touch; else the held one is a run, and the next one is held.
+/// Extends `held` by the next span if they touch. Otherwise adds `held` to the runs and returns the next span.
 fn take(held: Span, next: &Span, runs: &mut Vec<Run>) -> Result<Span, AllocError>
     requires held { IsOpen held }
     requires next { IsOpen next.now }
@@ -46,7 +45,7 @@ fn take(held: Span, next: &Span, runs: &mut Vec<Run>) -> Result<Span, AllocError
     Ok(*next)
 }
 
-/// The runs of a span and of the spans behind it.
+/// Merges a span and the spans after it.
 fn merge_behind(alloc: Global, first: Span, later: &[Span]) -> Result<Vec<Run>, AllocError>
     requires first { IsOpen first }
     requires later { All IsOpen later.now }
@@ -61,7 +60,8 @@ fn merge_behind(alloc: Global, first: Span, later: &[Span]) -> Result<Vec<Run>, 
     Ok(runs)
 }
 
-/// The runs of spans, which stand in order of their files' places and first frames: those that touch are one.
+/// Merges spans that touch into runs. The spans are ordered by the homes of their files and then by their first
+/// sample frame.
 pub fn merge(alloc: Global, spans: &[Span]) -> Result<Vec<Run>, AllocError>
     requires { All IsOpen spans.now }
     ensures { IfOk result (λ runs. runs.items ≡ merged_all spans.now) }

@@ -1,4 +1,4 @@
-// Kept frames round single pieces.
+// Spans of kept sample frames around single pieces.
 ghost use Rattle.std.specs.Prelude.{◌≡◌, ◌++◌, IfOk, OnOk, option_to_list};
 ghost use Rattle.std.specs.List.{All, flat_map, fold};
 ghost use Rattle.sound_terms.specs.Groups.{IsPiece, pieces_of};
@@ -9,8 +9,8 @@ use groups::{Intervals, Piece, group_pieces};
 use sound_terms::Homes;
 use std::alloc::{AllocError, Global};
 
-/// Frames of a file, from `first` up to, and without, `end`. The key tells the place of the file's home index, then the
-/// first frame.
+/// The sample frames of a file from `first` up to `end`, exclusive. The key combines the position of the file's
+/// home index with `first`.
 #[derive(Clone, Copy, Debug, PartialEq, Eq)]
 pub struct Span {
     pub key: u64,
@@ -19,10 +19,10 @@ pub struct Span {
     pub end: u64,
 }
 
-/// More than any frame of a day.
+/// An upper bound on the sample frames of a day, a power of two.
 const DAY_ROOM: u64 = 4_294_967_296;
 
-/// The frames at most `handle` away from those that a piece plays, as far as they can be addressed.
+/// Returns the span of a piece, extended by `handle` on both sides and cut to the sample frames in reach.
 fn span_of(piece: &Piece, homes: &Homes, handle: u64) -> Option<Span>
     requires { IsPiece piece.now }
     ensures { option_to_list result ≡ spec.span_of homes.now handle piece.now }
@@ -43,14 +43,14 @@ fn span_of(piece: &Piece, homes: &Homes, handle: u64) -> Option<Span>
     })
 }
 
-/// Whether a span begins within another one or where that one ends: both are one then.
+/// Returns whether a span begins within the last one or at its end, so that both can be joined.
 fn goes_on(last: &Span, span: &Span) -> bool
     ensures { result ≡ spec.goes_on last.now span.now }
 {
     last.file == span.file && last.first <= span.first && span.first <= last.end
 }
 
-/// Adds a span to the last one, where it goes on from there as most do, and else behind it.
+/// Joins a span to the last one if possible (the usual case), or else appends it.
 fn push_span(spans: &mut Vec<Span>, span: Span) -> Result<(), AllocError>
     ensures { OnOk result (spans.new.items ≡ put_span spans.old.items span) }
 {
@@ -89,7 +89,7 @@ fn push_spans(
     Ok(())
 }
 
-/// The spans of all pieces of groups, each joined to the one before where it goes on from there.
+/// Returns the spans of all pieces of the groups, each joined to the one before if possible.
 pub fn spans_of(
     alloc: Global,
     intervals: &Intervals,
