@@ -1,4 +1,4 @@
--- A piece in its source and in its medium, as code reads it.
+-- A piece in its source and in its medium, as the code reads it.
 use Rattle.std.proofs.Common.{◌≡◌, ◌∙◌, ℕ, ◌+◌, ◌*◌, ◌^◌, ◌<◌, ◌≤◌, List, [], length, take, drop, Option, ap, arith, get_or, sym}
 use Rattle.std.specs.Prelude.{unwrap_or}
 use Rattle.std.proofs.lemmas.Option.{get_or_from_slice_get}
@@ -14,7 +14,7 @@ module _ (sounds : List SoundFacts) (runs : List Run) (job : CopyJob) (is : IsPi
   own : run_at runs job.run ≡ is.run
   own = ap (λ o. unwrap_or o no_run) is.there
 
-  -- its run and its source
+  -- The run and the source of a piece.
   pub run_read : (d : Run) → get_or runs job.run d ≡ run_at runs job.run
   run_read d = get_or_from_slice_get runs job.run is.run d is.there ∙ sym own
 
@@ -25,13 +25,13 @@ module _ (sounds : List SoundFacts) (runs : List Run) (job : CopyJob) (is : IsPi
       ap (λ (run : Run). get_or sounds run.file e) (run_read d ∙ own) ∙ there ∙ sym known
       ∙ ap (λ (run : Run). sound_at sounds run.file) (sym own)
 
-  -- it lies inside its source
+  -- A piece is within its source.
   pub inside_source : (run_at runs job.run).first + job.from + job.frames ≤ (source_of sounds runs job).frames
   inside_source =
       let known : sound_at sounds is.run.file ≡ is.of_file.facts = ap (λ o. unwrap_or o no_sound) is.of_file.there in
       rw (own, known) (omega (arith, is.of_file.inside, is.inside))
 
-  -- and in a medium whose length is told
+  -- The offset of a piece in its medium fits in 64 bits.
   pub place_told : piece_place sounds runs job < 2 ^ 64
   place_told =
       let width = frame_length (sound_at sounds is.run.file) in
@@ -39,7 +39,7 @@ module _ (sounds : List SoundFacts) (runs : List Run) (job : CopyJob) (is : IsPi
       mul-le-mul_right width (omega (arith, is.inside)) in
       rw own (omega (arith, before, is.told))
 
--- what is read of a range are its bytes
+-- Reading a range yields its bytes.
 pub range_bytes : (stored : Option (List ℕ)) (at n : ℕ) (bytes : List ℕ) → IsRange stored at bytes → length bytes ≡ n
     → bytes ≡ take n (drop at (unwrap_or stored []))
 range_bytes stored at n bytes is counted =

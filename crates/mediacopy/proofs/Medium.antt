@@ -1,4 +1,4 @@
--- The medium of a run of a source that has all of its frames.
+-- The medium of a run of a complete source.
 use Rattle.std.proofs.Common.{◌≡◌, ℕ, ◌+◌, ◌-◌, ◌*◌, ◌/◌, ◌<◌, ◌≤◌, List, length, take, drop, Ok, sym, ap, ◌∙◌, arith}
 use Rattle.std.specs.Prelude.{pos}
 use Rattle.std.proofs.lemmas.List.{length-drop, length-take-le}
@@ -13,7 +13,7 @@ use Rattle.sound_terms.specs.Waves.{data_place, data_size, file_of, sample_of}
 use Rattle.wavwrite.specs.Info.{facts_of}
 use Rattle.mediacopy.specs.Copied.{HasFrames, HasSamplesOf, IsMedium}
 
--- a stretch of frames ends where the file does, or before
+-- A range of sample frames ends within the file.
 frames_end : (width place first count frames end : ℕ) → first + count ≤ frames → place + frames * width ≤ end
     → place + first * width + count * width ≤ end
 frames_end width place first count frames end inside whole =
@@ -33,7 +33,7 @@ module _ (facts : SoundFacts) (source : List ℕ) (run : Run) where
       omega (arith, end, length-drop at source) in
       length-take-le (run.length * frame_length facts) (drop at source) left
 
-  -- the samples of the run, which stand in a file from this place on
+  -- The samples of the run, in a file that has them at this offset.
   same_samples : (file : List ℕ) (place : ℕ)
       → frames_in facts source run.first run.length ≡ take (run.length * frame_length facts) (drop place file)
       → HasSamplesOf facts source run file place

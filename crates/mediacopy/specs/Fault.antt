@@ -1,12 +1,13 @@
--- The number of each fault of a medium.
+-- Refusal numbers.
 use Rattle.std.specs.Prelude.{◌≡◌, ℕ}
 use Rattle.mediacopy.specs.declared.fault.CopyFault.{CopyFault}
 use Rattle.mediacopy.specs.declared.fault.CopyFault.TheVariants.{Source, Output}
 
+-- The refusal number of a fault.
 abbrev pub number_of : CopyFault → ℕ
 number_of Source = 22
 number_of Output = 62
 
--- the medium can't be written
+-- The medium can't be written.
 abbrev pub IsOutput : CopyFault → Type 0
 IsOutput fault = fault ≡ Output

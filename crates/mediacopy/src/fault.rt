@@ -1,22 +1,22 @@
-// Why a piece isn't copied.
+// Errors of copying.
 ghost use Rattle.std.specs.Prelude.{◌≡◌};
 ghost use Rattle.mediacopy.specs.Fault.{number_of};
 
 use thiserror::Error;
 
-/// Why a piece isn't copied: a device failed.
+/// The reason why a piece can't be copied: a device failed.
 #[derive(Clone, Copy, Debug, PartialEq, Eq, Error)]
 pub enum CopyFault {
-    /// 22
+    /// 22: the source can't be read.
     #[error("the source can't be read")]
     Source,
-    /// 62: what is written of the medium is unfinished.
+    /// 62: the medium can't be written. It may have been written in part.
     #[error("the medium can't be written")]
     Output,
 }
 
 impl CopyFault {
-    /// The number of the refusal.
+    /// Returns the refusal number, 22 or 62.
     pub fn number(&self) -> u8
         ensures { result ≡ number_of self.now }
     {

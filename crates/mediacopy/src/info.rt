@@ -1,4 +1,4 @@
-// What a medium tells of itself.
+// The headers of media.
 ghost use Rattle.std.specs.Prelude.{◌≡◌, ◌+◌, ◌^◌, ◌<◌, ◌≤◌, ◌↔◌, ℕ, List, IsTrue, length, unwrap_or, option_map};
 ghost use Rattle.sound_terms.specs.Media.{medium_info};
 ghost use Rattle.sound_terms.specs.Waves.{data_place, header_of, zeros};
@@ -9,7 +9,7 @@ use sound_terms::{Bext, Run};
 use wavread::Sound;
 use wavwrite::SoundInfoRef;
 
-/// The texts of a source, zeros where it has none, under this time reference.
+/// Returns the `bext` of a source, or zeros if it has none, with another TimeReference.
 #[tactic(auto, unfolding(sound_terms::specs::Waves::zeros))]
 fn bext_at(bext: &Option<Bext>, time_reference: u64) -> Bext
     ensures text { result.text ≡ unwrap_or (option_map (λ b. b.text) bext.now) (zeros 338) }
@@ -27,8 +27,9 @@ fn bext_at(bext: &Option<Bext>, time_reference: u64) -> Bext
     }
 }
 
-/// What the medium of a run tells of itself: the channels, the depth, the texts and the CodingHistory of its source,
-/// and the time of the run's first frame, where the source's first frame stands at `base`.
+/// Returns the header data of a run's medium: the channels, depth, `bext` texts and CodingHistory of its source,
+/// and as TimeReference (EBU Tech 3285) the time of the run's first sample. `base` is the time of the source's
+/// first sample, in samples after midnight.
 pub fn info_of<'a>(sound: &'a Sound, base: u64, run: &Run) -> SoundInfoRef<'a>
     requires { base + run.now.first < 2 ^ 64 }
     ensures { result ≡ medium_info sound.now base run.now }
@@ -38,8 +39,8 @@ pub fn info_of<'a>(sound: &'a Sound, base: u64, run: &Run) -> SoundInfoRef<'a>
     SoundInfoRef::over(channels, sound.depth(), run.length, bext, sound.history())
 }
 
-/// What the medium of a run is read as: 64 bits can tell its length, and of a source that has all of its frames it reads
-/// back and has the samples of the run. It does nothing.
+/// States what reading a run's medium yields. Its length fits in 64 bits; if the source is complete, the medium can
+/// be read back and has the samples of the run. Calling it does nothing.
 pub fn reads_back(sound: &Sound, base: u64, run: &Run)
     requires in_day { base + run.now.first < 2 ^ 64 }
     requires short { run.now.length < 2 ^ 48 }

@@ -1,4 +1,4 @@
-// Lays media out at their full length.
+// Preallocation of media.
 ghost use Rattle.std.specs.Prelude.{◌≡◌, ◌≢◌, ◌≤◌, IfErr, Some, ⊤, IsTrue, OnOk, length};
 ghost use Rattle.sound_terms.specs.Waves.{data_place};
 ghost use Rattle.devices.specs.Frame.{OnlyWrites};
@@ -11,10 +11,11 @@ use crate::CopyFault;
 use devices::{Bench, DeviceFault};
 use wavwrite::{SoundInfo, SoundInfoRef};
 
-/// The bytes of the longest header: that with 65,536 bytes of CodingHistory.
+/// The length in bytes of the longest header, which has 65,536 bytes of CodingHistory.
 pub const LONGEST_HEADER: usize = 66_226;
 
-/// Makes the file of this header with every sample zero. It takes no memory.
+/// Creates a file with this header and zero samples at its full length, without allocating memory. Returns
+/// `CopyFault::Output` if the device fails.
 pub fn lay_out<B: Bench>(bench: &mut B, name: &str, info: &SoundInfo) -> Result<(), CopyFault>
     requires { Fits info.now }
     ensures laid { IsTrue (B.honest bench.old) → OnOk result (B.stored bench.new name.now ≡ Some (laid_out info.now)) }
@@ -30,8 +31,8 @@ pub fn lay_out<B: Bench>(bench: &mut B, name: &str, info: &SoundInfo) -> Result<
     }
 }
 
-/// Makes the file of this header with every sample zero. The header is made in `room`, which is long enough for it, so
-/// many files can be laid out in the same.
+/// Creates a file with this header and zero samples at its full length. The header is built in `room`, which must
+/// be long enough and can be reused for many files. Returns `DeviceFault` if the device fails.
 pub fn lay_out_in<B: Bench>(
     bench: &mut B,
     name: &str,

@@ -1,5 +1,5 @@
-//! The media of a consolidation: a file for each run of kept frames, laid out and then filled from its source, piece by
-//! piece.
+//! The media of a consolidation: one file for each run of kept sample frames, preallocated and then filled from its
+//! source piece by piece.
 #![tactic(auto)]
 
 mod fault;

@@ -1,11 +1,10 @@
-// The names of media, without memory.
+// File names of media, without allocating memory. Equal to `relink::media_name`.
 ghost use Rattle.std.specs.Prelude.{◌≡◌, ◌-◌, replicate};
 ghost use Rattle.list_terms.specs.Renewed.{media_name};
 
 use arrayvec::ArrayString;
 use itoa::Buffer;
 
-/// The zeros before so many digits, which make them five.
 fn zeros_before(digits: usize) -> &'static str
     ensures { result.now ≡ replicate (5 - digits) 48 }
 {
@@ -19,7 +18,7 @@ fn zeros_before(digits: usize) -> &'static str
     }
 }
 
-/// The name of the medium of this number: `M`, the number in at least five digits, and `.wav`. It takes no memory.
+/// Returns the file name of a medium: `M`, the number with at least five digits, and `.wav`.
 pub fn medium_name(number: u64) -> ArrayString<25>
     ensures { result.bytes ≡ media_name number }
 {

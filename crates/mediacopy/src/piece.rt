@@ -1,7 +1,7 @@
-// Pieces of the runs of kept frames.
+// Pieces of runs.
 
-/// A piece of a run: the run's place in the list, counted from 0, and so many frames of it, from one on that is counted
-/// from the run's first.
+/// A piece of a run: the run's position in the list, from 0, and `frames` sample frames from offset `from` in the
+/// run.
 #[derive(Clone, Copy, Debug, PartialEq, Eq)]
 pub struct CopyJob {
     pub run: u32,

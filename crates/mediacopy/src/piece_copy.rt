@@ -1,4 +1,4 @@
-// Copies pieces of runs from their sources into laid out media.
+// Copying of pieces from their sources into preallocated media.
 ghost use Rattle.std.specs.Prelude.{◌≡◌, ◌≢◌, ◌+◌, ◌%◌, ◌≤◌, ◌<◌, ◌↔◌, length, IfErr, IsTrue, OnErr, OnOk, ⊤};
 ghost use Rattle.work_terms.specs.Disk.{Changes, IsTorn, IsWritten};
 ghost use Rattle.sound_terms.specs.Media.{frame_length};
@@ -17,10 +17,10 @@ use mediaset::Run;
 use sourceindex::Bound;
 use wavread::Sound;
 
-/// The bytes of a header without a CodingHistory.
+/// The length in bytes of a header without CodingHistory.
 const HEADER: u64 = 690;
 
-/// Where the samples begin in the media of a source.
+/// Returns the offset of the samples in the media of a source.
 fn place_in_media(sound: &Sound) -> u64
     ensures offset { result ≡ 88 + (602 + length sound.now.history + (602 + length sound.now.history) % 2) }
     ensures near { result ≤ 66226 }
@@ -29,7 +29,7 @@ fn place_in_media(sound: &Sound) -> u64
     HEADER + history + history % 2
 }
 
-/// The bytes of a frame: 2 to 256.
+/// Returns the length of a sample frame in bytes, 2 to 256.
 fn frame_of(sound: &Sound) -> u64
     ensures value { result ≡ frame_length sound.now }
     ensures few { result ≤ 256 }
@@ -37,7 +37,6 @@ fn frame_of(sound: &Sound) -> u64
     u64::from(sound.channels()) * u64::from(sound.depth().bits() / 8)
 }
 
-/// The run that a piece is of.
 fn run_of(runs: &[Run], job: CopyJob) -> &Run
     requires { job.run < length runs.now }
     ensures { result.now ≡ run_at runs.now job.run }
@@ -45,7 +44,7 @@ fn run_of(runs: &[Run], job: CopyJob) -> &Run
     &runs[job.run as usize]
 }
 
-/// The file that a piece is of.
+/// Returns the source file of a piece.
 fn source_of<'a>(bound: &'a Bound, runs: &[Run], job: CopyJob) -> &'a Sound
     requires { IsPieceIn bound.now runs.now job }
     ensures { result.now ≡ spec.source_of (sounds_of bound.now) runs.now job }
@@ -54,15 +53,15 @@ fn source_of<'a>(bound: &'a Bound, runs: &[Run], job: CopyJob) -> &'a Sound
     &bound.sounds()[run.file as usize]
 }
 
-/// Whether frames from one on lie among so many.
+/// Returns whether `count` sample frames from `from` on are within the first `frames` ones.
 fn lie_within(from: u64, count: u64, frames: u64) -> bool
     ensures { IsTrue result ↔ (from + count ≤ frames) }
 {
     count <= frames && from <= frames - count
 }
 
-/// Whether a job is a piece of a run of a bound file: some of the run's frames, all of which the file has, where 64 bits
-/// can tell the length of the run's medium.
+/// Returns whether a job is a valid piece: its run is in the list and within its file, the piece is within the run,
+/// and the length of the run's medium fits in 64 bits.
 pub fn is_piece(bound: &Bound, runs: &[Run], job: CopyJob) -> bool
     ensures { IsTrue result ↔ IsPieceIn bound.now runs.now job }
 {
@@ -78,7 +77,7 @@ pub fn is_piece(bound: &Bound, runs: &[Run], job: CopyJob) -> bool
         && info_of(sound, 0, run).fits()
 }
 
-/// How many bytes a piece has.
+/// Returns the length of a piece in bytes.
 pub fn length_of(bound: &Bound, runs: &[Run], job: CopyJob) -> usize
     requires piece { IsPieceIn bound.now runs.now job }
     ensures { result ≡ piece_length (sounds_of bound.now) runs.now job }
@@ -87,7 +86,8 @@ pub fn length_of(bound: &Bound, runs: &[Run], job: CopyJob) -> usize
     job.frames as usize * frame as usize
 }
 
-/// Fills `bytes`, which have the piece's length, with its frames in its source.
+/// Reads a piece from its source into `bytes`, which must have the piece's length. Returns `CopyFault::Source` if
+/// the source can't be read.
 pub fn fetch_piece<S: Shelf>(
     shelf: &mut S,
     bound: &Bound,
@@ -105,7 +105,7 @@ pub fn fetch_piece<S: Shelf>(
 {
     let run = run_of(runs, job);
     let sound = source_of(bound, runs, job);
-    // Its frames are known to have a number of 64 bits from here on.
+    // This call makes the bounds of the source's length available.
     let _ = sound.channels();
     match sound.read_bytes(shelf, run.first + job.from, bytes) {
         Ok(()) => Ok(()),
@@ -113,7 +113,8 @@ pub fn fetch_piece<S: Shelf>(
     }
 }
 
-/// Writes the bytes of a piece at their place in the laid out medium of its run, and no other byte.
+/// Writes a piece at its offset in the preallocated medium of its run, and no other byte. Returns
+/// `CopyFault::Output` if the device fails; the piece may then be written in part.
 pub fn place_piece<B: Bench>(
     bench: &mut B,
     bound: &Bound,
@@ -142,8 +143,11 @@ pub fn place_piece<B: Bench>(
     }
 }
 
-/// Copies a piece from its source to its place in the laid out medium of its run, through `bytes`, which have its
-/// length. Where its source fails, nothing is written.
+/// Copies a piece from its source into the preallocated medium of its run, using `bytes`, which must have the
+/// piece's length, as buffer.
+///
+/// Returns `CopyFault::Source` if the source can't be read; nothing is written then. Returns `CopyFault::Output` if
+/// the medium can't be written.
 pub fn copy_piece<S: Shelf, B: Bench>(
     shelf: &mut S,
     bench: &mut B,

@@ -5,7 +5,7 @@ use Rattle.devices.specs.declared.fault.ShelfFault.TheVariants.{Device, NotFound
 use Rattle.mediacopy.proofs.Located.{inside_source, range_bytes}
 use Rattle.mediacopy.proofs.piece_copy.fetch_piece.Goals as goal
 
--- a source that isn't missing is told by its device
+-- The only fault of an existing source is a device failure.
 told_device : (fault : ShelfFault) → (fault ≡ NotFound → ⊥) → fault ≡ Device
 told_device Device there = refl
 told_device NotFound there = absurd (there refl)
