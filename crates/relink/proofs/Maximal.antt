@@ -1,4 +1,4 @@
--- Runs of kept frames have all frames that are kept together.
+-- Runs of kept sample frames contain whole stretches.
 use Rattle.std.proofs.Common.{◌≡◌, ◌⊎◌, inl, inr, ℕ, ◌+◌, ◌-◌, ◌<◌, ◌≤◌, Bool, true, false, List, Some, arith}
 use Rattle.std.specs.List.{slice_get}
 use Rattle.std.proofs.lemmas.Bool.{cases_lt}
@@ -10,7 +10,7 @@ module _ (kept : ℕ → ℕ → Bool) (home : ℕ → ℕ) (runs : List Run) (a
   pub maximal_at : (i : ℕ) (run : Run) → slice_get runs i ≡ Some run → IsMaximal kept run
   maximal_at i run there = holds_there (IsMaximal kept) runs i run are.maximal there
 
-  -- frames that are kept together with one of a run are in it
+  -- If a run contains the start of a kept stretch, it contains all of it.
   pub goes_on_to : (run : Run) → IsMaximal kept run → (frame end : ℕ) → run.first ≤ frame
       → frame < run.first + run.length
       → ((f : ℕ) → frame ≤ f → f < end → kept run.file f ≡ true) → end ≤ run.first + run.length

@@ -1,4 +1,4 @@
--- The new indexes and entries are what a project may have.
+-- The new indexes and entries are valid in a project.
 use Rattle.std.proofs.Common.{◌≡◌, ℕ, suc, ◌+◌, ◌-◌, ◌<◌, ◌≤◌, true, false, List, [], ◌∷◌, length, refl, arith, All}
 use Rattle.std.specs.Prelude.{◌==◌, ◌&&◌, nat_le, map, codes}
 use Rattle.std.specs.List.{list_all, AllByRecursion, IsDistinct}
@@ -24,12 +24,12 @@ none_distinct : IsDistinct (λ a b. a == b) []
 unfolding IsDistinct
 none_distinct = tt
 
--- the identifier is one token
+-- The identifier is one token.
 uid_ok : is_one_token (codes "_") ≡ true
 unfolding token_at
 uid_ok = refl
 
--- what is numbered has numbers of its own
+-- Numbered elements have distinct numbers.
 module _ {X Y : Type 0} (made : ℕ → X → Y) (number_of : Y → ℕ) (told : (n : ℕ) (x : X) → number_of (made n x) ≡ n) where
   later_numbers : (low number : ℕ) (xs : List X) → low < number
       → AllByRecursion (λ n. (low == n) ≡ false) (map number_of (numbered made number xs))
@@ -63,7 +63,7 @@ module _ (homes : List Home) where
       rw (source_ok number run some (omega arith) (All-head (EndsInDay homes) run runs ends))
       (sources_ok (suc number) runs (omega arith) (omega arith) (All-tail (EndsInDay homes) run runs ends))
 
-  -- their texts can stand in a line
+  -- The texts of the indexes are valid in a line.
   texts_ok : (number : ℕ) (runs : List Run) → number + length runs ≤ 32768
       → list_all has_whole_texts (numbered (run_source homes) number runs) ≡ true
   texts_ok number [] few = refl
@@ -81,7 +81,7 @@ module _ (homes : List Home) where
     texts = texts_ok 1 runs (omega arith);
   }
 
-  -- the number of the run that an entry plays
+  -- The number of the run that an entry plays.
   pub number_there : (runs : List Run) → AreApart (place_by homes) runs → (placed : Placed)
       → (is : IsLinkable homes runs placed)
       → run_number 1 runs placed.file placed.frame ≡ 1 + is.1.place

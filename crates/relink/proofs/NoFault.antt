@@ -1,4 +1,4 @@
--- The entries over the media of runs have no fault.
+-- The new entries have no fault.
 use Rattle.std.proofs.Common.{◌≡◌, ℕ, suc, ◌+◌, ◌-◌, ◌≤◌, true, false, List, [], ◌∷◌, None, Some, refl, sym, ap, arith, All}
 use Rattle.std.specs.Prelude.{nat_lt}
 use Rattle.std.specs.List.{slice_get}
@@ -16,7 +16,7 @@ use Rattle.relink.specs.Linked.{IsLinkable}
 use Rattle.relink.proofs.NewLists.{number_there}
 use Rattle.relink.proofs.Relinked.{index_there}
 
--- the files of the runs have the channels that an event plays
+-- The files of the runs have the channels that a group plays.
 abbrev pub HasChannelsFor : List Run → List OpenedFile → Placed → Type 0
 HasChannelsFor runs files e = (k : ℕ) (run : Run) → slice_get runs k ≡ Some run → e.file ≡ run.file
     → (file : OpenedFile) × (slice_get files k ≡ Some file) × (e.first + e.width ≤ file.facts.channels + 1)

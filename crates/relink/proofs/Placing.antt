@@ -1,4 +1,4 @@
--- What the event of a group keeps to, and that all its frames are in one run.
+-- The bounds of a group's entry, and the run that contains all of the group's sample frames.
 use Rattle.std.proofs.Common.{◌≡◌, ℕ, suc, ◌+◌, ◌-◌, ◌<◌, ◌≤◌, true, List, [], ◌∷◌, length, refl, ap, arith, All}
 use Rattle.std.specs.Prelude.{nat_lt}
 use Rattle.std.specs.List.{Contains}
@@ -20,7 +20,7 @@ use Rattle.relink.proofs.Maximal.{goes_on_to, maximal_at}
 use Rattle.relink.proofs.RunOf.{run_of}
 use Rattle.relink.proofs.Stretching.{OnFrames, on_frames}
 
--- a frame near a piece is kept where it can be addressed
+-- A sample frame within the handle of a piece is kept if it can be addressed.
 pub near_kept : (groups : List (List Piece)) (homes : List Home) (handle : ℕ) (p : Piece) (frame : ℕ)
     → Contains (pieces_of groups) p
     → 1 ≤ p.length → p.frame ≤ frame + handle → frame < p.frame + p.length + handle
@@ -34,7 +34,7 @@ near_kept groups homes handle p frame has some from to below =
 
 module _ (groups : List (List Piece)) (homes : List Home) (handle : ℕ) (runs : List Run) (are_homes : AreHomes homes)
     (are : AreRuns (kept_of groups homes handle) (place_by homes) runs) where
-  -- a piece of these groups, inside what can be addressed of its file
+  -- A piece of these groups, within the reach of its file's home index.
   pub record IsPlayed (p : Piece) : Type 0 where
     pub has : Contains (pieces_of groups) p
     pub ok : IsPiece p
@@ -98,11 +98,11 @@ module _ (groups : List (List Piece)) (homes : List Home) (handle : ℕ) (runs :
         source_in_day = omega (arith, some, last, inside);
       }
 
-  -- groups of such pieces
+  -- Groups of such pieces.
   abbrev pub ArePlayed : List Piece → Type 0
   ArePlayed group = IsGroup group × All IsPlayed group
 
-  -- what holds of the event of each such group
+  -- A property that holds for each such group holds for all of them.
   pub all_placed : (P : Placed → Type 0)
       → ((p : Piece) (ps : List Piece) → IsGroup (p ∷ ps) → All IsPlayed (p ∷ ps) → P (placed_by p (p ∷ ps)))
       → (gs : List (List Piece)) → All ArePlayed gs → All P (placed_of gs)
@@ -118,7 +118,7 @@ module _ (groups : List (List Piece)) (homes : List Home) (handle : ℕ) (runs :
       all_placed (IsLinkable homes runs) (λ p ps is played. (placed_ok p ps is played, placed_lies p ps is played))
       gs all
 
--- every group has one event
+-- Every group has one entry.
 pub length-placed_of : (gs : List (List Piece)) → All IsGroup gs → length (placed_of gs) ≡ length gs
 length-placed_of [] all = refl
 length-placed_of ([] ∷ gs) all = absurd (All-head IsGroup [] gs all)

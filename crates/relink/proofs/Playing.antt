@@ -1,4 +1,4 @@
--- The pieces of groups that lie in order, and what follows for the runs of what is kept near them.
+-- The pieces of groups in order, and the consequences for the runs around them.
 use Rattle.std.proofs.Common.{ℕ, List, [], ◌∷◌, get_or, All}
 use Rattle.std.specs.List.{Contains}
 use Rattle.std.proofs.lemmas.List.Elements.{All-head, All-tail, All-cons, All-nil, All-contains, Contains-append_left, Contains-append_right, Contains-get_or}

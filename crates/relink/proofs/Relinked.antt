@@ -1,4 +1,4 @@
--- The entries over the media of runs sound as the groups over their sources.
+-- The new entries play the same samples as the groups did from their sources.
 use Rattle.std.proofs.Common.{◌≡◌, ℕ, zero, suc, ◌+◌, ◌-◌, ◌≤◌, true, false, List, [], ◌∷◌, Some, refl, sym, ap, ◌∙◌, arith, All, IsTrue}
 use Rattle.std.specs.Prelude.{ℤ, ◌==◌, nat_lt, nat_le}
 use Rattle.std.specs.List.{slice_get, list_all}
@@ -21,7 +21,7 @@ use Rattle.relink.specs.Linked.{IsLinkable}
 use Rattle.sound_terms.specs.PlacedLaws.{group_sum, same_under}
 use Rattle.relink.proofs.NewLists.{number_there}
 
--- the index of this number
+-- The index with a number.
 index_behind : (homes : List Home) (number k : ℕ) (runs : List Run) (run : Run) → slice_get runs k ≡ Some run
     → index_of (numbered (run_index homes) number runs) (number + k) ≡ Some (run_index homes (number + k) run)
 index_behind homes number k [] run there = cc
@@ -42,7 +42,7 @@ index_there homes runs k run there = index_behind homes 1 k runs run there
 
 module _ (homes : List Home) (runs : List Run) (apart : AreApart (place_by homes) runs) (given copied : Reading)
     (copies : CopiesRuns given runs copied) (channel time : ℕ) where
-  -- an entry adds what the event of its group adds
+  -- An entry contributes the same as its group.
   one_event : (number : ℕ) (placed : Placed) → IsLinkable homes runs placed
       → contribution_of copied (run_indexes homes runs) (run_event homes runs number placed) channel time
       ≡ placed_part given placed channel time

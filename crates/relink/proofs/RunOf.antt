@@ -1,4 +1,4 @@
--- The run that has a frame, by its place among runs that are apart.
+-- The run that contains a sample frame, by its position among disjoint runs.
 use Rattle.std.proofs.Common.{◌≡◌, ◌⊎◌, inl, inr, ℕ, zero, suc, ◌+◌, ◌<◌, ◌≤◌, Bool, true, false, List, [], ◌∷◌, length, get_or, Some, refl, sym, ◌∙◌, arith}
 use Rattle.std.specs.Prelude.{◌==◌, nat_lt}
 use Rattle.std.specs.List.{slice_get}
@@ -13,7 +13,7 @@ use Rattle.list_terms.specs.Renewed.{is_in_run, run_number}
 use Rattle.mediaset.specs.Runs.{AreApart, EndsBefore}
 use Rattle.relink.specs.Begun.{is_begun}
 
--- a place of the runs, with its run, that has the frame
+-- A position in the runs, whose run contains the sample frame.
 pub record IsRunAt (runs : List Run) (file frame place : ℕ) : Type 0 where
   pub run : Run
   pub there : slice_get runs place ≡ Some run
@@ -66,7 +66,7 @@ run_number-at file frame number (suc place) (r ∷ runs) run there has none =
     rw outside (run_number-at file frame (suc number) place runs run there has
     (λ i a below at. none (suc i) a (omega arith) at) ∙ omega arith)
 
--- the number of the run that has the frame
+-- The number of the run that contains the sample frame.
 pub run_number_of : (home : ℕ → ℕ) (runs : List Run) (file frame place : ℕ) → AreApart home runs
     → IsRunAt runs file frame place
     → run_number 1 runs file frame ≡ 1 + place
@@ -95,7 +95,7 @@ module _ (home : ℕ → ℕ) (runs : List Run) (file frame : ℕ) (apart : AreA
         (slice_get-get_or runs j d inside)) is
     by_order i j d below inside is (inr behind) = let same : i ≡ j = omega arith in rw same is
 
-  -- how many runs are begun, where the runs parted there
+  -- The partition point of the runs is the number of the run.
   pub counted : (place count : ℕ) → IsRunAt runs file frame place → count ≤ length runs
       → IsPartitionPoint (λ run. begun run ≡ true) (λ run. begun run ≡ false) runs count → count ≡ 1 + place
   counted place count is bound point =

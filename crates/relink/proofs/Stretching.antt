@@ -1,4 +1,4 @@
--- The pieces of a group go on from one another.
+-- The pieces of a group continue each other.
 use Rattle.std.proofs.Common.{◌≡◌, ◌⊎◌, inl, inr, ℕ, ◌+◌, ◌<◌, ◌≤◌, List, [], ◌∷◌, refl, ◌∙◌, arith, subst, All}
 use Rattle.std.proofs.lemmas.Bool.{cases_lt}
 use Rattle.std.proofs.lemmas.List.Elements.{All-head, All-tail, All-cons, All-nil}
@@ -8,7 +8,7 @@ use Rattle.sound_terms.specs.GroupLaws.{GoesOn, length_more}
 use Rattle.sound_terms.specs.PlacedLaws.{follows_on}
 use Rattle.sound_terms.specs.Entries.{length_of_group}
 
--- what holds of each frame of each piece holds of each frame of the group
+-- A property of each sample frame of each piece holds for each sample frame of the group.
 abbrev pub OnFrames : (ℕ → ℕ → Type 0) → Piece → Type 0
 OnFrames K p = (f : ℕ) → p.frame ≤ f → f < p.frame + p.length → K p.file f
 
@@ -28,7 +28,7 @@ on_frames K p (q ∷ qs) is all f from to =
           subst (λ (file : ℕ). K file f) next.file
           (behind (omega (arith, next.frame)) (omega (arith, next.frame, whole, to)))
 
--- a piece of a group plays frames of it
+-- A piece of a group plays a part of its sample frames.
 pub record IsInside (p : Piece) (whole : ℕ) (x : Piece) : Type 0 where
   pub same_file : x.file ≡ p.file
   pub from : p.frame ≤ x.frame

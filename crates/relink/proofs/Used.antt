@@ -29,12 +29,12 @@ module _ (groups : List (List Piece)) (homes : List Home) (handle : ℕ) (runs :
   abbrev kept : ℕ → ℕ → Bool
   kept = kept_of groups homes handle
 
-  -- a piece whose first frame is in the run
+  -- A piece that begins in the run.
   record StartsIn (run : Run) (p : Piece) : Type 0 where
     has : Contains (pieces_of groups) p
     frame : HasFrame p.file p.frame run
 
-  -- a frame that is kept because of a piece, and the piece's first frame, are in one run
+  -- If a sample frame is kept because of a piece, it is in the run that contains the piece's first sample frame.
   starts_in : (run : Run) → IsMaximal kept run → (p : Piece) → Contains (pieces_of groups) p
       → is_near handle run.file run.first p ≡ true
       → p.frame < addressable_by homes p.file → StartsIn run p
@@ -67,7 +67,7 @@ module _ (groups : List (List Piece)) (homes : List Home) (handle : ℕ) (runs :
         };
       }
 
-  -- the entry of a group that has such a piece plays the run
+  -- The entry of a group with such a piece plays the run.
   index_of_group : (k : ℕ) (run : Run) → slice_get runs k ≡ Some run → (p : Piece) → StartsIn run p
       → (q : Piece) (qs : List Piece)
       → IsGroup (q ∷ qs) → All (IsPlayed groups homes handle runs are_homes are) (q ∷ qs) → Contains (q ∷ qs) p
@@ -121,7 +121,7 @@ module _ (groups : List (List Piece)) (homes : List Home) (handle : ℕ) (runs :
             or_left (run_number 1 runs q.file q.frame == 1 + k) _ found
         by_side rest (inr later) = or_right (run_number 1 runs q.file q.frame == 1 + k) _ (rest later)
 
-  -- some piece is the reason why the first frame of a run is kept
+  -- The piece because of which the first sample frame of a run is kept.
   reason : (run : Run) → IsMaximal kept run
       → (p : Piece) × Contains (pieces_of groups) p × (is_near handle run.file run.first p ≡ true)
   reason run is =

@@ -1,4 +1,4 @@
--- The laws of the list over the media of runs of what is kept near groups.
+-- The laws of the consolidated list as a whole.
 use Rattle.std.proofs.Common.{◌≡◌, ℕ, ◌+◌, ◌<◌, ◌≤◌, List, None, length, arith, All, IsTrue, true}
 use Rattle.std.proofs.lemmas.List.Elements.{All-contains, All-head}
 use Rattle.sound_terms.specs.declared.piece.Home.{Home}

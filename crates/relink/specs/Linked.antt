@@ -1,4 +1,4 @@
--- Events of groups that an entry can be made of.
+-- Groups that can become entries.
 use Rattle.std.specs.Prelude.{◌≡◌, ℕ, ◌+◌, ◌≤◌, List, All, Some, slice_get}
 use Rattle.sampletime.specs.TimeCode.{day}
 use Rattle.sound_terms.specs.declared.piece.Home.{Home}
@@ -8,7 +8,7 @@ use Rattle.sound_terms.specs.declared.piece.Run.{Run}
 use Rattle.sound_terms.specs.Homes.{base_by}
 use Rattle.list_terms.specs.Binding.{OpenedFile}
 
--- an event whose channels, times and fades an entry can have
+-- A group whose channels, times and fades are valid for an entry.
 pub record IsPlaced (homes : List Home) (e : Placed) : Type 0 where
   pub wide : 1 ≤ e.width
   pub source_from_one : 1 ≤ e.first
@@ -20,7 +20,7 @@ pub record IsPlaced (homes : List Home) (e : Placed) : Type 0 where
   pub fades : e.rise + e.fall ≤ e.length
   pub source_in_day : base_by homes e.file + (e.frame + e.length) ≤ day
 
--- all frames of an event are in the run of this place
+-- All sample frames of a group are in one run.
 pub record LiesInRun (runs : List Run) (e : Placed) : Type 0 where
   pub place : ℕ
   pub run : Run
@@ -29,10 +29,11 @@ pub record LiesInRun (runs : List Run) (e : Placed) : Type 0 where
   pub from : run.first ≤ e.frame
   pub to : e.frame + e.length ≤ run.first + run.length
 
+-- A group that can become an entry over these runs.
 abbrev pub IsLinkable : List Home → List Run → Placed → Type 0
 IsLinkable homes runs e = IsPlaced homes e × LiesInRun runs e
 
--- the file of each run is there, with every channel of its source that a piece plays
+-- Each run's file exists, with every source channel that a piece plays.
 abbrev pub HaveChannels : List Piece → List Run → List OpenedFile → Type 0
 HaveChannels pieces runs files = (k : ℕ) (run : Run) → slice_get runs k ≡ Some run
     → (file : OpenedFile) × (slice_get files k ≡ Some file)

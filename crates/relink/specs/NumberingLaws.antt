@@ -1,4 +1,4 @@
--- What is numbered, one after another.
+-- Laws of numbered elements.
 use Rattle.std.proofs.Common.{◌≡◌, ℕ, zero, suc, ◌+◌, ◌<◌, List, [], ◌∷◌, ◌++◌, length, take, get_or, arith, add-one, sym, ap, ◌∙◌, ◌≤◌, refl, false}
 use Rattle.std.specs.Prelude.{◌==◌}
 use Rattle.std.specs.List.{list_any}
@@ -15,7 +15,7 @@ numbered_more made number (suc k) (x ∷ xs) d below =
     ap (λ rest. made number x ∷ rest) (numbered_more made (suc number) k xs d (omega arith)
     ∙ ap (λ (n : ℕ). numbered made (suc number) (take k xs) ++ made n (get_or xs k d) ∷ []) counted)
 
--- one more, counted from 1 on
+-- One more element, counted from 1.
 pub numbered_push : {X Y : Type 0} (made : ℕ → X → Y) (k : ℕ) (xs : List X) (d : X) → k < length xs
     → numbered made 1 (take k xs) ++ made (k + 1) (get_or xs k d) ∷ [] ≡ numbered made 1 (take (k + 1) xs)
 numbered_push made k xs d below =
@@ -32,7 +32,7 @@ numbered_step made k xs d one before now below so_far more is =
     more ∙ ap (λ front. front ++ one ∷ []) so_far ∙ ap (λ (y : _). numbered made 1 (take k xs) ++ y ∷ []) is
     ∙ numbered_push made k xs d below
 
--- none of them has a number behind theirs
+-- No element has a number past the last one.
 pub numbered_free :
     {X Y : Type 0} (made : ℕ → X → Y) (number_of : Y → ℕ) → ((n : ℕ) (x : X) → number_of (made n x) ≡ n)
     → (number behind : ℕ) (xs : List X) → number + length xs ≤ behind

@@ -1,4 +1,4 @@
-// The list over the media of runs of a checked project.
+// The consolidated list of a checked project.
 ghost use Rattle.std.specs.Prelude.{◌≡◌, ◌↔◌, ◌<◌, ◌≤◌, ◌+◌, ℕ, IfOk, OnOk, IsTrue, length, true, None, IsErrOf};
 ghost use Rattle.std.specs.List.{All};
 ghost use Rattle.sound_terms.specs.Mix.{Reading, mix_at};
@@ -22,9 +22,10 @@ use mediaset::{Run, Runs};
 use projectcheck::Checked;
 use std::alloc::Global;
 
-/// The list over the media of these runs: an index for each run, an entry for each group, under the header of a checked
-/// project. The runs are those of [`mediaset::runs`] over these groups. `TooManyEntries` where there are more than
-/// 32,767 groups, `Memory` where no memory was left.
+/// Returns the consolidated list with the header of a checked project: one index for each run, one entry for each
+/// group. The runs must be those that [`mediaset::runs`] returns for these groups.
+///
+/// Returns `TooManyEntries` if there are more than 32,767 groups, and `Memory` if out of memory.
 pub fn relink(
     alloc: Global,
     intervals: Intervals,
@@ -51,7 +52,7 @@ pub fn relink(
         → HaveChannels (pieces_of intervals) runs.now binding.files → event_fault binding (consolidated_project
         checked.now.project (homes_of checked.now.bound) intervals runs.now).events ≡ None) }
 {
-    // Asked before any memory is taken: where there are too many, that is what is told.
+    // Checked before anything is allocated, so that this error takes precedence.
     if intervals.groups().len() > MOST_ENTRIES {
         return Err(RelinkFault::TooManyEntries);
     }

@@ -1,4 +1,4 @@
-// An entry for each group.
+// Entries for groups.
 ghost use Rattle.std.specs.Prelude.{◌≡◌, ◌≤◌, ◌+◌, ◌-◌, IfOk, length};
 ghost use Rattle.std.specs.List.{All};
 ghost use Rattle.list_terms.specs.Renewed.{numbered, run_event};
@@ -10,7 +10,7 @@ use mediaset::Runs;
 use sound_terms::{Channels, Event, Fade, Placed};
 use std::alloc::{AllocError, Global};
 
-/// So many channels from one on.
+/// Returns a run of `width` channels.
 fn channels_from(first: u8, width: u8) -> Channels
     requires wide { 1 ≤ width }
     requires to_64 { first + width ≤ 65 }
@@ -22,7 +22,7 @@ fn channels_from(first: u8, width: u8) -> Channels
     }
 }
 
-/// The entry that plays, of the run of a group's first frame, what the group plays.
+/// Returns the entry of a group, which plays the run that contains the group's first sample frame.
 fn entry_of(runs: &Runs, number: u32, placed: &Placed) -> Event
     requires { IsLinkable runs.now.homes runs.now.runs placed.now }
     ensures { result ≡ run_event runs.now.homes runs.now.runs number placed.now }
@@ -46,7 +46,7 @@ fn entry_of(runs: &Runs, number: u32, placed: &Placed) -> Event
     }
 }
 
-/// The entries of these groups, numbered from 1 on.
+/// Returns the entries of the groups, numbered from 1.
 pub(crate) fn entries_of(
     alloc: Global,
     runs: &Runs,

@@ -1,4 +1,4 @@
-// Why a list isn't linked to the media.
+// Errors of making the list.
 ghost use Rattle.std.specs.Prelude.{◌≡◌};
 ghost use Rattle.relink.specs.Fault.{number_of};
 ghost use Rattle.relink.specs.declared.fault.RelinkFault.TheVariants.{Memory};
@@ -7,19 +7,19 @@ use groups::IntervalFault;
 use std::alloc::AllocError;
 use thiserror::Error;
 
-/// Why a list isn't linked to the media.
+/// The reason why the consolidated list can't be made.
 #[derive(Clone, Copy, Debug, PartialEq, Eq, Error)]
 pub enum RelinkFault {
-    /// 55: more groups than the entries of a list can be.
+    /// 55: more than 32,767 groups, the maximum number of entries.
     #[error("too many entries")]
     TooManyEntries,
-    /// 56
+    /// 56: out of memory.
     #[error("out of memory")]
     Memory,
 }
 
 impl RelinkFault {
-    /// The number of the refusal.
+    /// Returns the refusal number, 55 or 56.
     pub fn number(&self) -> u8
         ensures { result ≡ number_of self.now }
     {

@@ -1,4 +1,4 @@
-// An index for each run.
+// Indexes for runs.
 ghost use Rattle.std.specs.Prelude.{◌≡◌, ◌≤◌, ◌++◌, IfOk, codes};
 ghost use Rattle.sampletime.specs.TimeCode.{day};
 ghost use Rattle.list_terms.specs.Renewed as spec;
@@ -12,10 +12,10 @@ use sampletime::SampleTime;
 use sound_terms::{Homes, Run};
 use std::alloc::{AllocError, Global};
 
-/// The folder of a medium, as a URL has it.
+/// The URL of the media folder.
 const FOLDER: &[u8] = b"URL:file://localhost/";
 
-/// The time of so many samples.
+/// Converts a number of samples, at most a day, to a time.
 pub(crate) fn time_of(samples: u64) -> SampleTime
     requires { samples ≤ day }
     ensures { result ≡ samples }
@@ -23,7 +23,7 @@ pub(crate) fn time_of(samples: u64) -> SampleTime
     SampleTime::new(samples).unwrap_or(SampleTime::DAY)
 }
 
-/// Where the medium of this number is.
+/// Returns the URL of a medium.
 fn url_of(alloc: Global, number: u32) -> Result<Bytes, AllocError>
     ensures { IfOk result (λ url. url ≡ codes "URL:file://localhost/" ++ spec.media_name number) }
 {
@@ -33,7 +33,7 @@ fn url_of(alloc: Global, number: u32) -> Result<Bytes, AllocError>
     Ok(Bytes::from(url))
 }
 
-/// The index of this run.
+/// Returns the index of a run.
 fn index_of(alloc: Global, homes: &Homes, number: u32, run: &Run) -> Result<Source, AllocError>
     requires { EndsInDay homes.now run.now }
     ensures { IfOk result (λ source. source ≡ run_source homes.now number run.now) }
@@ -45,7 +45,7 @@ fn index_of(alloc: Global, homes: &Homes, number: u32, run: &Run) -> Result<Sour
     Ok(Source::new(number, url, uid, Some(start), Some(length)))
 }
 
-/// The indexes of these runs, numbered from 1 on.
+/// Returns the indexes of the runs, numbered from 1.
 pub(crate) fn indexes_of(alloc: Global, runs: &Runs) -> Result<Sources, AllocError>
     ensures indexes { IfOk result (λ sources. sources ≡ numbered (run_source runs.now.homes) 1 runs.now.runs) }
     ensures sound { AreIndexable runs.now }

@@ -1,4 +1,4 @@
-//! The list over the media of a consolidation: an index for each run of kept frames, and an entry for each group.
+//! The consolidated list: one index for each run of kept sample frames, and one entry for each group.
 #![tactic(auto)]
 
 mod checked;

@@ -1,4 +1,4 @@
-// The list over the media of runs.
+// The consolidated list of a project.
 ghost use Rattle.std.specs.Prelude.{◌≡◌, ◌↔◌, ◌<◌, ◌≤◌, ◌+◌, ℕ, IfErr, IfOk, OnOk, IsTrue, length, true, None, IsErrOf};
 ghost use Rattle.std.specs.List.{All};
 ghost use Rattle.sound_terms.specs.Mix.{Reading, mix_at};
@@ -21,10 +21,10 @@ use groups::Intervals;
 use mediaset::Runs;
 use std::alloc::Global;
 
-/// The entries that a list can have.
+/// The maximum number of entries of a list.
 pub(crate) const MOST_ENTRIES: usize = 32_767;
 
-/// The list over the media of these runs, where all of its indexes and entries can be made.
+/// Returns the consolidated list, if it has few enough entries.
 fn linked(
     alloc: Global,
     intervals: &Intervals,
@@ -45,7 +45,10 @@ fn linked(
     Ok(renewed)
 }
 
-/// [`crate::relink`] over runs with their homes, which are lent as a consolidation keeps them.
+/// Returns the consolidated list of a project. Like [`crate::relink`], but borrows runs that already have their
+/// homes.
+///
+/// Returns `TooManyEntries` if there are more than 32,767 groups, and `Memory` if out of memory.
 pub fn relink_homed(
     alloc: Global,
     intervals: &Intervals,
@@ -71,7 +74,7 @@ pub fn relink_homed(
         → event_fault binding (consolidated_project project.now runs.now.homes intervals.now runs.now.runs).events
         ≡ None }
 {
-    // The runs are known to be apart from here on.
+    // This call makes the invariant of the runs available.
     let _ = runs.as_slice();
     if intervals.groups().len() > MOST_ENTRIES {
         return Err(RelinkFault::TooManyEntries);
