@@ -1,4 +1,4 @@
--- Entries as groups one after the other, and groups in order of their starts.
+-- Laws of the groups of entries, one after another, and of groups ordered by start time.
 use Rattle.std.proofs.Common.{◌≡◌, ◌∙◌, ℕ, ◌+◌, true, List, [], ◌∷◌, ◌++◌, All, refl, sym, ap, subst, arith, append_assoc, append-nil, length-append}
 use Rattle.std.specs.Prelude.{◌+ℤ◌}
 use Rattle.std.specs.List.{list_all}
@@ -58,7 +58,7 @@ alone_whole : (parts : List Piece) → list_all is_whole parts ≡ true → are_
 alone_whole [] whole = refl
 alone_whole (p ∷ ps) whole = rw whole refl
 
--- nothing sounds
+-- No entry, no group.
 pub silence : (binding : Binding) → SoundAs binding [] []
 silence binding = record {
   turn = refl;
@@ -68,7 +68,7 @@ silence binding = record {
   few = λ time. omega arith;
 }
 
--- one more entry
+-- One more entry.
 pub one_more : (binding : Binding) (events : List Event) (event : Event) (groups new : List (List Piece))
     → SoundAs binding events groups
     → SoundsAs binding event (parts_by (index_of binding.indexes event.index) event)
@@ -97,7 +97,7 @@ one_more binding events event groups new so_far own pushed =
           omega (arith, held, before, once, longer);
     }
 
--- what holds of all pieces holds of those of each group
+-- A property of all pieces is a property of the pieces of each group.
 of_each : (P : Piece → Type 0) (groups : List (List Piece)) → All P (pieces_of groups) → All (All P) groups
 of_each P [] all = All-nil (All P)
 of_each P (group ∷ groups) all =
@@ -109,7 +109,7 @@ pub lie_in_order : (P : Piece → Type 0) (groups : List (List Piece)) → All P
 lie_in_order P groups all =
     all_pieces P (in_start_order groups) (all_in_order (All P) groups (of_each P groups all))
 
--- how many pieces hold a time is the total of the groups
+-- The number of pieces at a time is the sum over the groups.
 held_total : (time : ℕ) (groups : List (List Piece))
     → holding time (pieces_of groups) ≡ total ◌+◌ 0 (holding time) groups
 held_total time [] = refl

@@ -1,4 +1,4 @@
--- Where the parts of an entry lie in its file, and how many hold a time.
+-- The pieces of an entry: their positions in the file, and the number of pieces at a time.
 use Rattle.std.proofs.Common.{◌≡◌, ◌∙◌, ℕ, ◌+◌, ◌-◌, ◌<◌, ◌≤◌, Bool, true, false, List, [], ◌∷◌, ◌++◌, All, Some, refl, arith, ap}
 use Rattle.std.specs.Prelude.{nat_lt}
 use Rattle.std.specs.List.{slice_get}
@@ -17,7 +17,7 @@ use Rattle.sound_terms.specs.Entries.{parts_of, stretch_of}
 use Rattle.interval.specs.AtHome.{IsAtHome}
 use Rattle.interval.proofs.Playable.{HasNumbers, Plays}
 
--- a stretch inside the event
+-- A part of the event.
 stretch_lies : (sounds : List SoundFacts) (homes : List Home) (index : BoundIndex) (facts : SoundFacts) (event : Event)
     (i n : ℕ) (shape : Shape)
     → Plays index facts event → HasNumbers event → slice_get sounds index.file ≡ Some facts
@@ -60,7 +60,7 @@ pub holding-append : (time : ℕ) (a b : List Piece) → holding time (a ++ b) �
 holding-append time [] b = omega arith
 holding-append time (p ∷ ps) b = let rest = holding-append time ps b in omega (arith, rest)
 
--- a stretch holds a time at most once, and only a time inside it
+-- A part covers a time at most once, and only times within it.
 stretch_holds : (index : BoundIndex) (event : Event) (time i n : ℕ) (shape : Shape)
     → holding time (stretch_of index event i n shape) ≤ 1
 stretch_holds index event time i n shape = grind (arith, nat_tests)
@@ -73,7 +73,7 @@ not_behind : (index : BoundIndex) (event : Event) (time i n : ℕ) (shape : Shap
     → holding time (stretch_of index event i n shape) ≡ 0
 not_behind index event time i n shape late = grind (arith, nat_tests, late)
 
--- the parts follow one another
+-- The parts follow one another.
 module _ (index : BoundIndex) (event : Event) (time : ℕ) where
   abbrev rise : ℕ
   rise = event.rise.length

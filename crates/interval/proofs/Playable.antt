@@ -1,4 +1,4 @@
--- An entry without a fault plays frames and channels that its file has.
+-- An entry without a fault plays samples and channels that its file has.
 use Rattle.std.proofs.Common.{◌≡◌, ◌∙◌, ℕ, zero, suc, ◌+◌, ◌-◌, ◌<◌, ◌≤◌, true, List, [], ◌∷◌, Option, None, Some, min, refl, sym, ap, arith, option_map}
 use Rattle.std.specs.List.{slice_get}
 use Rattle.std.proofs.lemmas.Bool.Decides.{nat_tests}
@@ -12,7 +12,7 @@ use Rattle.list_terms.specs.Binding.{Binding, OpenedFile, addressable_from}
 use Rattle.list_terms.specs.Accepted.{entry_fault, entry_refusal, event_fault, first_fault, span_fault}
 use Rattle.list_terms.specs.WholeProject.{is_event}
 
--- no entry of a project without a fault has one
+-- No entry of a project without a fault is faulty.
 pub no_entry_fault : (binding : Binding) (events : List Event) (i : ℕ) (event : Event)
     → event_fault binding events ≡ None → slice_get events i ≡ Some event
     → entry_fault binding event ≡ None
@@ -32,13 +32,13 @@ no_entry_fault binding (first ∷ events) i event none there =
           ap (λ o. first_fault (option_map (entry_refusal first) o) (event_fault binding events)) (sym e) ∙ none in
           cc
 
--- the fault of an entry whose index is bound to this file
+-- The fault of an entry whose index is bound to this file.
 pub span_is : (binding : Binding) (event : Event) (index : BoundIndex) (file : OpenedFile)
     → index_of binding.indexes event.index ≡ Some index
     → slice_get binding.files index.file ≡ Some file → entry_fault binding event ≡ span_fault index file.facts event
 span_is binding event index file found there = rw (found, there) refl
 
--- the numbers of an entry without a fault
+-- The bounds of an entry without a fault.
 pub record Plays (index : BoundIndex) (facts : SoundFacts) (event : Event) : Type 0 where
   pub in_order : event.dest_in ≤ event.dest_out
   pub fades : event.rise.length + event.fall.length ≤ event.dest_out - event.dest_in
@@ -55,7 +55,7 @@ plays index facts event faultless = record {
   frames = λ some. grind (arith, nat_tests, faultless, some);
 }
 
--- what every entry of a project has
+-- The bounds of any entry of a project.
 pub record HasNumbers (event : Event) : Type 0 where
   pub source_in : event.source_in ≤ day
   pub dest_out : event.dest_out ≤ day

@@ -1,4 +1,4 @@
--- What the pieces of a checked project play.
+-- The pieces of a checked project.
 use Rattle.std.specs.Prelude.{List}
 use Rattle.sound_terms.specs.declared.piece.Home.{Home}
 use Rattle.sound_terms.specs.declared.piece.Piece.{Piece}
@@ -6,7 +6,7 @@ use Rattle.sound_terms.specs.Sounds.{SoundFacts}
 use Rattle.sound_terms.specs.Media.{IsPieceOf}
 use Rattle.sound_terms.specs.Homes.{LiesAtHome}
 
--- channels and frames of an opened file, and frames that its home index can address
+-- A piece within the channels and the length of an opened file, and within the reach of its home index.
 pub record IsAtHome (sounds : List SoundFacts) (homes : List Home) (p : Piece) : Type 0 where
   pub of_file : IsPieceOf sounds p
   pub at_home : LiesAtHome homes p

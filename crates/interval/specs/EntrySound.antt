@@ -1,4 +1,4 @@
--- What an entry without a fault sounds like as the pieces of one group, and many entries as their groups in turn.
+-- The sound of an entry without a fault as the pieces of one group, and of several entries as their groups.
 use Rattle.std.specs.Prelude.{◌≡◌, ℕ, ◌≤◌, true, List, length, All}
 use Rattle.std.specs.List.{list_all}
 use Rattle.sound_terms.specs.declared.Event.{Event}
@@ -11,7 +11,8 @@ use Rattle.list_terms.specs.BoundHomes.{homes_of}
 use Rattle.list_terms.specs.Heard.{sounds_of}
 use Rattle.interval.specs.AtHome.{IsAtHome}
 
--- they add what the entry adds, with whole ramps, inside its file, one at each time
+-- The pieces of an entry: together they contribute the same as the entry, have whole fades, are within the file,
+-- and never overlap.
 pub record SoundsAs (binding : Binding) (event : Event) (parts : List Piece) : Type 0 where
   pub mix : (reading : Reading) (channel time : ℕ)
       → sum_of reading parts channel time ≡ contribution_of reading binding.indexes event channel time
@@ -19,12 +20,12 @@ pub record SoundsAs (binding : Binding) (event : Event) (parts : List Piece) : T
   pub lies : All (IsAtHome (sounds_of binding) (homes_of binding)) parts
   pub once : (time : ℕ) → holding time parts ≤ 1
 
--- each is a group of pieces
+-- Groups of pieces that are well formed.
 pub record AreFormed (groups : List (List Piece)) : Type 0 where
   pub groups_ok : All IsGroup groups
   pub pieces_ok : All (All IsPiece) groups
 
--- all of these entries
+-- The groups of these entries.
 pub record SoundAs (binding : Binding) (events : List Event) (groups : List (List Piece)) : Type 0 where
   pub turn : groups ≡ groups_in_turn binding.indexes events
   pub mix : (reading : Reading) (channel time : ℕ)

@@ -1,4 +1,4 @@
-//! The sound of a checked project as groups of pieces over its files.
+//! The sound of a checked project, as groups of pieces of its files.
 #![tactic(auto)]
 
 mod sound;

@@ -1,4 +1,4 @@
-// The sound of a checked project.
+// The groups of a checked project.
 ghost use Rattle.std.specs.Prelude.{◌≡◌, ◌≤◌, ℕ, ◌++◌, length, IfOk, IsTrue, None, OnOk, true};
 ghost use Rattle.std.specs.List.{All, list_all};
 ghost use Rattle.sound_terms.specs.Entries.{IsPlayable, groups_of_entries, parts_by, parts_of};
@@ -18,7 +18,7 @@ use sound_terms::{BoundIndex, Event};
 use sourceindex::Bound;
 use std::alloc::{AllocError, Global};
 
-/// Adds the group of an entry over its index, where it has a sample.
+/// Adds the group of an entry, unless the entry is empty.
 fn push_group(
     alloc: Global,
     groups: &mut Vec<Group>,
@@ -39,7 +39,7 @@ fn push_group(
     Ok(())
 }
 
-/// Adds the group of an entry without a fault, where it has a sample.
+/// Adds the group of an entry without a fault, unless the entry is empty.
 fn push_entry(
     alloc: Global,
     groups: &mut Vec<Group>,
@@ -59,7 +59,7 @@ fn push_entry(
     push_group(alloc, groups, &index, event)
 }
 
-/// The groups of the entries, in their order.
+/// Returns the groups of the entries, in list order.
 fn groups_of(alloc: Global, checked: &Checked) -> Result<Vec<Group>, AllocError>
     ensures sound { IfOk result (λ groups. SoundAs checked.now.bound checked.now.project.events groups.items) }
     ensures formed { IfOk result (λ groups. AreFormed groups.items) }
@@ -73,8 +73,10 @@ fn groups_of(alloc: Global, checked: &Checked) -> Result<Vec<Group>, AllocError>
     Ok(groups)
 }
 
-/// The entries as groups of pieces, by their starts and of equal starts in their order: the in-fade, the middle and the
-/// out-fade of each that has a sample.
+/// Returns the entries as groups of pieces, ordered by start time and then by list order. The pieces of an entry
+/// are its fade-in, its middle and its fade-out; empty entries have no group.
+///
+/// Returns `IntervalFault::Memory` if out of memory.
 pub fn from_checked(alloc: Global, checked: &Checked) -> Result<Intervals, IntervalFault>
     ensures parts { IfOk result (λ intervals. intervals
         ≡ groups_of_entries checked.now.bound.indexes checked.now.project.events) }

@@ -2,7 +2,7 @@ use Rattle.std.proofs.Common.{take}
 use Rattle.interval.specs.EntrySound.{AreFormed, SoundAs}
 use Rattle.interval.proofs.sound.groups_of.Given as goal
 
--- the entries so far
+-- The entries so far.
 abbrev pub invariant-loop-event : goal.invariant-loop-event
 invariant-loop-event l = record {
   sound : SoundAs l.checked.bound (take l.event-index l.event-items) l.groups.items;
