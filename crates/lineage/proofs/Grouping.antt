@@ -1,4 +1,4 @@
--- Groups, one entry after another.
+-- Laws of groups, one entry after another.
 use Rattle.std.proofs.Common.{◌≡◌, ◌∙◌, ◌+◌, ◌-◌, ◌<◌, ◌≤◌, ◌++◌, ◌∷◌, [], ◌||◌, ◌⊎◌, inl, inr, Bool, true, false, true≢false, cond, List, ℕ, ap, arith, filter, fold, if◌then◌else◌, length, length-append, length-take, map, nat_eq, not, refl, subst, sym, take}
 use Rattle.std.specs.Prelude.{Option, None, Some, slice_get, ⊤}
 use Rattle.std.proofs.lemmas.Bool.Decides.{nat_tests}
@@ -32,7 +32,7 @@ last_test : (plays : Bool) (other : Played)
 last_test true other = refl
 last_test false other = refl
 
--- one more given entry
+-- One more given entry.
 pub numbers_more : (entry : Played) (given : List Played) (other : Played)
     → numbers_of (given ++ other ∷ []) entry ≡ numbers_of given entry ++ number_of entry other
 numbers_more entry [] other = last_test (play_together entry other) other
@@ -42,7 +42,7 @@ numbers_more entry (first ∷ given) other =
     ∙ ap (λ (ns : List ℕ). ns ++ number_of entry other)
     (first_test (play_together entry first) first (filter (play_together entry) given))
 
--- tests that agree on groups find the same
+-- Searching groups with an equal test gives the same result.
 module _ (eq : Group → Group → Bool) (same : (a b : Group) → eq a b ≡ is_same (seen a) (seen b)) where
   any_seen : (group : Group) (groups : List Group) → list_any (eq group) groups ≡ list_any (is_same (seen group)) (map seen groups)
   any_seen group [] = refl
@@ -76,7 +76,7 @@ true_or_false : (b : Bool) → (b ≡ true) ⊎ (b ≡ false)
 true_or_false true = inl refl
 true_or_false false = inr refl
 
--- a group that is added last has the position that it had, also where that was behind the others
+-- Appending a group doesn't change its position, even if the group was past the end.
 position_last : (group : Shown) (groups : List Shown)
     → position_in (groups ++ group ∷ []) group ≡ position_in groups group
 position_last group [] = rw (is_itself group) refl
@@ -105,7 +105,7 @@ any_last group one (first ∷ groups) =
     ap (λ (b : Bool). is_same group first || b) (any_last group one groups)
     ∙ or_more (is_same group first) (list_any (is_same group) groups) (is_same group one)
 
--- a group that is there stays where it is
+-- An existing group stays in its place.
 any_kept : (group one : Shown) (groups : List Shown) → list_any (is_same group) groups ≡ true
     → list_any (is_same group) (insert_key is_same groups one) ≡ true
 any_kept group one groups there = by_test (list_any (is_same one) groups) where
@@ -144,7 +144,7 @@ position_stays group one groups there = by_test (list_any (is_same one) groups) 
   by_test true = refl
   by_test false = sym (position_kept group one groups there)
 
--- the groups of these entries are there
+-- The groups of these entries exist.
 abbrev pub AreThere : List Played → List Shown → List Played → Type 0
 AreThere given groups [] = ⊤
 AreThere given groups (entry ∷ entries) =
@@ -184,7 +184,7 @@ groups_more given entries entry =
     fold_more (insert_key is_same) [] (map (group_of given) entries) (group_of given entry)
     ∙ ap (insert_all is_same []) (sym (map-append (group_of given) entries (entry ∷ [])))
 
--- one more entry
+-- One more entry.
 pub entry_step : (given done : List Played) (entry : Played) (old new : List Shown) (before after : List GroupedEntry)
     → old ≡ groups_of given done → before ≡ map (grouped_in (groups_of given done) given) done
     → AreThere given (groups_of given done) done → new ≡ insert_key is_same old (group_of given entry)
@@ -205,7 +205,7 @@ entry_step given done entry old new before after was had there put added =
           (there_more given (groups_of given done) entry done there),
     )
 
--- one more number
+-- One more number.
 pub shown_named : (numbers : List ℕ) (number : ℕ) → length numbers < 1000
     → shown (numbers ++ number ∷ []) ≡ (numbers ++ number ∷ [], 0)
 shown_named numbers number few =
@@ -240,7 +240,7 @@ add_more numbers given more number same many =
     let long : 1000 ≤ length numbers = omega (arith, ap length named, length-take 1000 numbers, many) in
     rw (named, rest) (sym (shown_more numbers number long))
 
--- an entry that plays the same has the same group
+-- An entry that plays the same has the same group.
 pub again_as : (given : List Played) (grouped : Grouped) (last entry : Played) (position : ℕ)
     → entry ≡ numbered entry.number last → IsAgain given grouped last position → IsAgain given grouped entry position
 again_as given grouped last entry position same again =
@@ -258,7 +258,7 @@ abbrev group_in : Option GroupedEntry → ℕ
 group_in None = 0
 group_in (Some entry) = entry.group
 
--- once an entry was put, it is the last one
+-- An entry that was added is the last one.
 pub ends_with_put : (given : List Played) (entry : Played) (old : List GroupedEntry) (before : List Shown) (grouped : Grouped)
     → shown_in grouped ≡ insert_key is_same before (group_of given entry)
     → grouped.entries.items ≡ old ++ grouped_in (shown_in grouped) given entry ∷ []
@@ -279,7 +279,7 @@ map_alike : {X Y : Type 0} (f g : X → Y) → ((x : X) → f x ≡ g x) → (xs
 map_alike f g same [] = refl
 map_alike f g same (x ∷ xs) = rw (same x, map_alike f g same xs) refl
 
--- groups among entries that play alike
+-- The groups from lists that yield the same numbers.
 pub grouped_alike : (given others entries : List Played) (grouped : Grouped) → PlayAlike others given
     → IsGrouped others entries grouped → IsGrouped given entries grouped
 grouped_alike given others entries grouped alike is =

@@ -1,4 +1,4 @@
--- What plays together with an entry is on its line.
+-- Entries that play together are on the same line.
 use Rattle.std.proofs.Common.{◌≡◌, ◌∙◌, ◌+◌, ◌<◌, ◌≢◌, ◌≤◌, ◌∷◌, [], Bool, true, false, List, ℕ, zero, suc, ap, arith, cond, drop, filter, get_or, length, length-drop, map, refl, sym, take}
 use Rattle.std.specs.Ordering.{is_lt, nat_cmp}
 use Rattle.std.specs.List.Sorted.{IsNonDecreasingBy, IsStableByKey, ties}
@@ -11,7 +11,7 @@ use Rattle.lineage.specs.Played.{play_together}
 pub same_line : (a b : Played) → play_together a b ≡ true → line_of a ≡ line_of b
 same_line a b plays = grind (arith, nat_tests)
 
--- a test that a weaker one goes before
+-- Filtering by a weaker test first doesn't change the result.
 module _ {X : Type 0} (p q : X → Bool) (weaker : (x : X) → p x ≡ true → q x ≡ true) where
   one_test : (x : X) (xs rest : List X) (r s : Bool) → (r ≡ true → s ≡ true) → p x ≡ r
       → filter p xs ≡ filter p rest → cond r (x ∷ filter p xs) (filter p xs) ≡ filter p (cond s (x ∷ rest) rest)
@@ -24,7 +24,7 @@ module _ {X : Type 0} (p q : X → Bool) (weaker : (x : X) → p x ≡ true → 
   filter_twice [] = refl
   filter_twice (x ∷ xs) = one_test x xs (filter q xs) (p x) (q x) (weaker x) refl (filter_twice xs)
 
--- what doesn't pass a test may be left out
+-- Elements that don't pass a test can be left out.
 module _ {X : Type 0} (p : X → Bool) where
   pub none_passes : (xs : List X) → ((k : ℕ) (d : X) → k < length xs → p (get_or xs k d) ≡ false) → filter p xs ≡ []
   none_passes [] none = refl
@@ -55,7 +55,7 @@ tied entry other plays =
     let same = same_line entry other plays in
     grind (arith, nat_tests)
 
--- a stable sort by the line keeps what plays together
+-- A stable sort by line doesn't change the entries that play together.
 pub sorted_alike : (entries sorted : List Played) → IsStableByKey {K = ℕ} line_of nat_cmp entries sorted
     → PlayAlike sorted entries
 sorted_alike entries sorted stable = λ entry.
@@ -65,7 +65,7 @@ sorted_alike entries sorted stable = λ entry.
     ∙ ap (filter (play_together entry)) (stable entry)
     ∙ sym (filter_twice (play_together entry) beside (tied entry) entries))
 
--- on another line nothing plays together
+-- Entries on different lines don't play together.
 pub other_line : (entry other : Played) → line_of entry ≢ line_of other → play_together entry other ≡ false
 other_line entry other apart = by_test (play_together entry other) refl where
   by_test : (b : Bool) → play_together entry other ≡ b → play_together entry other ≡ false

@@ -1,4 +1,4 @@
-//! Which entries of a given list play together with those of a new one: their groups, each once.
+//! The entries of a given list that play together with each entry of a new one, as groups without duplicates.
 #![tactic(auto)]
 
 mod lines;

@@ -1,4 +1,5 @@
-// Entries by the lines on which they play.
+// Entries sorted by line. Only entries on one line can play together, so a group taken from one line is equal to
+// `group_among` over all entries.
 ghost use Rattle.std.specs.Prelude.{◌≡◌, IfOk};
 ghost use Rattle.lineage.specs.Lines.{PlayAlike, line_of};
 ghost use Rattle.lineage.specs.Played.{numbers_of};
@@ -7,7 +8,7 @@ use crate::Played;
 use std::alloc::{AllocError, Global};
 use std::marker::Model;
 
-/// Entries in the order of their lines; those of one line stay in order.
+/// Entries sorted by line; the order within a line is unchanged.
 #[derive(Drop)]
 pub struct Lined {
     entries: Vec<Played>,
@@ -27,7 +28,8 @@ impl Model for Lined {
 }
 
 impl Played {
-    /// How its frames lie against its times, in its file: the same for entries that play together.
+    /// Returns the line of an entry: its file, and its position in the file minus its start time. Entries that play
+    /// together have the same line.
     fn line(&self) -> u128
         ensures { result ≡ line_of self.now }
     {
@@ -37,7 +39,7 @@ impl Played {
 }
 
 impl Lined {
-    /// These entries.
+    /// Sorts entries by line.
     pub fn of(alloc: Global, given: &[Played]) -> Result<Self, AllocError>
         ensures { IfOk result (λ lined. PlayAlike lined given.now) }
     {
@@ -47,7 +49,7 @@ impl Lined {
         Ok(Lined { entries })
     }
 
-    /// Those on the line of this entry, all that may play together with it.
+    /// Returns the entries on the same line as `entry`, which include all that may play together with it.
     pub fn beside(&self, entry: &Played) -> &[Played]
         ensures { numbers_of result.now entry.now ≡ numbers_of self.now entry.now }
     {

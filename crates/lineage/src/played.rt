@@ -1,4 +1,4 @@
-// What entries play of files.
+// The parts of files that entries play.
 ghost use Rattle.std.specs.Prelude.{◌≡◌, IfOk, true};
 ghost use Rattle.lineage.specs.Played as spec;
 
@@ -7,8 +7,9 @@ use sound_terms::{Event, Run};
 use sourceindex::Bound;
 use std::alloc::{AllocError, Global};
 
-/// What an entry of this number plays: of a file, from its frame `frame` and its channel `first` on, at the times from
-/// `start` up to, and without, `end`, on the channels from `dest` to `last`. Channels are counted from 1.
+/// The part of a file that an entry plays: from sample frame `frame` and channel `first` on, at times from `start`
+/// up to `end` (exclusive), on channels `dest` to `last`. Channels count from 1; times are in samples after
+/// midnight.
 #[derive(Clone, Copy, Debug, PartialEq, Eq)]
 pub struct Played {
     pub number: u32,
@@ -21,7 +22,7 @@ pub struct Played {
     pub last: u8,
 }
 
-/// What an event plays of this file, whose first frame stands at `base`.
+/// Returns the part of a file that an event plays. `base` is the time of the file's first sample.
 fn played_of(file: u32, base: u64, event: &Event) -> Played
     ensures { result ≡ spec.played_of file base event.now }
 {
@@ -38,7 +39,7 @@ fn played_of(file: u32, base: u64, event: &Event) -> Played
 }
 
 impl Played {
-    /// Whether at some time, on some channel, both play the same frame of the same channel of one file.
+    /// Returns whether both entries play the same sample of the same file at some time on some channel.
     pub fn plays_with(&self, other: &Played) -> bool
         ensures { result ≡ spec.play_together self.now other.now }
     {
@@ -53,7 +54,7 @@ impl Played {
 }
 
 impl Played {
-    /// Whether both play the same, whatever their numbers are.
+    /// Returns whether both entries play the same, apart from their numbers.
     pub fn plays_as(&self, other: &Played) -> bool
         ensures { result ≡ true → other.now ≡ spec.numbered other.now.number self.now }
     {
@@ -67,7 +68,8 @@ impl Played {
     }
 }
 
-/// What the entries of a list play, by the files that its indexes are bound to.
+/// Returns the parts that the entries of a list play, in list order. Entries whose index isn't bound are skipped.
+/// Returns `AllocError` if out of memory.
 pub fn given_entries(
     alloc: Global,
     bound: &Bound,
@@ -84,7 +86,6 @@ pub fn given_entries(
     Ok(given)
 }
 
-/// The file that the run of this index is of.
 fn file_of(runs: &[Run], index: u32) -> u32
     ensures { result ≡ spec.file_of runs.now index }
 {
@@ -94,7 +95,7 @@ fn file_of(runs: &[Run], index: u32) -> u32
     }
 }
 
-/// What an entry of the list over the media of runs plays, by the file that its run is of.
+/// Returns the part of its original source that an entry of a consolidated list plays.
 fn new_entry(runs: &Runs, event: &Event) -> Played
     ensures { result ≡ spec.new_entry runs.now.homes runs.now.runs event.now }
 {
@@ -102,7 +103,8 @@ fn new_entry(runs: &Runs, event: &Event) -> Played
     played_of(file, runs.homes().base(file), event)
 }
 
-/// What the entries of that list play.
+/// Returns the parts of the original sources that the entries of a consolidated list play. Returns `AllocError` if
+/// out of memory.
 pub fn new_entries(alloc: Global, runs: &Runs, events: &[Event]) -> Result<Vec<Played>, AllocError>
     ensures { IfOk result (λ entries. entries.items
         ≡ spec.new_entries runs.now.homes runs.now.runs events.now) }

@@ -1,4 +1,4 @@
-// Groups of given entries, which new entries share.
+// Groups of given entries that new entries share.
 ghost use Rattle.std.specs.Prelude.{◌≡◌, ◌≤◌, ◌<◌, ◌+◌, ◌^◌, ◌++◌, ◌∷◌, [], ℕ, IfOk, IfSome, List, OnOk, map, option_copied};
 ghost use Rattle.indexmap.specs.IndexSet.{insert_key};
 ghost use Rattle.lineage.specs.Groups.{EndsWith, IsAgain, IsGrouped, group_of, grouped_in, is_same, number_of, position_in, seen, shown, shown_in};
@@ -9,24 +9,24 @@ use crate::lines::Lined;
 use indexmap::IndexSet;
 use std::alloc::{AllocError, AllocFailed, Global};
 
-/// How many given entries of a group are named.
+/// The maximum number of entry numbers stored in a group.
 const MOST_NAMED: usize = 1000;
 
-/// Given entries that a new one plays together with: the numbers of the first of them, and how many more there are.
+/// The given entries that a new one plays together with: the first 1,000 numbers, and the number of further ones.
 #[derive(Debug, Drop, PartialEq, Eq, Hash)]
 pub struct Group {
     pub given: Vec<u32>,
     pub more: usize,
 }
 
-/// A new entry by its number, with the position of its group, counted from 0.
+/// A new entry's number, and the position of its group, from 0.
 #[derive(Clone, Copy, Debug, PartialEq, Eq)]
 pub struct GroupedEntry {
     pub number: u32,
     pub group: usize,
 }
 
-/// Groups, each once, and the entries that have them.
+/// Distinct groups, and the entries that refer to them.
 #[derive(Drop)]
 pub struct Grouped {
     pub groups: IndexSet<Group>,
@@ -34,7 +34,7 @@ pub struct Grouped {
 }
 
 impl Group {
-    /// Adds a given entry: it is named, or one of those more.
+    /// Adds a given entry, by its number or as a further one.
     fn add(&mut self, number: u32) -> Result<(), AllocFailed<u32>>
         requires { self.old.more + 1 < 2 ^ 64 }
         ensures added { (numbers : List ℕ) → seen self.old ≡ shown numbers
@@ -49,7 +49,7 @@ impl Group {
         Ok(())
     }
 
-    /// Adds a given entry that plays together with this one, and no other.
+    /// Adds a given entry if it plays together with `entry`.
     fn add_playing(&mut self, entry: &Played, other: &Played) -> Result<(), AllocFailed<u32>>
         requires { self.old.more + 1 < 2 ^ 64 }
         ensures added { (numbers : List ℕ) → seen self.old ≡ shown numbers
@@ -64,7 +64,7 @@ impl Group {
     }
 }
 
-/// Those of these entries that play together with an entry.
+/// Returns the group of the entries that play together with `entry`.
 fn group_among(alloc: Global, entries: &[Played], entry: &Played) -> Result<Group, AllocError>
     ensures { IfOk result (λ group. seen group ≡ group_of entries.now entry.now) }
 {
@@ -78,7 +78,7 @@ fn group_among(alloc: Global, entries: &[Played], entry: &Played) -> Result<Grou
     Ok(group)
 }
 
-/// The given entries that play together with an entry.
+/// Returns the group of the given entries that play together with `entry`.
 fn group_with(alloc: Global, given: &Lined, entry: &Played) -> Result<Group, AllocError>
     ensures { IfOk result (λ group. seen group ≡ group_of given.now entry.now) }
 {
@@ -86,7 +86,7 @@ fn group_with(alloc: Global, given: &Lined, entry: &Played) -> Result<Group, All
 }
 
 impl Grouped {
-    /// The position of the last entry's group, where that entry, this one, plays the same as the next.
+    /// Returns the position of the last entry's group if that entry plays the same as the next one.
     fn group_again(&self, before: Option<&Played>, entry: &Played) -> Option<usize>
         ensures { (given : List played.Played) → EndsWith given (option_copied before.entry) self.now
             → IfSome result (λ position. IsAgain given self.now entry.now position) }
@@ -98,7 +98,7 @@ impl Grouped {
     }
 }
 
-/// Puts a group after the others, unless it is among them, and answers its position.
+/// Adds a group unless it exists, and returns its position.
 fn put_group(groups: &mut IndexSet<Group>, group: Group) -> Result<usize, AllocFailed<Group>>
     ensures groups { OnOk result
         (map seen groups.new.keys ≡ insert_key is_same (map seen groups.old.keys) (seen group)) }
@@ -108,7 +108,7 @@ fn put_group(groups: &mut IndexSet<Group>, group: Group) -> Result<usize, AllocF
     Ok(position)
 }
 
-/// Adds an entry with its group: that of the entry before it, where both play the same.
+/// Adds an entry and its group. Reuses the group of the entry before if both play the same.
 fn put_entry(
     alloc: Global,
     given: &Lined,
@@ -133,7 +133,8 @@ fn put_entry(
     Ok(())
 }
 
-/// The groups of entries.
+/// Returns the distinct groups of given entries that play together with each new entry, in order of first
+/// occurrence, and the group of each new entry. Returns `AllocError` if out of memory.
 pub fn group_entries(
     alloc: Global,
     given: &[Played],

@@ -4,7 +4,7 @@ use Rattle.lineage.specs.Groups.{EndsWith, grouped_in, groups_of, shown_in}
 use Rattle.lineage.proofs.Grouping.{AreThere}
 use Rattle.lineage.proofs.shared.group_entries.Given as goal
 
--- those so far
+-- The entries so far.
 abbrev pub invariant-loop-entry : goal.invariant-loop-entry
 invariant-loop-entry l =
     let done = take l.entry-index l.entries in
