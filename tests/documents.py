@@ -21,6 +21,8 @@ DOCS = TOP / "docs"
 SHARE = TOP / "share"
 PAGES = (TOP / "README.md", *sorted(DOCS.glob("*.md")), *sorted((TOP / "examples").glob("*/README.txt")))
 TIMEOUT = 60
+# How pages write a time of a list. It isn't the name of a file.
+TIME_FORM = "hh.mm.ss.ff/rrrr"
 
 
 def blocks_of(page: Path) -> list:
@@ -236,17 +238,33 @@ def blocks_named(head: str, name: str) -> str:
 
 
 def has_part(owner: str, part: str) -> bool:
-    """Whether a crate or a type has such a function, or the type such a variant."""
+    """Whether a crate has such a free function, such a type, or such a function of a type (`Type::function`); or a type
+    such a function or variant."""
     if owner in citing.edges():
-        return bool(re.search(rf"\b(fn|struct|enum|trait|pub use [^;]*)\s*\b{part}\b", code_of(f"{owner}/src", "rt")))
+        return bool(head_in(owner, part) or re.search(
+            rf"(?m)^(?:pub(?:\(\w+\))? )?(?:struct|enum|trait) {part}\b|^pub use [^;]*\b{part}\b",
+            code_of(f"{owner}/src", "rt")))
     return bool(re.search(rf"\bfn {part}\b", blocks_named("impl|trait", owner))
                 or re.search(rf"^    {part}\b", blocks_named("enum", owner), re.M))
+
+
+def head_in(crate: str, name: str) -> str:
+    """The head of a crate's free function, or of a type's function by `Type::function`; nothing where it has none."""
+    code = code_of(f"{crate}/src", "rt")
+    owner, _, function = name.rpartition("::")
+    if owner:
+        blocks = re.findall(r"^(?:pub(?:\(\w+\))? )?(?:impl|trait)\b.*?^\}", code, re.M | re.S)
+        code = "".join(block for block in blocks if re.search(rf"\b{owner}\b", block.partition("{")[0]))
+    head = re.search(rf"^{'    ' * bool(owner)}(?:pub(?:\(\w+\))? )?fn {function}\b.*?(?:\{{|;)$", code, re.M | re.S)
+    return head[0] if head else ""
 
 
 @lru_cache(None)
 def is_there(name: str) -> bool:
     """Whether what a page names is in the tree: a file, an edit, a part of a crate or of a type, words of the code."""
     crate, _, rest = name.partition("/")
+    if name == TIME_FORM:
+        return True
     if rest:
         paths = [TOP / name, TOP / "crates" / name, TOP / "crates" / crate / "must-fail" / rest,
                  TOP / "tests/wrong" / crate / rest, TOP / "crates" / crate / "specs" / f"{rest}.antt"]
@@ -302,8 +320,7 @@ def clauses_of(name: str) -> list:
         end = r"(?=^\S|^ *(?:pub|abbrev) (?:record|data|pub)\b|\Z)"
         record = re.search(rf"^ *pub record {name}\b.*?\bwhere\n(.*?){end}", code_of("*/specs", "antt"), re.M | re.S)
         return re.findall(r"^ *pub (\w+) :", record[1], re.M) if record else []
-    head = re.search(rf"\bfn {function}\b.*?\{{$", code_of(f"{crate}/src", "rt"), re.M | re.S)
-    return re.findall(r"\bensures (\w+) \{", head[0]) if head else []
+    return re.findall(r"\bensures (\w+) \{", head_in(crate, function))
 
 
 @case("the promises of PROVED.md")

@@ -1,4 +1,4 @@
-//! A reader for audio decision lists (AES31-3), in the profile that docs/LIST.md describes.
+//! A reader for audio decision lists in the shape of AES31-3, by the profile that docs/LIST.md describes.
 //!
 //! The reader knows seven sections, which may be in any order, and cuts four of them into tokens. Names and
 //! keywords match in any case. The sample rate is 48,000 Hz; times are read at 24, 25 or 30 frames a second.

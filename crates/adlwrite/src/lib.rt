@@ -1,4 +1,4 @@
-//! A writer for audio decision lists (AES31-3).
+//! A writer for audio decision lists in the shape of AES31-3.
 //!
 //! Lines end with CR LF, and one space separates tokens. The header sections that exist come first, with their kept
 //! lines, then SOURCE_INDEX and EVENT_LIST.

@@ -1,4 +1,4 @@
-//! AES31 time code at 48,000 samples per second: the text `hh:mm:ss:ff/rrrr` and the number of samples since midnight.
+//! AES31 time code at 48,000 samples per second: the text `hh.mm.ss.ff/rrrr` and the number of samples since midnight.
 //!
 //! A day has 4,147,200,000 samples. A second has 24, 25 or 30 frames of 2000, 1920 or 1600 samples, so the last field,
 //! the remainder, ranges from 0000 to 1999, 1919 or 1599. Each of the four separators is one of `:`, `;`, `.`, `,`,
@@ -260,7 +260,7 @@ impl Parts {
     }
 }
 
-/// Parses a 16-byte time text `hh:mm:ss:ff/rrrr` with any four separators at the given frame rate.
+/// Parses a 16-byte time text `hh.mm.ss.ff/rrrr` with any four separators at the given frame rate.
 ///
 /// Hours are 00 to 23, minutes and seconds 00 to 59; the frame number is less than the frame rate, and the remainder is
 /// less than the number of samples per frame (2000, 1920 or 1600). The end of the day, 24 hours with all other fields
