@@ -9,8 +9,8 @@ use adlmodel::Project;
 use sampletime::SampleTime;
 
 /// What may be chosen of a comparison: the samples from the time `from` up to, and without, `to`, on this many channels
-/// from 1 on (1 to 64). By default it goes from the first entry's start to the last one's end, of both projects, on all
-/// channels that entries name.
+/// from 1 on (1 to 64). By default it goes from the earliest start of an entry to the latest end, of both projects, on
+/// the channels from 1 up to the highest that an entry names.
 #[derive(Clone, Copy, Debug, PartialEq, Eq)]
 pub struct Selection {
     pub from: Option<SampleTime>,

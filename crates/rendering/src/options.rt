@@ -4,8 +4,9 @@ use sampletime::SampleTime;
 use sound_terms::Depth;
 
 /// What may be chosen of a rendering: the samples from the time `from` up to, and without, `to`, on this many channels
-/// from 1 on (1 to 64), at a depth. By default it goes from the first entry's start to the last one's end, on all
-/// channels that entries name, one at least. The order is that of its jobs; the file is the same in each.
+/// from 1 on (1 to 64), at a depth. By default it goes from the earliest start of an entry to the latest end, on the
+/// channels from 1 up to the highest that an entry names, one at least. The order is that of its jobs; the file is the
+/// same in each.
 #[derive(Clone, Copy, Debug, PartialEq, Eq)]
 pub struct Options {
     pub from: Option<SampleTime>,
