@@ -104,7 +104,7 @@ def bad_times(scene: Scene) -> None:
     same("the list first", scene.run("render", "none", MEDIA, OUT, "--from=1").output, b"refused 21 at file none\n")
 
 
-HELP = """Checks, consolidates and renders audio decision lists (AES31-3) over WAVE files
+HELP = """Checks, consolidates and renders audio decision lists in the shape of AES31-3
 
 Usage: adlcons <COMMAND>
 
@@ -112,7 +112,7 @@ Commands:
   check        Check a list and the files that it uses, and write nothing
   consolidate  Write new media of just the frames that a list plays, and a list
   render       Render a list to one sound file, OUT/render.wav
-  resume       Go on with a rendering that was stopped, by the same words
+  resume       Continue an interrupted rendering, with the same arguments
   compare      Say whether two lists sound the same, or where they differ first
   show         Draw a list as SVG: entries over time, and what of files is kept
   explain      Tell what the number of a refusal or notice means, and what to do
@@ -122,9 +122,9 @@ Options:
   -h, --help     Print help
   -V, --version  Print version
 
-Status: 0 done, 1 refused, 2 the words are wrong.
+Exit status: 0 done or same, 1 refused or different, 2 usage error.
 A refusal is one line with its number and its place.
-'adlcons explain 46' tells what 46 means and what to do.
+'adlcons explain 46' says what 46 means and what to do.
 Example: adlcons render session.adl sources rendered
 """
 
@@ -180,9 +180,9 @@ Options:
       --all           List all further faults of the first one's kind
       --search        Look for missing media by name in the folders below
       --report        Print all that is found as JSON
-      --from <T>      The first sample, hh.mm.ss.ff/rrrr [default: the first in]
-      --to <T>        The time behind the last sample [default: the last out]
-      --channels <N>  Channels, 1 to 64 [default: all that entries name]
+      --from <T>      First sample, hh.mm.ss.ff/rrrr [default: earliest start]
+      --to <T>        Time just after the last sample [default: latest end]
+      --channels <N>  Channels, 1 to 64 [default: up to the highest named]
   -h, --help          Print help
 
 Example: adlcons compare session.adl sources new/consolidated.adl new

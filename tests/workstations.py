@@ -1,5 +1,5 @@
-"""Lists in the form that workstations export, written by hand: how often each is refused, and that each refusal says at once what is at fault, by how
-much, and what to do about it. Behind a rate that isn't read (12) nothing more is looked for."""
+"""Lists in the form that workstations export, written by hand: how often each is refused, and that each refusal says at
+once what is at fault, by how much, and what to do about it. Behind a rate that isn't read (12) nothing more is looked for."""
 
 from typing import NamedTuple
 

@@ -51,9 +51,9 @@ pub const VERSION: &str = "1.0.0";
 
 /// What the statuses mean, for the help.
 const STATUSES: &str = "\
-Status: 0 done, 1 refused, 2 the words are wrong.
+Exit status: 0 done or same, 1 refused or different, 2 usage error.
 A refusal is one line with its number and its place.
-'adlcons explain 46' tells what 46 means and what to do.
+'adlcons explain 46' says what 46 means and what to do.
 Example: adlcons render session.adl sources rendered";
 
 /// What the help says of a folder in which nothing is replaced.
@@ -71,7 +71,7 @@ fn told<'a>(alloc: Global, name: &'a str, about: &'a str, after: &'a str) -> Com
 fn top_command<'a>(alloc: Global) -> Result<Command<'a>, AllocError>
     ensures { IfOk result (λ command. app_of command ≡ top_app) }
 {
-    let about = "Checks, consolidates and renders audio decision lists (AES31-3) over WAVE files";
+    let about = "Checks, consolidates and renders audio decision lists in the shape of AES31-3";
     told(alloc, "adlcons", about, STATUSES)
         .version(VERSION)
         .no_binary_name(true)
@@ -156,7 +156,7 @@ fn resume_command<'a>(alloc: Global) -> Result<Command<'a>, AllocError>
     let command = over_folders(
         alloc,
         "resume",
-        "Go on with a rendering that was stopped, by the same words",
+        "Continue an interrupted rendering, with the same arguments",
         "The folder in which the rendering was stopped",
         "Example: adlcons resume session.adl sources rendered --depth 16",
     )?;
@@ -194,7 +194,7 @@ fn with_range<'a>(alloc: Global, command: Command<'a>) -> Result<Command<'a>, Al
     ensures local { IfOk result (AsGlobal command.entry) }
 {
     let command = with_times(alloc, command)?;
-    let channels = "Channels, 1 to 64 [default: all that entries name]";
+    let channels = "Channels, 1 to 64 [default: up to the highest named]";
     with_option(alloc, command, "channels", "N", channels)
 }
 
@@ -203,9 +203,9 @@ fn with_times<'a>(alloc: Global, command: Command<'a>) -> Result<Command<'a>, Al
     ensures app { IfOk result (λ added. app_of added ≡ with_times (app_of command.entry)) }
     ensures local { IfOk result (AsGlobal command.entry) }
 {
-    let from = "The first sample, hh.mm.ss.ff/rrrr [default: the first in]";
+    let from = "First sample, hh.mm.ss.ff/rrrr [default: earliest start]";
     let command = with_option(alloc, command, "from", "T", from)?;
-    let to = "The time behind the last sample [default: the last out]";
+    let to = "Time just after the last sample [default: latest end]";
     with_option(alloc, command, "to", "T", to)
 }
 

@@ -63,8 +63,8 @@ pub static WORK: [Meaning; 16] = [
         number: 58,
         spot: Spot::Nowhere,
         meaning: "nothing lies in the range",
-        cause: "it ends where it starts or before; without --from and --to it goes from the first entry's start \
-                to the last one's end, of both lists where two are compared",
+        cause: "it ends where it starts or before; without --from and --to it goes from the earliest \
+                start of an entry to the latest end, of both lists if two are compared",
         remedy: "name a range by --from and --to, or check the list's entries",
         is_answered: true,
     },
