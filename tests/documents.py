@@ -154,6 +154,15 @@ def man_page(scene: Scene) -> None:
     same("the options that are told", told, distinct(sum(options.values(), [])))
 
 
+@case("the licence")
+def licence(_: Scene) -> None:
+    """README.md and the man page name the licences that are there."""
+    for page in (TOP / "README.md", SHARE / "adlcons.1"):
+        same(f"whether {page.name} names them", "MIT OR Apache-2.0" in page.read_text(), True)
+    for name, words in (("LICENSE-MIT", "Copyright (c) 2026 The Fulixoma developers"), ("LICENSE-APACHE", "Version 2.0")):
+        same(f"whether {name} is there", words in (TOP / name).read_text(), True)
+
+
 @case("man shows the page")
 def man_shows_page(_: Scene) -> None:
     if not shutil.which("man"):

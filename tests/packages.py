@@ -1,4 +1,4 @@
-"""The Debian package that sh package makes: its bytes, what lintian says of it, and the program as it is unpacked."""
+"""The Debian package that sh package makes: its bytes, lintian's verdict, its texts, and the program in it."""
 
 import os
 import re
@@ -7,6 +7,7 @@ import subprocess
 import sys
 from pathlib import Path
 
+import citing
 from harness import Cases, Scene, Skipped, same, same_bytes
 
 case = Cases()
@@ -14,8 +15,6 @@ run = case.run
 
 TOP = Path(__file__).resolve().parent.parent
 TIMEOUT = 120
-# What a distribution asks of its own packages, and not of this one.
-FOREIGN = ("initial-upload-closes-no-bugs", "bad-distribution-in-changes-file", "maintainer-also-in-uploaders")
 
 
 def need(*programs: str) -> None:
@@ -26,7 +25,7 @@ def need(*programs: str) -> None:
 
 def packed(scene: Scene, folder: str, **environment: str) -> Path:
     """The package that is made in a folder of the scene."""
-    need("dpkg-deb", "strip")
+    need("dpkg-deb", "strip", "rt")
     into = scene.folder / folder
     into.mkdir()
     done = subprocess.run(
@@ -56,14 +55,13 @@ def same_twice(scene: Scene) -> None:
     same_bytes("the package", second.read_bytes(), first.read_bytes())
 
 
-@case("lintian finds no error")
+@case("lintian finds no error and warns of nothing")
 def without_errors(scene: Scene) -> None:
     need("lintian")
     done = subprocess.run(
-        ["lintian", "--allow-root", "--fail-on", "error", "--suppress-tags", ",".join(FOREIGN), packed(scene, "made")],
-        capture_output=True, timeout=TIMEOUT)
-    same("what lintian says", (done.returncode, [line for line in done.stdout.decode().splitlines() if line[:2] == "E:"]),
-         (0, []))
+        ["lintian", "--allow-root", "--fail-on", "error,warning", packed(scene, "made")], capture_output=True,
+        timeout=TIMEOUT)
+    same("what lintian says", (done.returncode, done.stdout.decode()), (0, ""))
 
 
 @case("the unpacked program shows an example")
@@ -93,16 +91,65 @@ def pages_and_words(scene: Scene) -> None:
                (TOP / "share/adlcons.bash").read_bytes())
 
 
+# What a page may name: a file of this repository by its path, or one of docs/ by its name.
+NAMED = re.compile(
+    r"(?:docs|examples|tests|bench|share|crates)/[\w./-]*\w|\b[A-Z_]+\.md\b|\w+\.schema\.json|\w+\.svg")
+# How a page of the package begins the list of files that it names and that aren't there.
+OUTSIDE = "\n\nNot in this package, but in the source of adlcons "
+
+
+def list_of_outside(text: str) -> tuple:
+    """The files that a page says aren't in the package, and the page without this paragraph."""
+    title, begin, rest = text.partition(OUTSIDE)
+    if not begin:
+        return [], text
+    names, _, rest = rest.partition(".\n\n")
+    return names.partition(": ")[2].replace("\n", " ").split(", "), f"{title}\n\n{rest}"
+
+
 @case("the documents in a package")
 def documents_of_outputs(scene: Scene) -> None:
-    """The pages that tell what an output says are there, and each page of docs/ that one of an archive names."""
-    folder = unpacked(scene) / "usr/share/doc/adlcons"
-    pages = sorted(path.name for path in (folder / "docs").iterdir())
-    for name in pages:
-        same_bytes(name, (folder / "docs" / name).read_bytes(), (TOP / "docs" / name).read_bytes())
-    for page in ("ARCHIVE.md", "LIST.md", "REFUSALS.md", "REPORT.md"):
-        for name in re.findall(r"docs/[\w.]*\w|[\w.]+\.schema\.json", (folder / "docs" / page).read_text()):
-            same(f"whether {name}, which {page} names, is there", name.removeprefix("docs/") in pages, True)
+    """The pages that say what an output is are there. Each names only files that are there, or says of a file of this
+    repository that it isn't; it links only to files that are there, and is the page of docs/ otherwise."""
+    folder = unpacked(scene) / "usr/share/doc/adlcons/docs"
+    pages = sorted(path.name for path in folder.iterdir())
+    same("some of the pages", {"ARCHIVE.md", "LIST.md", "PROVED.md", "REFUSALS.md", "REPORT.md"} <= set(pages), True)
+    for page in (folder / name for name in pages if name.endswith(".md")):
+        outside, text = list_of_outside(page.read_text())
+        lacks = [name for name in outside if not any((top / name).exists() for top in (TOP, TOP / "docs"))]
+        same(f"the files outside that {page.name} lists and that don't exist", lacks, [])
+        lacks = [name for name in NAMED.findall(text) if name not in outside
+                 and not (folder.parent / name).is_file() and not (folder / name).is_file()]
+        same(f"the files that {page.name} names and that aren't there", lacks, [])
+        links = re.findall(r"\]\((?!https?:|#)([^)#]+)", text)
+        same(f"where {page.name} links to nothing", [name for name in links if not (folder / name).is_file()], [])
+        same(f"the words of {page.name}", without_links(text), without_links((TOP / "docs" / page.name).read_text()))
+    for name in ("proof.svg", "report.schema.json"):
+        same_bytes(name, (folder / name).read_bytes(), (TOP / "docs" / name).read_bytes())
+
+
+def without_links(text: str) -> str:
+    return re.sub(r"\[([^\]]*)\]\([^)]*\)", r"\1", text)
+
+
+@case("the licence in a package")
+def licence(scene: Scene) -> None:
+    """The copyright file names both licences, and has the notice of each crate of the toolchain that crates.txt names and
+    that has one."""
+    text = (unpacked(scene) / "usr/share/doc/adlcons/copyright").read_text()
+    same("its first line", text.partition("\n")[0],
+         "Format: https://www.debian.org/doc/packaging-manuals/copyright-format/1.0/")
+    ours = "\nFiles: *\nCopyright: 2026 The Fulixoma developers\nLicense: Expat or Apache-2.0\n"
+    same("whether it has the licence of the program", ours in text, True)
+    words = " ".join(re.sub(r"(?m)^ \.?", "", text).split())
+    mit = " ".join((TOP / "LICENSE-MIT").read_text().partition("developers")[2].split())
+    same("whether it has the text of the MIT licence", mit in words, True)
+    tools = Path(subprocess.check_output(["rt", "doc"], text=True).strip()).parent / "rattle"
+    used = {name for needs in citing.edges().values() for name in needs} - set(citing.edges())
+    for notice in sorted(path for name in used for path in (tools / name).glob("LICENSE*")):
+        if notice.name != "LICENSE-APACHE":
+            same(f"whether it has the words of {notice.parent.name}/{notice.name}",
+                 " ".join(notice.read_text().split()) in words, True)
 
 
 @case("a package tells the program's version")
