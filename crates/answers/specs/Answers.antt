@@ -19,6 +19,7 @@ use Rattle.consolidate.specs.declared.Resumed.{Resumed}
 use Rattle.consolidate.specs.declared.Written.{Written}
 use Rattle.commandline.specs.declared.choice.MediaReport.{MediaReport}
 use Rattle.commandline.specs.declared.choice.MediaReport.TheVariants.{NoReport, Plain, WithDigests}
+use Rattle.commandline.specs.declared.words.TheConstants.{VERSION}
 use Rattle.commandline.specs.CommandLine.{Asked, Chosen, Check, Report, Render, Resume, Consolidate, Compare, Show, Explain, ExplainNotice}
 use Rattle.checkreport.specs.Reported.{Holds}
 use Rattle.checkreport.specs.Reported as reporting
@@ -31,11 +32,11 @@ use Rattle.verdicts.specs.Verdicts.{IsAnsweredBy, NamesBadTime, Tells}
 -- the report of this program on the list of this text, with the digests of whole sources or without them
 abbrev pub program_report : (digests : Bool) → (list : List ℕ) → AskedReport
 program_report digests list =
-    record { program = codes "adlcons"; version = codes "1.0.0"; list = list; digests = digests }
+    record { program = codes "adlcons"; version = VERSION.now; list = list; digests = digests }
 
 -- that of a rendering
 abbrev pub sound_report : SoundReport
-sound_report = record { program = codes "adlcons"; version = codes "1.0.0" }
+sound_report = record { program = codes "adlcons"; version = VERSION.now }
 
 -- that which is asked for
 abbrev pub asking : MediaReport → (list : List ℕ) → Option AskedReport
