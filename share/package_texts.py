@@ -1,9 +1,9 @@
 #!/usr/bin/env python3
-"""Writes the texts of the Debian package: share/package_texts.py FOLDER VERSION
+"""Writes the texts of the Debian package: share/package_texts.py FOLDER VERSION DATE
 
 FOLDER/copyright has the licence of the program and the notices of the crates of the Rattle toolchain that it is linked
 with, read from the installed toolchain. FOLDER/docs/ has the pages, without links to files that aren't in the package;
-a page that names such files lists them below its title."""
+a page that names such files lists them below its title. FOLDER/changelog has what CHANGELOG.md says of the version."""
 
 import re
 import shutil
@@ -14,6 +14,7 @@ from pathlib import Path
 
 TOP = Path(__file__).resolve().parent.parent
 PROGRAM = "adlcons"
+MAINTAINER = "Fulixoma <maintainers@fulixoma.example>"
 PAGES = ("ARCHIVE.md", "LIST.md", "PROOF.md", "PROVED.md", "REFUSALS.md", "REPORT.md")
 OTHERS = ("proof.svg", "report.schema.json")
 # A file of the repository, by its path or, of a page, by its name.
@@ -127,7 +128,23 @@ def page_text(text: str, version: str) -> str:
     return f"{title}\n\n{textwrap.fill(note, 120, break_on_hyphens=False)}\n{rest}"
 
 
-def main(folder: str, version: str) -> None:
+def changelog_text(version: str, date: str) -> str:
+    """What CHANGELOG.md says of a version, as an entry of a Debian change log."""
+    section = (TOP / "CHANGELOG.md").read_text().partition(f"\n## [{version}] - ")[2].partition("\n## ")[0]
+    lines = []
+    for part in re.split(r"\n(?=\s*- |#)|\n\n", section.partition("\n")[2].replace("`", "")):
+        words = " ".join(part.split())
+        if words.startswith("### "):
+            lines.append(f"\n  [ {words[4:]} ]")
+        elif words and not words.startswith("Interface: "):
+            indent, mark = ("  ", "* ") if not part.startswith("  - ") else ("    ", "- ")
+            lines.append(textwrap.fill(
+                words.removeprefix("- "), 78, initial_indent=indent + mark, subsequent_indent=f"{indent}  "))
+    body = "\n".join(lines).strip("\n") or "  * No change is described."
+    return f"{PROGRAM} ({version}) unstable; urgency=medium\n\n{body}\n\n -- {MAINTAINER}  {date}\n"
+
+
+def main(folder: str, version: str, date: str) -> None:
     into = Path(folder)
     (into / "docs").mkdir(parents=True, exist_ok=True)
     for name in PAGES:
@@ -135,6 +152,7 @@ def main(folder: str, version: str) -> None:
     for name in OTHERS:
         shutil.copyfile(TOP / "docs" / name, into / "docs" / name)
     (into / "copyright").write_text(copyright_text(toolchain()))
+    (into / "changelog").write_text(changelog_text(version, date))
 
 
 if __name__ == "__main__":

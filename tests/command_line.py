@@ -1,7 +1,7 @@
 """The words of the command line: the stored run, faults of the words, help."""
 
 from harness import LIST, MEDIA, OUT, Cases, Mismatch, Outcome, Scene, same, same_files
-from tables import FIRST_LIST, rendered_files, wave
+from tables import FIRST_LIST, VERSION, rendered_files, wave
 
 case = Cases()
 run = case.run
@@ -212,7 +212,7 @@ def texts(scene: Scene) -> None:
     for words, text in (
         (("--help",), HELP), (("check", "-h"), CHECK_HELP), (("consolidate", "-h"), CONSOLIDATE_HELP),
         (("compare", "-h"), COMPARE_HELP),
-        (("help",), HELP), (("--version",), "adlcons 1.0.0\n"),
+        (("help",), HELP), (("--version",), f"adlcons {VERSION}\n"),
     ):
         same(f"the text of {words}", scene.run(*words).output.decode(), text)
     for words, text in ((("render", LIST, MEDIA), NO_OUT), (("rendr", LIST, MEDIA, OUT), NO_COMMAND)):

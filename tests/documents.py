@@ -11,7 +11,7 @@ from pathlib import Path
 
 import citing
 from harness import LIST, MEDIA, OUT, Cases, Mismatch, Scene, Skipped, same, same_bytes
-from tables import FIRST_LIST, wave
+from tables import CHANGELOG, FIRST_LIST, VERSION, wave
 
 case = Cases()
 run = case.run
@@ -19,8 +19,10 @@ run = case.run
 TOP = Path(__file__).resolve().parent.parent
 DOCS = TOP / "docs"
 SHARE = TOP / "share"
-PAGES = (TOP / "README.md", *sorted(DOCS.glob("*.md")), *sorted((TOP / "examples").glob("*/README.txt")))
+PAGES = (TOP / "README.md", TOP / "CHANGELOG.md", *sorted(DOCS.glob("*.md")), *sorted((TOP / "examples").glob("*/README.txt")))
 TIMEOUT = 60
+# Pages of what was measured, some of it of other versions.
+MEASURED = ("CHANGELOG.md", "FIGURES.md", "PERFORMANCE.md", "HISTORY.md")
 # How pages write a time of a list. It isn't the name of a file.
 TIME_FORM = "hh.mm.ss.ff/rrrr"
 
@@ -139,6 +141,26 @@ def distinct(words: list) -> list:
     return list(dict.fromkeys(words))
 
 
+def synopses(text: str) -> dict:
+    """The options of each command in the lines of a page's blocks that begin with it and name a LIST."""
+    told = {}
+    for command, line in re.findall(r"^(?:    |)adlcons ([a-z]+) (LIST.*)$", text, re.M):
+        other = re.search(r"\[the options of (\w+)\]", line)
+        told[command] = told[other[1]] if other else re.findall(r"--[a-z]+", line)
+    return told
+
+
+@case("the synopsis of README.md")
+def synopsis(scene: Scene) -> None:
+    """README.md has a line for each command over a list, with the options that its help names; those that all of them take
+    are named below."""
+    text = (TOP / "README.md").read_text()
+    common = re.findall(r"--[a-z]+", re.search(r"All but `explain` and `help` also take ([^.]*)\.", text)[1])
+    options = {command: sorted(set(told)) for command, told in helped(scene).items() if command != "explain"}
+    same("the options of each command",
+         {command: sorted({*told, *common}) for command, told in synopses(text).items()}, options)
+
+
 @case("the man page")
 def man_page(scene: Scene) -> None:
     """The page knows each command and each option that help names, and no other."""
@@ -161,6 +183,15 @@ def licence(_: Scene) -> None:
         same(f"whether {page.name} names them", "MIT OR Apache-2.0" in page.read_text(), True)
     for name, words in (("LICENSE-MIT", "Copyright (c) 2026 The Fulixoma developers"), ("LICENSE-APACHE", "Version 2.0")):
         same(f"whether {name} is there", words in (TOP / name).read_text(), True)
+
+
+@case("the version")
+def version(scene: Scene) -> None:
+    """The program's version is the last one of CHANGELOG.md, and the man page has it with its date."""
+    same("the version", scene.run("--version").output.decode(), f"adlcons {VERSION}\n")
+    dated = re.search(r"^## \[(\S+)\] - (\S+)$", CHANGELOG.read_text(), re.M)
+    same("the first line of the man page", (SHARE / "adlcons.1").read_text().partition("\n")[0],
+         f'.TH ADLCONS 1 {dated[2]} "adlcons {dated[1]}"')
 
 
 @case("man shows the page")
@@ -389,6 +420,47 @@ def worked_sum(_: Scene) -> None:
         wanted = [ends, begins, ends + begins, (ends + begins + 2 ** 31) // 2 ** 32]
         same(f"sample {sample}", [int(number.replace(",", "")) for number in told], wanted)
     same("how many samples are worked out", len(rows), 3)
+
+
+WORDS = ("no", "one", "two", "three", "four", "five", "six", "seven", "eight", "nine", "ten", "eleven", "twelve")
+
+
+def number_of(word: str) -> int:
+    return WORDS.index(word.lower()) if word.lower() in WORDS else int(word.replace(",", ""))
+
+
+@case("the numbers of the tree")
+def numbers_of_tree(_: Scene) -> None:
+    """Where a page says how many crates or wrong bodies there are, it is so; pages of measurements say what was so then.
+    Where one lists the Debian packages that the tests need, or the crates that are trusted, it lists those."""
+    crates, tests = len(citing.edges()), len(citing.edges()) - len(citing.program_crates())
+    in_gate, beside = (len(list(TOP.glob(where))) for where in ("crates/*/must-fail/*", "tests/wrong/*/*"))
+    count = rf"\b([\d,]+|{'|'.join(WORDS)})"
+    rows = (
+        (rf"{count} crates of tests\b", {tests}), (r"\b(\d\d+) crates\b", {crates, crates - tests}),
+        (r"\b(\d\d+) (?:such bodies|wrong bodies|mutants)\b", {in_gate, beside, in_gate + beside}),
+        (r"\b(\d\d+) (?:such bodies |wrong bodies |mutants |)(?:are tried |)by `sh test`", {in_gate}),
+        (r"\b(\d\d+) (?:such bodies |wrong bodies |mutants |)(?:are tried |)by\s`sh test wrong`", {beside}),
+    )
+    needed = sorted(re.findall(r"\b\w[\w-]*:([\w-]+)", (TOP / "test").read_text().partition("missing_packages() {")[2].partition("done")[0]))
+    ported = sorted({name for needs in citing.edges().values() for name in needs} - set(citing.edges()))
+    for page in (page for page in PAGES if page.name not in MEASURED):
+        text = " ".join(page.read_text().split())
+        for pattern, wanted in rows:
+            for word in re.findall(pattern, text):
+                same(f"whether {page.name} is right in saying {word} for {pattern}", number_of(word) in wanted, True)
+        for listed in re.findall(r"Debian packages \(([^)]*)\)", text):
+            same(f"the packages that {page.name} lists", sorted(listed.split(", ")), needed)
+        for listed in re.findall(r"contracts of the ported crates ([^.]*)\.", text):
+            same(f"the crates that {page.name} lists as trusted", sorted(re.findall(r"`(\w+)`", listed)), ported)
+
+
+@case("the order of crates.txt")
+def order_of_crates(_: Scene) -> None:
+    """Each crate comes after those that it uses."""
+    names = list(citing.edges())
+    for at, (name, needs) in enumerate(citing.edges().items()):
+        same(f"the crates after {name} that it uses", [need for need in needs if need in names[at:]], [])
 
 
 @case("the wrong bodies beside the gate")

@@ -1,5 +1,6 @@
 """The Debian package that sh package makes: its bytes, lintian's verdict, its texts, and the program in it."""
 
+import gzip
 import os
 import re
 import shutil
@@ -9,6 +10,7 @@ from pathlib import Path
 
 import citing
 from harness import Cases, Scene, Skipped, same, same_bytes
+from tables import CHANGELOG
 
 case = Cases()
 run = case.run
@@ -150,6 +152,18 @@ def licence(scene: Scene) -> None:
         if notice.name != "LICENSE-APACHE":
             same(f"whether it has the words of {notice.parent.name}/{notice.name}",
                  " ".join(notice.read_text().split()) in words, True)
+
+
+@case("the change log in a package")
+def change_log(scene: Scene) -> None:
+    """It has what CHANGELOG.md says of the program's version, line by line in the form of Debian."""
+    text = gzip.decompress((unpacked(scene) / "usr/share/doc/adlcons/changelog.gz").read_bytes()).decode()
+    version = scene.run("--version").output.decode().split()[1]
+    same("its head", text.partition("\n")[0], f"adlcons ({version}) unstable; urgency=medium")
+    section = CHANGELOG.read_text().partition(f"\n## [{version}] - ")[2].partition("\n## ")[0].replace("`", "")
+    words = re.sub(r"(?m)^ *[*-] |^  \[ \w+ \]$", "", text)
+    for line in re.findall(r"^ *- (.*)$", section, re.M):
+        same(f"whether it has {line!r}", " ".join(line.split()) in " ".join(words.split()), True)
 
 
 @case("a package tells the program's version")

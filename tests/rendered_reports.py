@@ -9,6 +9,7 @@ from full_disk import disk, make_room
 from harness import LIST, MEDIA, OUT, Cases, Scene, Skipped, preloaded, same, same_outcome
 from model import BLOCK
 from reports import SCHEMA
+from tables import VERSION
 
 case = Cases()
 run = case.run
@@ -28,7 +29,7 @@ def expect_report(scene: Scene, clipped: dict, depth: int, first: int, frames: i
     wanted = {
         "channels": channels, "clipped": clipped, "depth": depth, "first": first, "form": 1, "frames": frames,
         "given_list_sha256": hashlib.sha256((scene.folder / LIST).read_bytes()).hexdigest(), "marked": marked,
-        "program": "adlcons", "sha256": hashlib.sha256(files[SOUND]).hexdigest(), "version": "1.0.0",
+        "program": "adlcons", "sha256": hashlib.sha256(files[SOUND]).hexdigest(), "version": VERSION,
     }
     same("the report", files[REPORT].decode(), json.dumps(wanted, separators=(",", ":"), sort_keys=True) + "\n")
     try:

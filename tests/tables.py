@@ -1,7 +1,13 @@
 """Lists and files whose bytes are known from tables, not from any program."""
 
 import hashlib
+import re
 import struct
+from pathlib import Path
+
+CHANGELOG = Path(__file__).resolve().parent.parent / "CHANGELOG.md"
+# The version that the change log describes last.
+VERSION = re.search(r"^## \[(\d+\.\d+\.\d+)\]", CHANGELOG.read_text(), re.M)[1]
 
 FIRST_LIST = b"""<ADL>
 <SEQUENCE>

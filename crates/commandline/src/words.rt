@@ -46,8 +46,8 @@ pub fn command_named<'a>(alloc: Global, name: &str) -> Result<Command<'a>, Alloc
     }
 }
 
-/// The version of the program.
-pub const VERSION: &str = "1.0.0";
+/// The version of the program: the last one of CHANGELOG.md.
+pub const VERSION: &str = "1.1.0";
 
 /// What the statuses mean, for the help.
 const STATUSES: &str = "\
