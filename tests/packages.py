@@ -136,8 +136,8 @@ def without_links(text: str) -> str:
 
 @case("the licence in a package")
 def licence(scene: Scene) -> None:
-    """The copyright file names both licences, and has the notice of each crate of the toolchain that crates.txt names and
-    that has one."""
+    """The copyright file names both licences, and has the notice of each crate of the toolchain that crates.txt names, if
+    it has one."""
     text = (unpacked(scene) / "usr/share/doc/adlcons/copyright").read_text()
     same("its first line", text.partition("\n")[0],
          "Format: https://www.debian.org/doc/packaging-manuals/copyright-format/1.0/")
