@@ -1,4 +1,4 @@
--- AES31 time code at 48,000 samples per second: the text `hh:mm:ss:ff/rrrr` and the number of samples since midnight.
+-- AES31 time code at 48,000 samples per second: the text `hh.mm.ss.ff/rrrr` and the number of samples since midnight.
 use Rattle.std.specs.Prelude.{ℕ, ◌+◌, ◌-◌, ◌*◌, ◌/◌, ◌%◌, Bool, false, ◌&&◌, ◌||◌, nat_lt, nat_le, ◌==◌, List, [], ◌∷◌, Option, Some, None, if◌then◌else◌}
 
 -- number of samples in a day, at every frame rate
