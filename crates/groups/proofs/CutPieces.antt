@@ -1,4 +1,4 @@
--- Both sides of a group that is cut are groups of pieces.
+-- Both sides of a cut group are groups of valid pieces.
 use Rattle.std.proofs.Common.{◌≡◌, ◌≢◌, ℕ, ◌+◌, ◌-◌, ◌<◌, ◌≤◌, Bool, true, false, List, [], ◌∷◌, IsTrue, refl, arith, All}
 use Rattle.std.specs.Prelude.{nat_le}
 use Rattle.std.specs.List.{flat_map}
@@ -28,11 +28,11 @@ rank_behind Flat cut = refl
 rank_behind (Rise offset den) cut = refl
 rank_behind (Fall offset den) cut = refl
 
--- where the next piece of a group begins
+-- start of the next piece of a group
 next_start : (p q : Piece) → IsTrue (may_follow p q) → q.start ≡ p.start + p.length
 next_start p q follows = grind (arith, nat_tests)
 
--- a stretch of a piece is one
+-- a non-empty part of a valid piece is valid
 stretch_is_piece : (p : Piece) (start frame length : ℕ) (shape : Shape) → IsPiece p → 1 ≤ length
     → start + length ≤ p.start + p.length → frame + length ≤ p.frame + p.length → IsRamp shape length
     → IsPiece (record p { start = start; length = length; frame = frame; shape = shape })
@@ -48,7 +48,7 @@ stretch_is_piece p start frame length shape ok some ends frames ramp = record {
   ramp = ramp;
 }
 
--- a piece before a time is one
+-- the part of a valid piece before a time is valid
 before_is_piece : (time : ℕ) (p : Piece) → IsPiece p → All IsPiece (piece_before time p)
 before_is_piece time p ok = by_ends (nat_le time p.start) (nat_le (p.start + p.length) time) refl refl where
   by_ends : (none whole : Bool) → nat_le time p.start ≡ none → nat_le (p.start + p.length) time ≡ whole
@@ -89,7 +89,7 @@ back_pieces time (p ∷ ps) all =
     All-append IsPiece _ _ (behind_is_piece time p (All-head IsPiece p ps all))
     (back_pieces time ps (All-tail IsPiece p ps all))
 
--- nothing lies before the time where a group begins no earlier
+-- a group that starts at or after the time has nothing before it
 none_before : (time : ℕ) (p : Piece) (ps : List Piece) → IsGroup (p ∷ ps) → time ≤ p.start → front time (p ∷ ps) ≡ []
 none_before time p [] group le = let e : nat_le time p.start ≡ true = grind (arith, nat_tests) in rw e refl
 none_before time p (q ∷ qs) group le =
@@ -97,7 +97,7 @@ none_before time p (q ∷ qs) group le =
     let next = next_start p q group.0 in
     rw e (none_before time q qs group.1 (omega arith))
 
--- and all of it lies behind
+-- such a group is entirely after the time
 all_behind : (time : ℕ) (p : Piece) (ps : List Piece) → IsGroup (p ∷ ps) → time ≤ p.start → back time (p ∷ ps) ≡ p ∷ ps
 all_behind time p [] group le = let e : nat_le time p.start ≡ true = grind (arith, nat_tests) in rw e refl
 all_behind time p (q ∷ qs) group le =
@@ -106,7 +106,7 @@ all_behind time p (q ∷ qs) group le =
     let rest = all_behind time q qs group.1 (omega arith) in
     rw e (rw rest refl)
 
--- the front of the next pieces may follow
+-- the part of the next pieces before the time may follow the first piece
 front_follows : (time : ℕ) (p q : Piece) (qs : List Piece) → IsTrue (may_follow p q) → IsGroup (q ∷ qs)
     → (front time (q ∷ qs) ≢ [] → IsGroup (front time (q ∷ qs))) → IsGroup (p ∷ front time (q ∷ qs))
 front_follows time p q qs follows group behind =
@@ -145,7 +145,7 @@ front_group time (p ∷ q ∷ qs) group some =
           let nothing = none_before time q qs group.1 late in
           rw (e, f) (rw nothing tt)
 
--- what is behind the cut of a piece goes on as the piece does
+-- the part of a piece after the cut is followed by the same pieces as the whole piece
 cut_goes_on : (time : ℕ) (p q : Piece) → p.start < time → time < p.start + p.length → IsTrue (may_follow p q)
     → IsTrue (may_follow (record p {
       start = time;
@@ -182,12 +182,12 @@ back_group time (p ∷ q ∷ qs) group some =
           let rest = all_behind time q qs group.1 (omega arith) in
           rw (e, f) (rw rest (cut_goes_on time p q low high group.0, group.1))
 
--- what holds of a list that isn't empty holds of all groups that it makes
+-- a property of a non-empty list holds for the group made from it
 of_group : (P : List Piece → Type 0) (pieces : List Piece) → (pieces ≢ [] → P pieces) → All P (as_group pieces)
 of_group P [] is = All-nil P
 of_group P (p ∷ ps) is = All-cons P (p ∷ ps) [] (is (λ none. cc)) (All-nil P)
 
--- what holds of both sides of each group holds of all groups that are cut
+-- a property of both sides of each group holds for all groups after the cut
 pub all_sides : (time : ℕ) (P Q : List Piece → Type 0)
     → ((group : List Piece) → P group → (front time group ≢ [] → Q (front time group))
     × (back time group ≢ [] → Q (back time group)))

@@ -1,4 +1,4 @@
--- The parts of an entry add what the entry adds, and its ramps are whole.
+-- The parts of an entry add the samples of the entry, and its fades are uncut.
 use Rattle.std.proofs.Common.{◌≡◌, ◌⊎◌, inl, inr, ℕ, ◌+◌, ◌-◌, ◌<◌, ◌≤◌, Bool, true, false, ◌++◌, Some, IsTrue, refl, sym, arith}
 use Rattle.std.specs.Prelude.{ℤ, pos, ◌+ℤ◌, ◌&&◌, if◌then◌else◌, nat_le, nat_lt}
 use Rattle.std.specs.List.{list_all}
@@ -19,7 +19,7 @@ use Rattle.sound_terms.specs.Entries.{IsPlayable, parts_of, stretch_of}
 alone : (w : ℤ) → pos 0 +ℤ (w +ℤ pos 0) ≡ w
 alone w = omega (arith, ints)
 
--- three stretches behind one another, of which each adds what the whole adds there
+-- three consecutive stretches that each add the samples of the whole add the whole
 module _ (s n m k q out t : ℕ) (x y z w : ℤ) (middle : q ≡ n + m) (ends : out ≡ s + (n + m + k))
     (first : s ≤ t → t < s + n → x ≡ w) (second : s + n ≤ t → t < s + n + m → y ≡ w) (third : s + q ≤ t → z ≡ w) where
   abbrev AddsWhole : Type 0
@@ -85,7 +85,7 @@ module _ (s n m k q out t : ℕ) (x y z w : ℤ) (middle : q ≡ n + m) (ends : 
   three_parts : AddsWhole
   three_parts = by_start (cases_lt t s)
 
--- nothing lies in a stretch without a sample
+-- an empty stretch adds nothing
 nothing_in : (a b : Bool) (s n t : ℕ) (x : ℤ) → nat_lt 0 n ≡ false
     → (if a && (b && (nat_le s t && nat_lt t (s + n))) then x else pos 0) ≡ pos 0
 nothing_in false b s n t x none = refl
@@ -98,7 +98,7 @@ nothing_in true true s n t x none = by_start (cases_lt t s) where
       let f : nat_le s t ≡ true = grind (arith, nat_tests) in
       rw (e, f) refl
 
--- what a stretch of an event adds, also where it has no sample
+-- samples added by a stretch of an event, even if it is empty
 module _ (r : Reading) (index : BoundIndex) (event : Event) (i n : ℕ) (shape : Shape) (channel time : ℕ) where
   abbrev added : ℤ
   added = if nat_le event.dest.first channel
@@ -119,7 +119,7 @@ module _ (r : Reading) (index : BoundIndex) (event : Event) (i n : ℕ) (shape :
   stretch_sum : sum_of r (stretch_of index event i n shape) channel time ≡ added
   stretch_sum = by_length (nat_lt 0 n) refl
 
--- on a channel that the event sounds on, and on others
+-- sum of the parts on a destination channel of the event, and on any other channel
 under_channel : (a b : Bool) (c1 c2 c3 c : Bool) (x y z w : ℤ)
     → (a ≡ true → b ≡ true → (if c1 then x else pos 0) +ℤ ((if c2 then y else pos 0) +ℤ (if c3 then z else pos 0))
     ≡ (if c then w else pos 0))

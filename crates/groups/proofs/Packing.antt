@@ -1,4 +1,4 @@
--- Groups in one record that follow one another.
+-- Joining two packed groups.
 use Rattle.std.proofs.Common.{◌≡◌, ℕ, ◌+◌, ◌<◌, ◌≤◌, Bool, true, false, List, [], ◌∷◌, ◌++◌, IsTrue, refl, arith}
 use Rattle.std.specs.Prelude.{nat_lt}
 use Rattle.std.proofs.lemmas.Bool.Decides.{nat_tests}
@@ -11,7 +11,7 @@ use Rattle.sound_terms.specs.Passes.{is_followed_by}
 use Rattle.groups.specs.Packed.{fall_in, flat_in, part_in, piece_in, pieces_in, rise_in}
 use Rattle.groups.specs.declared.packed.Packed.{Packed}
 
--- a group that goes on where a piece ends: this is no fall, and the group has no rise, and no flat part behind another
+-- a group continues a piece: the piece is no fade-out, the group has no fade-in, and at most one of them is flat
 record GoesOn (p : Piece) (later : Packed) : Type 0 where
   pub start : later.start ≡ p.start + p.length
   pub frame : later.frame ≡ p.frame + p.length
@@ -64,14 +64,14 @@ goes_on p later =
           let none : false ≡ true = rw (r, m, f) at follows in
           absurd (grind (arith, nat_tests, none))
 
--- what follows a group follows its last piece
+-- whether a list may follow a group depends only on the group's last piece
 behind : (front : List Piece) (p : Piece) (later : List Piece)
     → is_followed_by (front ++ p ∷ []) later ≡ is_followed_by (p ∷ []) later
 behind [] p later = refl
 behind (q ∷ []) p later = refl
 behind (q ∷ next ∷ front) p later = behind (next ∷ front) p later
 
--- a group that goes on where another one ends, which has no fall; of the two one has no flat part
+-- a group continues another, which has no fade-out; at most one of them has a flat part
 record Follows (group later : Packed) : Type 0 where
   pub start : later.start ≡ group.start + (group.rise.length + group.middle)
   pub frame : later.frame ≡ group.frame + (group.rise.length + group.middle)
@@ -127,7 +127,7 @@ follows group later =
       by_parts false false false r m f on =
           let none : false ≡ true = rw (r, m, f) at on in absurd (grind (arith, nat_tests, none))
 
--- both as one
+-- two packed groups joined
 abbrev pub joined : Packed → Packed → Packed
 joined group later = record group { middle = group.middle + later.middle; fall = later.fall }
 

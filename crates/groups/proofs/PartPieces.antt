@@ -1,4 +1,4 @@
--- The parts of an entry are pieces.
+-- The parts of an entry are valid pieces.
 use Rattle.std.proofs.Common.{◌≡◌, ◌≢◌, ℕ, ◌+◌, ◌-◌, ◌<◌, ◌≤◌, Bool, true, false, [], refl, arith, All}
 use Rattle.std.specs.Prelude.{nat_lt}
 use Rattle.std.proofs.lemmas.Bool.Decides.{nat_tests}
@@ -11,7 +11,7 @@ use Rattle.sound_terms.specs.declared.piece.Shape.TheVariants.{Flat, Rise, Fall}
 use Rattle.sound_terms.specs.Groups.{IsGroup, IsPiece, IsRamp}
 use Rattle.sound_terms.specs.Entries.{IsPlayable, parts_of, stretch_of}
 
--- a stretch inside the event
+-- a stretch within the event is a valid piece
 stretch_is_piece : (index : BoundIndex) (event : Event) (i n : ℕ) (shape : Shape) → IsPlayable index event
     → i + n ≤ event.dest_out - event.dest_in → IsRamp shape n → All IsPiece (stretch_of index event i n shape)
 stretch_is_piece index event i n shape playable inside ramp = by_length (nat_lt 0 n) refl where
@@ -45,7 +45,7 @@ parts_are_pieces index event playable =
     (All-append IsPiece _ _ (stretch_is_piece index event rise ((whole - fall) - rise) Flat playable (omega arith) tt)
     (stretch_is_piece index event (whole - fall) fall (Fall 0 fall) playable (omega arith) (omega arith, omega arith)))
 
--- they continue one another
+-- the parts are contiguous
 pub parts_are_group : (index : BoundIndex) (event : Event) → IsPlayable index event → parts_of index event ≢ []
     → IsGroup (parts_of index event)
 parts_are_group index event playable some =

@@ -1,4 +1,4 @@
--- What is cut adds what it added.
+-- Cutting a group doesn't change the samples that it adds.
 use Rattle.std.proofs.Common.{◌≡◌, ℕ, ◌+◌, ◌-◌, ◌<◌, ◌≤◌, Bool, true, false, List, [], ◌∷◌, ◌++◌, refl, ◌∙◌, arith}
 use Rattle.std.specs.Prelude.{ℤ, pos, ◌+ℤ◌, ◌&&◌, if◌then◌else◌, nat_le, nat_lt}
 use Rattle.std.specs.List.{flat_map}
@@ -23,7 +23,7 @@ back_of cut p = record p {
   shape = shape_behind (cut - p.start) p.shape;
 }
 
--- of a stretch that is cut one part holds a time, and adds what the whole adds there
+-- at any time only one side of a cut stretch is active, and it adds the samples of the whole
 two_parts : (a b : Bool) (start cut length time : ℕ) (x y : ℤ) → start < cut → cut < start + length
     → (cut ≤ time → y ≡ x)
     → (if a && (b && (nat_le start time && nat_lt time (start + (cut - start)))) then x else pos 0)
@@ -37,7 +37,7 @@ two_parts a b start cut length time x y low high same =
     (λ from to. same (omega (arith, from))) a b in
     rw at (rw (whole, at) at joined)
 
--- both parts of a piece that is cut add what it adds
+-- both sides of a piece that is cut add the samples of the piece
 part_cut : (r : Reading) (cut : ℕ) (p : Piece) (channel time : ℕ) → p.start < cut → cut < p.start + p.length
     → part_of r (front_of cut p) channel time +ℤ part_of r (back_of cut p) channel time ≡ part_of r p channel time
 part_cut r cut p channel time low high =
@@ -52,7 +52,7 @@ part_cut r cut p channel time low high =
           let samples : (cut - p.start) + (time - cut) ≡ time - p.start = omega arith in
           rw (frames, fraction_behind p.shape (cut - p.start) (time - cut), samples) refl
 
--- both sides of a piece add what it adds
+-- the same for a piece that may be on one side of the time
 piece_cut : (r : Reading) (cut : ℕ) (p : Piece) (channel time : ℕ)
     → sum_of r (piece_before cut p) channel time +ℤ sum_of r (piece_behind cut p) channel time
     ≡ part_of r p channel time

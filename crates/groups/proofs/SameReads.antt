@@ -1,4 +1,4 @@
--- What is cut reads what it read.
+-- Cutting a group doesn't change the source samples that it reads.
 use Rattle.std.proofs.Common.{◌≡◌, ℕ, ◌+◌, ◌-◌, ◌≤◌, Bool, true, false, List, [], ◌∷◌, refl, ◌∙◌, arith}
 use Rattle.std.specs.Prelude.{◌||◌, ◌==◌, nat_le, nat_lt}
 use Rattle.std.specs.List.{flat_map}

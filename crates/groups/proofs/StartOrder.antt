@@ -1,4 +1,4 @@
--- A stable sort by the start is the only order of start that keeps the groups of one start as they stood.
+-- A stable sort by start time yields `in_start_order`.
 use Rattle.std.proofs.Common.{◌≡◌, inl, inr, ℕ, ◌<◌, ◌≤◌, Bool, true, false, List, [], ◌∷◌, length, get_or, refl, sym, ap, ◌∙◌, arith}
 use Rattle.std.specs.Prelude.{◌==◌, nat_le, suc, if◌then◌else◌}
 use Rattle.std.specs.List.{filter}
@@ -13,7 +13,7 @@ use Rattle.sound_terms.specs.Groups.{start_of, RiseFrom, put_by_start, in_start_
 abbrev begins_at : ℕ → List Piece → Bool
 begins_at time group = start_of group == time
 
--- none of them begins before the first
+-- no group starts before the first
 none_earlier : (low time : ℕ) (groups : List (List Piece)) → RiseFrom low groups → time < low
     → filter (begins_at time) groups ≡ []
 none_earlier low time [] rise before = refl
@@ -22,7 +22,7 @@ none_earlier low time (group ∷ groups) rise before =
     let later : time < start_of group = omega arith in
     rw other (none_earlier (start_of group) time groups rise.1 later)
 
--- what begins these groups begins no earlier than what begins those
+-- if two sorted lists agree on the groups that start with the first group of one, the other list starts no later
 same_first : (a b : ℕ) (x y : List Piece) (xs ys : List (List Piece)) → RiseFrom a (x ∷ xs) → RiseFrom b (y ∷ ys)
     → filter (begins_at (start_of x)) (x ∷ xs) ≡ filter (begins_at (start_of x)) (y ∷ ys) → start_of y ≤ start_of x
 same_first a b x y xs ys front back same = elim (cases_lt (start_of x) (start_of y)) as (λ _. start_of y ≤ start_of x) [
@@ -35,7 +35,7 @@ same_first a b x y xs ys front back same = elim (cases_lt (start_of x) (start_of
   | inr le ↦ le
 ]
 
--- behind two groups of one start
+-- two lists that agree at a time still agree after one group of that time is removed from each
 same_behind : (time : ℕ) (x y : List Piece) (xs ys : List (List Piece)) (b : Bool) → begins_at time x ≡ b
     → begins_at time y ≡ b
     → filter (begins_at time) (x ∷ xs) ≡ filter (begins_at time) (y ∷ ys)
@@ -44,7 +44,7 @@ same_behind time x y xs ys true front back same =
     let there : x ∷ filter (begins_at time) xs ≡ y ∷ filter (begins_at time) ys = rw (front, back) at same in cc
 same_behind time x y xs ys false front back same = rw (front, back) at same
 
--- the same groups at each time, in order of start: the same list
+-- two sorted lists that have the same groups at each time are equal
 pub only_order : (a b : ℕ) (xs ys : List (List Piece)) → RiseFrom a xs → RiseFrom b ys
     → ((time : ℕ) → filter (begins_at time) xs ≡ filter (begins_at time) ys) → xs ≡ ys
 only_order a b [] [] front back same = refl
@@ -68,7 +68,7 @@ only_order a b (x ∷ xs) (y ∷ ys) front back same =
     let rest : xs ≡ ys = only_order (start_of x) (start_of y) xs ys front.1 back.1 alike in
     cc
 
--- a group that begins earlier may stand in front
+-- swapping two groups of different start times doesn't change the groups at any time
 apart : (time : ℕ) (own group : List Piece) (groups rest : List (List Piece)) (b : Bool) → begins_at time own ≡ b
     → start_of group < start_of own
     → filter (begins_at time) rest ≡ filter (begins_at time) (own ∷ groups)
@@ -81,7 +81,7 @@ apart time own group groups rest false here before same =
     let there : filter (begins_at time) rest ≡ filter (begins_at time) groups = rw here at same in
     rw (here, there) refl
 
--- putting a group in its order keeps what begins at each time
+-- inserting a group in order doesn't change the groups at any other time
 put_keeps : (time : ℕ) (own : List Piece) (groups : List (List Piece))
     → filter (begins_at time) (put_by_start own groups) ≡ filter (begins_at time) (own ∷ groups)
 put_keeps time own [] = refl
@@ -118,7 +118,7 @@ pub order_rises : (groups : List (List Piece)) → RiseFrom 0 (in_start_order gr
 order_rises [] = tt
 order_rises (group ∷ groups) = put_rises 0 group (in_start_order groups) (omega arith) (order_rises groups)
 
--- by index: no start falls
+-- a list whose starts don't decrease by index is sorted
 pub rises_by_index : (low : ℕ) (groups : List (List Piece))
     → ((i : ℕ) (d : List Piece) → i < length groups → low ≤ start_of (get_or groups i d))
     → IsNonDecreasingBy start_of groups → RiseFrom low groups
@@ -129,7 +129,7 @@ rises_by_index low (group ∷ groups) all rising = (
       (λ i j d le below. rising (suc i) (suc j) d (omega arith) (omega arith)),
 )
 
--- some group that begins at this time
+-- an example of a group with the given start time
 abbrev timed : ℕ → List Piece
 timed time = record { start = time; length = 1; frame = 0; file = 0; first = 1; dest = 1; width = 1; shape = Flat } ∷ []
 
@@ -141,7 +141,7 @@ filter_alike : {X : Type 0} (p q : X → Bool) → ((x : X) → p x ≡ q x) →
 filter_alike p q alike [] = refl
 filter_alike p q alike (x ∷ xs) = rw (alike x, filter_alike p q alike xs) refl
 
--- a stable sort by the start keeps what begins at each time
+-- a stable sort by start time keeps the groups of each time in order
 pub stable_keeps : (groups sorted : List (List Piece)) → IsStableByKey {K = ℕ} start_of nat_cmp groups sorted
     → (time : ℕ) → filter (begins_at time) sorted ≡ filter (begins_at time) groups
 stable_keeps groups sorted stable time =
@@ -150,7 +150,7 @@ stable_keeps groups sorted stable time =
     (begins_at time) (ties_at time) in
     sym (alike sorted) ∙ stable (timed time) ∙ alike groups
 
--- a stable sort by the start is the order of start
+-- a stable sort by start time yields the groups in start order
 pub sorted_is_order : (groups sorted : List (List Piece)) → IsStableByKey {K = ℕ} start_of nat_cmp groups sorted
     → IsNonDecreasingBy start_of sorted
     → sorted ≡ in_start_order groups

@@ -1,4 +1,4 @@
--- The number of each fault of intervals.
+-- Refusal numbers of the errors on intervals.
 use Rattle.std.specs.Prelude.{ℕ}
 use Rattle.groups.specs.declared.fault.IntervalFault.{IntervalFault}
 use Rattle.groups.specs.declared.fault.IntervalFault.TheVariants.{Memory}

@@ -1,11 +1,11 @@
--- A group in one record, as the list of its pieces.
+-- Packed groups as lists of pieces.
 use Rattle.std.specs.Prelude.{ℕ, ◌+◌, nat_lt, List, [], ◌∷◌, ◌++◌, if◌then◌else◌}
 use Rattle.sound_terms.specs.declared.piece.Piece.{Piece}
 use Rattle.sound_terms.specs.declared.piece.Shape.{Shape}
 use Rattle.sound_terms.specs.declared.piece.Shape.TheVariants.{Flat, Rise, Fall}
 use Rattle.groups.specs.declared.packed.Packed.{Packed}
 
--- n samples of the group, from its sample `at` on, in this shape
+-- the piece of n samples and the given shape that starts at sample `at` of the group
 abbrev pub piece_in : Packed → (at n : ℕ) → Shape → Piece
 piece_in group at n shape = record {
   start = group.start + at;
@@ -18,7 +18,7 @@ piece_in group at n shape = record {
   shape = shape;
 }
 
--- its rise, its flat part and its fall, each of which may have no sample
+-- the fade-in, the flat part and the fade-out of the group; each may be empty
 abbrev pub rise_in : Packed → Piece
 rise_in group = piece_in group 0 group.rise.length (Rise group.rise.offset group.rise.den)
 
@@ -29,11 +29,11 @@ abbrev pub fall_in : Packed → Piece
 fall_in group =
     piece_in group (group.rise.length + group.middle) group.fall.length (Fall group.fall.offset group.fall.den)
 
--- none where n is 0
+-- the piece as a list of one, or no piece if n is 0
 abbrev pub part_in : Packed → (at n : ℕ) → Shape → List Piece
 part_in group at n shape = if nat_lt 0 n then piece_in group at n shape ∷ [] else []
 
--- its rise, its flat part and its fall, the empty ones left out
+-- the pieces of the group: the fade-in, the flat part and the fade-out, without empty ones
 abbrev pub pieces_in : Packed → List Piece
 pieces_in group =
     part_in group 0 group.rise.length (Rise group.rise.offset group.rise.den)

@@ -1,4 +1,4 @@
-// Groups that are cut at a time.
+// Cutting groups at a time.
 ghost use Rattle.std.specs.Prelude.{◌≡◌, ◌≢◌, ◌+◌, ◌++◌, ℕ, [], List, IfOk, OnOk, option_to_list};
 ghost use Rattle.std.specs.List.{All, flat_map};
 ghost use Rattle.sound_terms.specs.Mix.{Reading};
@@ -11,7 +11,7 @@ use crate::{Group, IntervalFault, Intervals, Piece};
 use sampletime::SampleTime;
 use std::alloc::AllocError;
 
-/// What of a piece lies before this time.
+/// The part of a piece before `time`, if any.
 fn before(piece: &Piece, time: u64) -> Option<Piece>
     requires { IsPiece piece.now }
     ensures { option_to_list result ≡ piece_before time piece.now }
@@ -28,7 +28,7 @@ fn before(piece: &Piece, time: u64) -> Option<Piece>
     }
 }
 
-/// What of a piece lies from this time on.
+/// The part of a piece from `time` on, if any.
 fn after(piece: &Piece, time: u64) -> Option<Piece>
     requires { IsPiece piece.now }
     ensures { option_to_list result ≡ piece_behind time piece.now }
@@ -49,7 +49,7 @@ fn after(piece: &Piece, time: u64) -> Option<Piece>
     })
 }
 
-/// Adds these pieces as a group, where there are any.
+/// Adds `pieces` as a group unless the list is empty.
 fn push_some(groups: &mut Vec<Group>, pieces: Pieces) -> Result<(), AllocError>
     requires group { pieces.items ≢ [] → IsGroup pieces.items }
     requires sound { All IsPiece pieces.items }
@@ -61,7 +61,6 @@ fn push_some(groups: &mut Vec<Group>, pieces: Pieces) -> Result<(), AllocError>
     Ok(())
 }
 
-/// Adds this piece, where it is one.
 fn push_piece(pieces: &mut Pieces, piece: Option<Piece>) -> Result<(), AllocError>
     ensures { OnOk result (pieces.new.items ≡ pieces.old.items ++ option_to_list piece) }
 {
@@ -71,14 +70,14 @@ fn push_piece(pieces: &mut Pieces, piece: Option<Piece>) -> Result<(), AllocErro
     Ok(())
 }
 
-/// What of the pieces of a group lies before a time, and what from it on.
+/// The two sides of a cut group; either may be empty.
 #[derive(Drop)]
 struct Cut {
     before: Pieces,
     after: Pieces,
 }
 
-/// What of the pieces of a group lies before this time, and what from it on.
+/// Splits the pieces of a group at `time`.
 fn cut_pieces(group: &Group, time: u64) -> Result<Cut, AllocError>
     ensures before { IfOk result (λ cut. cut.before.items ≡ flat_map (piece_before time) group.now) }
     ensures after { IfOk result (λ cut. cut.after.items ≡ flat_map (piece_behind time) group.now) }
@@ -97,7 +96,7 @@ fn cut_pieces(group: &Group, time: u64) -> Result<Cut, AllocError>
     Ok(cut)
 }
 
-/// Adds both sides of a group, those that aren't empty, to these groups.
+/// Cuts a group at `time` and adds its non-empty sides to `groups`.
 fn push_cut(group: &Group, time: u64, groups: &mut Vec<Group>) -> Result<(), AllocError>
     ensures { OnOk result (groups.new.items ≡ groups.old.items ++ cut_group time group.now) }
 {
@@ -107,7 +106,7 @@ fn push_cut(group: &Group, time: u64, groups: &mut Vec<Group>) -> Result<(), All
 }
 
 impl Intervals {
-    /// Both sides of each group.
+    /// Returns the non-empty sides of all groups, group by group.
     fn sides(&self, time: u64) -> Result<Vec<Group>, AllocError>
         ensures { IfOk result (λ sides. sides.items ≡ flat_map (cut_group time) self.now) }
     {
@@ -118,7 +117,8 @@ impl Intervals {
         Ok(sides)
     }
 
-    /// Cuts every group that lies on both sides of a time in two. A ramp that is cut goes on where it was.
+    /// Cuts every group that spans `time` (in samples) in two. A fade that is cut continues at the
+    /// gain it had there. Returns `IntervalFault::Memory` if out of memory.
     pub fn cut_at(self, time: SampleTime) -> Result<Intervals, IntervalFault>
         ensures cut { IfOk result (λ intervals. intervals ≡ cut_groups time self) }
         ensures same_mix { (reading : Reading) (channel time : ℕ)

@@ -1,20 +1,20 @@
-// Why a call on intervals fails.
+// Errors of the operations on intervals.
 ghost use Rattle.std.specs.Prelude.{◌≡◌};
 ghost use Rattle.groups.specs.Fault.{number_of};
 
 use std::alloc::AllocError;
 use thiserror::Error;
 
-/// Why intervals aren't made.
+/// Error of an operation on intervals.
 #[derive(Clone, Copy, Debug, PartialEq, Eq, Error)]
 pub enum IntervalFault {
-    /// 47
+    /// Out of memory (refusal 47).
     #[error("out of memory")]
     Memory,
 }
 
 impl IntervalFault {
-    /// The number of the refusal.
+    /// Returns the refusal number.
     pub fn number(&self) -> u8
         ensures { result ≡ number_of self.now }
     {

@@ -1,4 +1,4 @@
-// Pieces that continue one another.
+// Groups of contiguous pieces.
 ghost use Rattle.std.specs.Prelude.{◌≡◌, ◌≢◌, MatchOption, IfSome, ◌-◌, ◌++◌, ◌∷◌, [], IsTrue, IsSome, Some, length, slice_get};
 ghost use Rattle.std.specs.List.{All};
 ghost use Rattle.sound_terms.specs.Entries.{event_of};
@@ -11,8 +11,8 @@ use sound_terms::{Piece, Placed};
 use std::alloc::Global;
 use std::marker::Model;
 
-/// One to three pieces that continue one another in destination and source: a rise, a flat part and a fall, each at
-/// most once. A clause sees the list of its pieces.
+/// One to three contiguous pieces, in destination and in source: a fade-in, a flat part and a
+/// fade-out, each at most once. Contracts see the list of its pieces.
 #[derive(Debug, Drop)]
 pub struct Group {
     alloc: Global,
@@ -34,7 +34,7 @@ impl Model for Group {
 }
 
 impl Group {
-    /// The group of this piece alone.
+    /// Creates a group of one piece.
     pub fn alone(alloc: Global, piece: Piece) -> Self
         requires { IsPiece piece }
         ensures { result ≡ piece ∷ [] }
@@ -43,7 +43,7 @@ impl Group {
         Group { alloc, packed }
     }
 
-    /// The pieces of this record as a group; `None` where there is none.
+    /// Creates a group from packed pieces, or returns `None` if there are none.
     pub(crate) fn from_packed(alloc: Global, packed: Packed) -> Option<Self>
         requires { pieces_in packed ≢ [] → IsGroup (pieces_in packed) × All IsPiece (pieces_in packed) }
         ensures pieces { MatchOption result (pieces_in packed ≡ []) (λ group. group ≡ pieces_in packed) }
@@ -55,12 +55,12 @@ impl Group {
         Some(Group { alloc, packed })
     }
 
-    /// Where what is made of it takes its memory.
+    /// Returns the allocator for values made from the group.
     pub(crate) fn allocator(&self) -> Global {
         self.alloc
     }
 
-    /// Its pieces in one record.
+    /// Returns the pieces in packed form.
     pub(crate) fn packed(&self) -> Packed
         ensures pieces { pieces_in result ≡ self.now }
         ensures group { IsGroup self.now }
@@ -69,14 +69,14 @@ impl Group {
         self.packed
     }
 
-    /// How many pieces it has.
+    /// Returns the number of pieces, 1 to 3.
     pub fn len(&self) -> usize
         ensures { result ≡ length self.now }
     {
         self.packed.len()
     }
 
-    /// Its first piece.
+    /// Returns the first piece.
     pub fn first(&self) -> Piece
         ensures piece { slice_get self.now 0 ≡ Some result }
         ensures sound { All IsPiece self.now }
@@ -84,7 +84,7 @@ impl Group {
         self.packed.first()
     }
 
-    /// Its last piece.
+    /// Returns the last piece.
     pub fn last(&self) -> Piece
         ensures piece { slice_get self.now (length self.now - 1) ≡ Some result }
         ensures sound { All IsPiece self.now }
@@ -92,21 +92,21 @@ impl Group {
         self.packed.last()
     }
 
-    /// Its event.
+    /// Returns the event that the group describes.
     pub(crate) fn placed(&self) -> Placed
         ensures { event_of self.now ≡ result ∷ [] }
     {
         self.packed.placed()
     }
 
-    /// The time at which it begins, in samples.
+    /// Returns the start time in samples.
     pub fn start(&self) -> u64
         ensures { result ≡ start_of self.now }
     {
         self.packed.start()
     }
 
-    /// Adds the pieces of a group that may follow this one.
+    /// Appends the pieces of `later`, which must continue this group.
     pub fn append(&mut self, later: Group)
         requires { IsTrue (is_followed_by self.old later) }
         ensures { self.new ≡ self.old ++ later }
@@ -114,7 +114,7 @@ impl Group {
         self.packed = self.packed.followed_by(&later.packed);
     }
 
-    /// Lengthens its one flat piece by a flat one that it goes on with.
+    /// Extends the only piece of the group, a flat one, by the flat piece that continues it.
     pub fn lengthen(&mut self, later: Piece)
         requires joins { IsSome (lengthened later self.old) }
         requires sound { IsPiece later }

@@ -1,4 +1,4 @@
-// Lists of groups in order of their starts.
+// Lists of groups in order of start time.
 ghost use Rattle.std.specs.Prelude.{◌≡◌, ◌<◌, ◌^◌, ℕ, IfOk, length};
 ghost use Rattle.std.specs.List.{All, list_all};
 ghost use Rattle.sound_terms.specs.Mix.{Reading};
@@ -10,7 +10,7 @@ use crate::{Group, Piece, Shape};
 use std::alloc::{AllocError, Global};
 use std::marker::Model;
 
-/// Groups in order of start. A clause sees the list of the groups, each as the list of its pieces.
+/// A list of groups in order of start time. Contracts see a list of lists of pieces.
 #[derive(Debug, Drop)]
 pub struct Intervals {
     groups: Vec<Group>,
@@ -29,7 +29,7 @@ impl Model for Intervals {
 }
 
 impl Intervals {
-    /// These groups, which stand in order of start.
+    /// Creates intervals from groups that are already in order of start time.
     pub fn of(groups: Vec<Group>) -> Self
         requires { AreGroups groups.items }
         ensures { result ≡ groups.items }
@@ -37,7 +37,7 @@ impl Intervals {
         Intervals { groups }
     }
 
-    /// These groups in order of start; of equal starts the earlier stays first.
+    /// Sorts groups by start time, stably. Returns `AllocError` if out of memory.
     pub fn ordered(mut groups: Vec<Group>) -> Result<Self, AllocError>
         requires groups { All IsGroup groups.items }
         requires pieces { All (All IsPiece) groups.items }
@@ -53,12 +53,12 @@ impl Intervals {
         Ok(Intervals { groups })
     }
 
-    /// The allocator that its groups take their memory from.
+    /// Returns the allocator of the groups.
     pub fn allocator(&self) -> Global {
         *self.groups.allocator()
     }
 
-    /// The groups, in order of start.
+    /// Returns the groups in order of start time.
     pub fn groups(&self) -> &[Group]
         ensures lent { result.now ≡ self.now }
         ensures sound { AreGroups self.now }
@@ -66,7 +66,7 @@ impl Intervals {
         self.groups.as_slice()
     }
 
-    /// How many pieces its groups have, for the room that a list of them takes.
+    /// Returns the total number of pieces, to reserve space for a list of them.
     pub fn piece_count(&self) -> usize
         ensures { length (pieces_of self.now) < 2 ^ 64 → result ≡ length (pieces_of self.now) }
     {
@@ -77,7 +77,7 @@ impl Intervals {
         count
     }
 
-    /// All pieces of its groups, one group after the other.
+    /// Returns the pieces of all groups, group by group. Returns `AllocError` if out of memory.
     pub fn pieces(&self) -> Result<Vec<Piece>, AllocError>
         ensures all { IfOk result (λ pieces. pieces.items ≡ pieces_of self.now) }
         ensures sound { IfOk result (λ pieces. All IsPiece pieces.items) }
@@ -89,7 +89,7 @@ impl Intervals {
         Ok(pieces)
     }
 
-    /// Hands its groups out.
+    /// Converts into the list of groups.
     pub fn into_groups(self) -> Vec<Group>
         ensures handed_out { result.items ≡ self }
         ensures sound { AreGroups self }
@@ -97,7 +97,7 @@ impl Intervals {
         self.groups
     }
 
-    /// Whether every ramp has its whole length.
+    /// Returns whether every fade is uncut.
     pub fn whole(&self) -> bool
         ensures { result ≡ are_whole self.now }
     {
@@ -105,7 +105,7 @@ impl Intervals {
     }
 }
 
-/// Whether each ramp of the group has its whole length.
+/// Whether every fade of the group is uncut.
 fn is_whole_group(group: &Group) -> bool
     ensures { result ≡ list_all spec.is_whole group.now }
 {
@@ -113,7 +113,7 @@ fn is_whole_group(group: &Group) -> bool
     pieces.as_slice().iter().all(is_whole)
 }
 
-/// Whether the piece is flat, or a ramp of its whole length.
+/// Whether the piece is flat or an uncut fade.
 fn is_whole(piece: &Piece) -> bool
     ensures { result ≡ spec.is_whole piece.now }
 {

@@ -1,4 +1,4 @@
-//! The sound of a list as groups of pieces over files.
+//! Intervals: a list's sound as groups of pieces of source files.
 #![tactic(auto)]
 
 mod cuts;

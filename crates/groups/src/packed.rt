@@ -1,4 +1,4 @@
-// The pieces of a group in one record.
+// Packed form of a group: its pieces in one record.
 ghost use Rattle.std.specs.Prelude.{◌≡◌, ◌≢◌, ◌<◌, ◌-◌, ◌^◌, ◌++◌, ◌∷◌, ◌↔◌, [], IfSome, IsSome, IsTrue, MatchOption, Some, length, slice_get};
 ghost use Rattle.std.specs.List.{All};
 ghost use Rattle.sound_terms.specs.Entries.{event_of};
@@ -8,8 +8,8 @@ ghost use Rattle.groups.specs.Packed.{fall_in, flat_in, piece_in, pieces_in, ris
 
 use crate::{Piece, Placed, Shape};
 
-/// A ramp of a group, in samples: `length` of them, from sample `offset` on of the `den` that it had as a whole. Where
-/// the group has no such ramp its length is 0.
+/// A fade of a group, in samples: `length` samples from sample `offset` of a fade that had `den`
+/// samples before it was cut. `length` is 0 if the group has no such fade.
 #[derive(Clone, Copy, Debug)]
 pub struct Ramp {
     pub length: u32,
@@ -17,15 +17,14 @@ pub struct Ramp {
     pub den: u32,
 }
 
-/// The ramp of a group that has none.
 const NO_RAMP: Ramp = Ramp {
     length: 0,
     offset: 0,
     den: 0,
 };
 
-/// A rise, a flat part of `middle` samples and a fall that continue one another, those that have samples. A day's samples
-/// fit in 32 bits.
+/// A fade-in, a flat part of `middle` samples and a fade-out, contiguous; an absent part has length
+/// 0. The samples of a day fit in 32 bits.
 #[derive(Clone, Copy, Debug)]
 pub struct Packed {
     pub start: u32,
@@ -40,7 +39,7 @@ pub struct Packed {
 }
 
 impl Packed {
-    /// A piece alone.
+    /// Packs one piece.
     pub fn alone(piece: &Piece) -> Self
         requires { IsPiece piece.now }
         ensures { pieces_in result ≡ piece.now ∷ [] }
@@ -81,7 +80,7 @@ impl Packed {
         }
     }
 
-    /// These pieces, and behind them those of a group that may follow.
+    /// Returns these pieces followed by those of a group that continues them.
     pub fn followed_by(self, later: &Packed) -> Self
         requires { IsTrue (is_followed_by (pieces_in self) (pieces_in later.now)) }
         ensures { pieces_in result ≡ pieces_in self ++ pieces_in later.now }
@@ -93,7 +92,7 @@ impl Packed {
         }
     }
 
-    /// The pieces of a group; `None` where there is none.
+    /// Packs the pieces of a group, or returns `None` if there are none.
     pub fn of(pieces: &[Piece]) -> Option<Self>
         requires group { pieces.now ≢ [] → IsGroup pieces.now }
         requires sound { All IsPiece pieces.now }
@@ -112,14 +111,14 @@ impl Packed {
         }
     }
 
-    /// Whether it has no piece.
+    /// Returns whether there are no pieces.
     pub fn is_empty(&self) -> bool
         ensures { IsTrue result ↔ (pieces_in self.now ≡ []) }
     {
         self.rise.length == 0 && self.middle == 0 && self.fall.length == 0
     }
 
-    /// How many pieces it has.
+    /// Returns the number of pieces.
     pub fn len(&self) -> usize
         ensures { result ≡ length (pieces_in self.now) }
     {
@@ -128,7 +127,8 @@ impl Packed {
             + usize::from(self.fall.length > 0)
     }
 
-    /// Its one flat piece, longer by a flat one that it goes on with.
+    /// Returns the group with its only piece, a flat one, extended by the flat piece that continues
+    /// it.
     pub fn lengthened(self, later: &Piece) -> Self
         requires joins { IsSome (lengthened later.now (pieces_in self)) }
         requires sound { IsPiece later.now }
@@ -140,7 +140,7 @@ impl Packed {
         }
     }
 
-    /// The part of so many samples, from its sample `at` on, in this shape.
+    /// The piece of `length` samples and the given shape that starts at sample `at` of the group.
     #[inline(always)]
     fn part(&self, at: u64, length: u32, shape: Shape) -> Piece
         requires { at < 2 ^ 63 }
@@ -158,7 +158,7 @@ impl Packed {
         }
     }
 
-    /// Its rise.
+    /// Returns the fade-in, which may be empty.
     #[inline(always)]
     pub fn rising(&self) -> Piece
         ensures { result ≡ rise_in self.now }
@@ -170,7 +170,7 @@ impl Packed {
         self.part(0, self.rise.length, shape)
     }
 
-    /// Its flat part.
+    /// Returns the flat part, which may be empty.
     #[inline(always)]
     pub fn flat(&self) -> Piece
         ensures { result ≡ flat_in self.now }
@@ -178,7 +178,7 @@ impl Packed {
         self.part(u64::from(self.rise.length), self.middle, Shape::Flat)
     }
 
-    /// Its fall.
+    /// Returns the fade-out, which may be empty.
     #[inline(always)]
     pub fn falling(&self) -> Piece
         ensures { result ≡ fall_in self.now }
@@ -191,7 +191,7 @@ impl Packed {
         self.part(at, self.fall.length, shape)
     }
 
-    /// Its first piece.
+    /// Returns the first piece.
     pub fn first(&self) -> Piece
         requires { pieces_in self.now ≢ [] }
         ensures { slice_get (pieces_in self.now) 0 ≡ Some result }
@@ -205,7 +205,7 @@ impl Packed {
         }
     }
 
-    /// Its last piece.
+    /// Returns the last piece.
     pub fn last(&self) -> Piece
         requires { pieces_in self.now ≢ [] }
         ensures { slice_get (pieces_in self.now) (length (pieces_in self.now) - 1) ≡ Some result }
@@ -219,7 +219,7 @@ impl Packed {
         }
     }
 
-    /// Its event.
+    /// Returns the event that the group describes.
     pub fn placed(&self) -> Placed
         requires { pieces_in self.now ≢ [] }
         ensures { event_of (pieces_in self.now) ≡ result ∷ [] }
@@ -239,7 +239,7 @@ impl Packed {
         }
     }
 
-    /// The time at which it begins, in samples.
+    /// Returns the start time in samples.
     pub fn start(&self) -> u64
         requires { IsGroup (pieces_in self.now) }
         ensures { result ≡ start_of (pieces_in self.now) }

@@ -1,4 +1,4 @@
-// The parts of an entry: its in-fade, its middle and its out-fade.
+// Groups of entries: fade-in, middle and fade-out.
 ghost use Rattle.std.specs.Prelude.{ℕ, IsTrue, Some, ◌≡◌, ◌≤◌, MatchOption, IfSome, []};
 ghost use Rattle.std.specs.List.{All, list_all};
 ghost use Rattle.sound_terms.specs.Mix.{Reading, contribution_at};
@@ -13,7 +13,7 @@ use crate::packed::{Packed, Ramp};
 use sound_terms::{BoundIndex, Event};
 use std::alloc::Global;
 
-/// An event over its index, with stretches that are pieces.
+/// An event with the index of its source, checked to be playable.
 #[derive(Clone, Copy)]
 struct Entry<'a> {
     index: &'a BoundIndex,
@@ -21,7 +21,7 @@ struct Entry<'a> {
     ghost playable: { IsPlayable index.now event.now },
 }
 
-/// A ramp of so many samples, none of which was cut off.
+/// Returns an uncut fade of the given number of samples.
 fn whole_ramp(samples: u64) -> Ramp
     requires { samples ≤ day }
     ensures { (result.length ≡ samples) × (result.offset ≡ 0) × (result.den ≡ samples) }
@@ -34,7 +34,7 @@ fn whole_ramp(samples: u64) -> Ramp
     }
 }
 
-/// The pieces of an entry.
+/// The pieces of an entry, packed.
 fn parts_of(entry: &Entry) -> Packed
     ensures { pieces_in result ≡ entries.parts_of entry.now.index.now entry.now.event.now }
 {
@@ -57,7 +57,8 @@ fn parts_of(entry: &Entry) -> Packed
     }
 }
 
-/// The group of an event over its index: its in-fade, its middle and its out-fade. `None` where it has no sample.
+/// Returns the group of an event: its fade-in, its middle and its fade-out, or `None` if it has no
+/// samples.
 pub fn group_of(alloc: Global, index: &BoundIndex, event: &Event) -> Option<Group>
     requires { IsPlayable index.now event.now }
     ensures parts { MatchOption result (entries.parts_of index.now event.now ≡ []) (λ group. group

@@ -1,5 +1,5 @@
-// The pieces of a group in a list of their own. No method of a type names that list, so crates over groups don't read
-// what is stated of it.
+// Unpacked pieces of a group. These are free functions and no methods, so that crates above this
+// one don't have to load the contracts of `SmallVec`.
 ghost use Rattle.std.specs.Prelude.{◌≡◌, ◌≢◌, ◌≤◌, [], IfSome, MatchOption};
 ghost use Rattle.std.specs.List.{All};
 ghost use Rattle.sound_terms.specs.Groups.{IsGroup, IsPiece};
@@ -10,10 +10,10 @@ use crate::packed::Packed;
 use smallvec::SmallVec;
 use sound_terms::Piece;
 
-/// The pieces of a group, which take no memory of their own.
+/// The pieces of a group, stored inline.
 pub type Pieces = SmallVec<Piece, 3>;
 
-/// The pieces of a group, in order.
+/// Returns the pieces of a group in order.
 #[inline(always)]
 pub fn group_pieces(group: &Group) -> Pieces
     ensures pieces { result.items ≡ group.now }
@@ -25,7 +25,7 @@ pub fn group_pieces(group: &Group) -> Pieces
     pieces
 }
 
-/// These pieces as a group; `None` where there is none.
+/// Creates a group from its pieces, or returns `None` if there are none.
 pub fn group_from(pieces: Pieces) -> Option<Group>
     requires group { pieces.items ≢ [] → IsGroup pieces.items }
     requires sound { All IsPiece pieces.items }
@@ -36,7 +36,7 @@ pub fn group_from(pieces: Pieces) -> Option<Group>
     Group::from_packed(*pieces.allocator(), packed)
 }
 
-/// Adds the pieces of a group, in order, where none are yet.
+/// Fills an empty list with the pieces of a group, in order.
 #[inline(always)]
 fn push_pieces(group: &Packed, pieces: &mut Pieces)
     requires none { pieces.old.items ≡ [] }

@@ -8,7 +8,7 @@ use crate::{IntervalFault, Intervals, Placed};
 use std::alloc::AllocError;
 
 impl Intervals {
-    /// The events of the groups, in order.
+    /// Returns the events of the groups, in order.
     fn events(&self) -> Result<Vec<Placed>, AllocError>
         ensures { IfOk result (λ events. events.items ≡ placed_of self.now) }
     {
@@ -19,7 +19,8 @@ impl Intervals {
         Ok(events)
     }
 
-    /// One event for each group, in order, which adds what the group adds; every ramp has its whole length.
+    /// Returns one event per group, in order, that adds the same samples as the group. Every fade
+    /// must be uncut. Returns `IntervalFault::Memory` if out of memory.
     #[tactic(auto, using(sound_terms::specs::PlacedLaws::events_add))]
     pub fn to_events(&self) -> Result<Vec<Placed>, IntervalFault>
         requires { IsTrue (are_whole self.now) }
@@ -28,7 +29,7 @@ impl Intervals {
             → map (λ event. placed_part reading event channel time) events.items
             ≡ map (λ group. sum_of reading group channel time) self.now) }
     {
-        // Its groups are known to be in order from here on.
+        // Brings the invariant (groups in order) into scope.
         let _ = self.groups();
         Ok(self.events()?)
     }
