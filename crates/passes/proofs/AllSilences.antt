@@ -1,4 +1,4 @@
--- The silences of groups are those of their pieces.
+-- The silence flags of groups are those of their pieces.
 use Rattle.std.proofs.Common.{◌≡◌, ◌∙◌, List, [], ◌∷◌, ◌++◌, refl, sym, ap}
 use Rattle.std.specs.Prelude.{Bool}
 use Rattle.std.specs.List.{flat_map}

@@ -1,4 +1,4 @@
--- An ordered index from marks to their places, and what it finds first.
+-- An ordered index from marks to positions finds first positions.
 use Rattle.std.proofs.Common.{◌≡◌, ◌≢◌, ◌∙◌, ◌⊎◌, inl, inr, ℕ, zero, suc, ◌<◌, ◌≤◌, Bool, true, false, List, [], ◌∷◌}
 use Rattle.std.proofs.Common.{◌++◌, length, set, refl, sym, ap, arith, cond}
 use Rattle.std.proofs.lemmas.Bool.{cases_eq}
@@ -32,7 +32,7 @@ then_equal Greater p = refl
 equal_numbers : (x y : ℕ) → is_eq (nat_cmp x y) ≡ (x == y)
 equal_numbers x y = grind (arith, nat_tests)
 
--- the same, in the order of the fields
+-- equality of ends with the fields in comparison order
 abbrev is_alike : End → End → Bool
 is_alike a b =
     a.start == b.start && (a.frame == b.frame && (a.file == b.file && (a.rank == b.rank
@@ -49,7 +49,7 @@ rank_in_front false true true true rest = refl
 alike_is_same : (a b : End) → is_alike a b ≡ is_same a b
 alike_is_same a b = rank_in_front (a.rank == b.rank) (a.start == b.start) (a.frame == b.frame) (a.file == b.file) _
 
--- ends that tie are the same
+-- ends that compare as equal are equal
 tie_is_same : (a b : End) → is_eq (end_cmp a b) ≡ is_same a b
 tie_is_same a b =
     let alike : is_eq (end_cmp a b) ≡ is_alike a b = simp (then_equal, equal_numbers) in
@@ -98,7 +98,7 @@ module _ {X : Type 0} (test : X → Bool) where
   holds_push (y ∷ ys) x zero fails = refl
   holds_push (y ∷ ys) x (suc k) fails = holds_push ys x k fails
 
--- the mark of a place changes
+-- the index after the mark of one position changes
 changed_is_index : (marks : List (Option End)) (s t : BTreeSet (End × ℕ)) (end : End) (i : ℕ) (was mark : Option End)
     (now : Bool) → IsIndexOf marks s → slice_get marks i ≡ Some was
     → ((q : End × ℕ) → contains place_cmp t q ≡ cond (is_eq (place_cmp (end, i) q)) now (contains place_cmp s q))
@@ -127,7 +127,7 @@ changed_is_index marks s t end i was mark now index there change below turned ot
         neither true b = refl
         neither false b = refl
 
--- a mark that is put to a place without one
+-- the index after a mark is set at a position without one
 pub put_is_index : (marks : List (Option End)) (s t : BTreeSet (End × ℕ)) (end : End) (i : ℕ) → IsIndexOf marks s
     → slice_get marks i ≡ Some None
     → ((q : End × ℕ) → contains place_cmp t q ≡ cond (is_eq (place_cmp (end, i) q)) true (contains place_cmp s q))
@@ -138,7 +138,7 @@ put_is_index marks s t end i index free put below =
       either true = refl
       either false = refl
 
--- a mark that is taken away from its place
+-- the index after a mark is removed
 pub clear_is_index : (marks : List (Option End)) (s t : BTreeSet (End × ℕ)) (end : End) (i : ℕ) → IsIndexOf marks s
     → slice_get marks i ≡ Some (Some end)
     → ((q : End × ℕ) → contains place_cmp t q ≡ cond (is_eq (place_cmp (end, i) q)) false (contains place_cmp s q))
@@ -153,7 +153,7 @@ pub push_is_index : (marks : List (Option End)) (s : BTreeSet (End × ℕ)) → 
     → IsIndexOf (marks ++ None ∷ []) s
 push_is_index marks s index end k = index end k ∙ sym (holds_push (is_end end) marks None k refl)
 
--- ends that agree in all that they tell
+-- an end from its fields
 abbrev made : (rank start frame file first dest width : ℕ) → End
 made rank start frame file first dest width =
     record { rank = rank; start = start; frame = frame; file = file; first = first; dest = dest; width = width }
@@ -175,17 +175,17 @@ same_is a b same =
     (grind (arith, nat_tests))
     (grind (arith, nat_tests)) (grind (arith, nat_tests)) (grind (arith, nat_tests))
 
--- the places of an end lie behind its first possible one
+-- all index entries of an end come at or after its entry for position 0
 at_or_behind : (end : End) (k : ℕ) → is_gt (place_cmp (end, 0) (end, k)) ≡ false
 at_or_behind end k = rw (tied_itself end_total end) (grind (arith, nat_tests))
 
--- of two places of an end, the one that isn't behind the other is no later
+-- entries of one end are ordered by position
 no_later : (end : End) (i k : ℕ) → is_gt (place_cmp (end, i) (end, k)) ≡ false → i ≤ k
 no_later end i k le = by_tie (rw (tied_itself end_total end) at le) where
   by_tie : is_gt (nat_cmp i k) ≡ false → i ≤ k
   by_tie le = grind (arith, nat_tests)
 
--- of two ends between places of one, none lies
+-- no entry of another end is between two entries of one end
 between : (o p : Ordering) (i j k : ℕ) → o ≡ ordering_reverse p → is_gt (ordering_then p (nat_cmp i j)) ≡ false
     → is_gt (ordering_then o (nat_cmp j k)) ≡ false → is_eq o ≡ true
 between o Less i j k turned low high = absurd_by turned high where
@@ -197,7 +197,7 @@ between o Greater i j k turned low high = cc
 module _ (marks : List (Option End)) (s : BTreeSet (End × ℕ)) (end : End) (found : List (End × ℕ))
     (index : IsIndexOf marks s)
     (behind : IsKeyRangeOf place_cmp (Included (end, 0)) Unbounded s found) where
-  -- no place is behind the first possible one
+  -- if there is no entry at or after position 0, the end has no position
   pub found_nowhere : found ≡ [] → IsFirst (is_end end) marks None
   found_nowhere none k = sym (index end k) ∙ behind.5 none (end, k) (at_or_behind end k, tt)
 
@@ -208,7 +208,7 @@ module _ (marks : List (Option End)) (s : BTreeSet (End × ℕ)) (end : End) (fo
     least : (k : ℕ) → contains place_cmp s (end, k) ≡ true → is_gt (place_cmp (other, i) (end, k)) ≡ false
     least k there = rw first at (behind.2 (end, k) (at_or_behind end k, tt) there)
 
-    -- the first place behind it is one of another end
+    -- if the next entry is one of another end, the end has no position
     pub found_other : is_alike other end ≡ false → IsFirst (is_end end) marks None
     found_other unlike k = by_test (holds_at (is_end end) marks k) (index end k) where
       by_test : (b : Bool) → contains place_cmp s (end, k) ≡ b → b ≡ false
@@ -219,7 +219,7 @@ module _ (marks : List (Option End)) (s : BTreeSet (End × ℕ)) (end : End) (fo
           let same = tie_is_same other end in
           let differs = sym (alike_is_same other end) ∙ unlike in cc
 
-    -- it is the end's first place
+    -- otherwise the next entry has the end's first position
     pub found_first : is_alike other end ≡ true → IsFirst (is_end end) marks (Some i)
     found_first alike =
         let is = same_is other end (sym (alike_is_same other end) ∙ alike) in

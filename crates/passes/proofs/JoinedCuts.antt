@@ -1,4 +1,4 @@
--- Cuts that are joined by marks, and what joining keeps.
+-- Joining cuts through marks yields `join_cuts` and keeps its invariants.
 use Rattle.std.proofs.Common.{◌≡◌, ◌∙◌, ℕ, ◌+◌, ◌<◌, length, get_or, set, map, Bool, true, false, List, [], ◌∷◌, ◌++◌}
 use Rattle.std.proofs.Common.{refl, sym, arith}
 use Rattle.std.specs.Prelude.{pos, ◌+ℤ◌, ◌&&◌, Option, Result, Ok, Err, OnOk, None, Some, is_some}
@@ -19,7 +19,7 @@ use Rattle.passes.specs.TotalLaws.{total_joined}
 use Rattle.passes.proofs.Longer.{longer_mix, longer_whole}
 use Rattle.passes.proofs.Putting.{put_last, put_there, taken_there}
 
--- a flat piece is taken by the groups with the mark that it looks for
+-- a flat piece extends exactly the groups with the mark that it searches for
 pub flat_agrees : (later : Piece) → later.shape ≡ Flat → (group : List Piece)
     → is_some (lengthened later group) ≡ is_end (end_before 1 later) (flat_end group)
 flat_agrees later flat [] = refl
@@ -36,14 +36,14 @@ flat_agrees later flat (p ∷ []) = by_shape p.shape refl where
 
 module _ (later : Piece) (flat : later.shape ≡ Flat) (groups : List (List Piece)) (ends : List (Option End))
     (marked : ends ≡ map flat_end groups) where
-  -- no group is lengthened by it
+  -- the piece extends no group
   pub flat_last : IsFirst (is_end (end_before 1 later)) ends None
       → put_to_first (lengthened later) (later ∷ []) groups ≡ groups ++ (later ∷ []) ∷ []
   flat_last none = put_last (lengthened later) (later ∷ []) flat_end (is_end (end_before 1 later))
       (flat_agrees later flat) groups (rw marked at none)
 
   module _ (place : ℕ) (d : List Piece) (first : IsFirst (is_end (end_before 1 later)) ends (Some place)) where
-    -- the group of this place is lengthened by it
+    -- the piece extends the group at this position
     pub flat_taken : (place < length groups) × (is_some (lengthened later (get_or groups place d)) ≡ true)
     flat_taken =
         taken_there (lengthened later) (later ∷ []) flat_end (is_end (end_before 1 later)) (flat_agrees later flat)
@@ -55,7 +55,7 @@ module _ (later : Piece) (flat : later.shape ≡ Flat) (groups : List (List Piec
         put_there (lengthened later) (later ∷ []) flat_end (is_end (end_before 1 later)) (flat_agrees later flat) groups
         place joined d (rw marked at first) taken
 
--- the longer piece has the mark of the one that it is longer by
+-- an extended piece has the end of the piece that was added
 pub longer_end : (later : Piece) (group joined : List Piece) → lengthened later group ≡ Some joined
     → flat_end joined ≡ Some (end_of later)
 longer_end later = by_longer (λ group joined. flat_end joined ≡ Some (end_of later)) later same where

@@ -1,4 +1,4 @@
--- Groups stay groups in order of start where a pass puts them one after the other.
+-- A pass that adds groups one by one keeps them valid and in order of start time.
 use Rattle.std.proofs.Common.{◌≡◌, ℕ, ◌≤◌, Bool, true, false, List, [], ◌∷◌, ◌++◌, refl, arith, All}
 use Rattle.std.specs.Prelude.{Option, None, Some, if◌then◌else◌}
 use Rattle.std.specs.List.{fold}
@@ -13,7 +13,7 @@ abbrev pub Put : Type 0
 Put = List (List Piece) → List Piece → List (List Piece)
 
 module _ (P : List Piece → Type 0) where
-  -- what a group is that another one is joined to
+  -- joining keeps a property of a group
   abbrev pub Keeps : (List Piece → Option (List Piece)) → Type 0
   Keeps takes = (group joined : List Piece) → takes group ≡ Some joined → P group → P joined
 
@@ -52,11 +52,11 @@ rise_without : (low : ℕ) (groups behind : List (List Piece)) (own : List Piece
 rise_without low [] behind own rise = rise_more low (start_of own) behind rise.0 rise.1
 rise_without low (group ∷ groups) behind own rise = (rise.0, rise_without (start_of group) groups behind own rise.1)
 
--- a group that is joined to another one begins where that one does
+-- joining doesn't change the start of a group
 abbrev pub KeepsStart : (List Piece → Option (List Piece)) → Type 0
 KeepsStart takes = (group joined : List Piece) → takes group ≡ Some joined → start_of joined ≡ start_of group
 
--- putting keeps the order, also before what is left to be put
+-- adding a group keeps the order, including the groups that are still waiting
 abbrev pub KeepsOrder : Put → Type 0
 KeepsOrder put = (low : ℕ) (out behind : List (List Piece)) (own : List Piece) → RiseFrom low (out ++ own ∷ behind)
     → RiseFrom low (put out own ++ behind)

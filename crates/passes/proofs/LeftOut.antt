@@ -1,4 +1,4 @@
--- What is silent adds nothing, so it may be left out.
+-- Silent pieces add nothing, so they may be dropped.
 use Rattle.std.proofs.Common.{◌≡◌, ◌∙◌, ℕ, ◌-◌, ◌*◌, ◌/◌, ◌<◌, Bool, true, false, List, [], ◌∷◌, ◌++◌, length, take, drop, IsTrue, refl, ap, arith, All}
 use Rattle.std.specs.Prelude.{pos, ◌&&◌, ◌||◌, nat_le, ⊤}
 use Rattle.std.specs.List.{list_all}
@@ -39,7 +39,7 @@ silent_sum r [] channel time silent = refl
 silent_sum r (p ∷ ps) channel time silent =
     rw (silent_part r p channel time silent.0, silent_sum r ps channel time silent.1) refl
 
--- pieces that are called silent are so, where the reading agrees
+-- pieces marked silent are silent if the reading agrees with the flags
 called_silent : (r : Reading) (group rest : List Piece) (silent : List Bool) → Agrees r (group ++ rest) silent
     → is_called (length group) silent ≡ true → AllSilent r group
 called_silent r [] rest silent agrees called = tt
@@ -62,7 +62,7 @@ agrees_behind r (p ∷ ps) [] [] agrees = tt
 agrees_behind r (p ∷ ps) (q ∷ qs) [] agrees = tt
 agrees_behind r (p ∷ ps) rest (b ∷ silent) agrees = agrees_behind r ps rest silent agrees.1
 
--- what is left adds what all added
+-- the remaining groups have the same sum
 pub same_mix : (groups : List (List Piece)) (silent : List Bool) → SameMix groups silent (without_silent groups silent)
 same_mix [] silent r agrees channel time = refl
 same_mix (group ∷ groups) silent r agrees channel time =
@@ -90,7 +90,7 @@ and_more : (a b c : Bool) → (b ≡ true → c ≡ true) → (a && b) ≡ true 
 and_more true b c more e = more e
 and_more false b c more e = cc
 
--- nothing is read that wasn't
+-- the remaining groups read no additional samples
 pub reads_no_more : (groups : List (List Piece)) (silent : List Bool) (file channel frame : ℕ)
     → IsTrue (reads (without_silent groups silent) file channel frame) → IsTrue (reads groups file channel frame)
 reads_no_more [] silent file channel frame read = read

@@ -1,4 +1,4 @@
--- What a flat piece that is longer adds.
+-- The samples that an extended flat piece adds.
 use Rattle.std.proofs.Common.{◌≡◌, ℕ, ◌+◌, ◌-◌, ◌<◌, ◌≤◌, Bool, true, [], ◌∷◌, refl, sym, arith}
 use Rattle.std.specs.Prelude.{ℤ, pos, ◌+ℤ◌, ◌&&◌, nat_le, nat_lt}
 use Rattle.std.specs.List.{list_all}

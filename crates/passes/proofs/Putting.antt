@@ -1,4 +1,4 @@
--- A group that is put to the first one that takes it, where marks tell which do.
+-- Adding a group to the first one that takes it, found by its mark.
 use Rattle.std.proofs.Common.{◌≡◌, ◌∙◌, ℕ, zero, suc, ◌<◌, Bool, true, List, [], ◌∷◌, ◌++◌, length, get_or, set}
 use Rattle.std.proofs.Common.{map, refl, ap, arith}
 use Rattle.std.specs.Prelude.{Option, None, Some, is_some}
@@ -18,7 +18,7 @@ module _ {M : Type 0} (takes : List Piece → Option (List Piece)) (own : List P
       let here = not_some (takes group) (agree group ∙ none 0) in
       rw here (ap (λ (rest : List (List Piece)). group ∷ rest) (put_last groups (λ place. none (suc place))))
 
-  -- the group of this place is the first that takes it
+  -- the group at this position is the first that takes it
   pub put_there : (groups : List (List Piece)) (place : ℕ) (joined d : List Piece)
       → IsFirst test (map mark groups) (Some place)
       → takes (get_or groups place d) ≡ Some joined → put_to_first takes own groups ≡ set groups place joined
@@ -29,7 +29,7 @@ module _ {M : Type 0} (takes : List Piece → Option (List Piece)) (own : List P
       rw here (ap (λ (rest : List (List Piece)). group ∷ rest)
       (put_there groups place joined d (first.0, λ k below. first.1 (suc k) (omega arith)) taken))
 
-  -- it does take it
+  -- the group at the position found takes it
   pub taken_there : (groups : List (List Piece)) (place : ℕ) (d : List Piece)
       → holds_at test (map mark groups) place ≡ true
       → (place < length groups) × (is_some (takes (get_or groups place d)) ≡ true)

@@ -1,4 +1,4 @@
--- Groups that are put together by marks, and what that keeps.
+-- Regrouping through marks yields `regroup` and keeps its invariants.
 use Rattle.std.proofs.Common.{◌≡◌, ◌∙◌, ℕ, zero, suc, ◌-◌, ◌<◌, length, get_or, set, map, Bool, true, false, refl}
 use Rattle.std.proofs.Common.{sym}
 use Rattle.std.proofs.Common.{arith, List, [], ◌∷◌, ◌++◌, All}
@@ -34,7 +34,7 @@ module _ {X : Type 0} where
   holds_same test other same (x ∷ xs) zero = same x
   holds_same test other same (x ∷ xs) (suc k) = holds_same test other same xs k
 
-  -- two tests that agree hold first at one place
+  -- equivalent tests have the same first position
   pub first_same : (test other : X → Bool) → ((x : X) → test x ≡ other x) → (xs : List X) (found : Option ℕ)
       → IsFirst test xs found → IsFirst other xs found
   first_same test other same xs None first = λ k. sym (holds_same test other same xs k) ∙ first k
@@ -50,7 +50,7 @@ module _ {X : Type 0} where
   holds_either a b (x ∷ xs) zero = refl
   holds_either a b (x ∷ xs) (suc k) = holds_either a b xs k
 
-  -- one of two tests holds first where the earlier of both does
+  -- the first position of either of two tests is the smaller of their first positions
   pub first_either : (a b : X → Bool) (xs : List X) (one other : Option ℕ) → IsFirst a xs one → IsFirst b xs other
       → IsFirst (λ x. a x || b x) xs (earlier one other)
   first_either a b xs None None first second = λ k. rw (holds_either a b xs k, first k, second k) refl
@@ -110,7 +110,7 @@ pub fall_follows : (p : Piece) (offset den : ℕ) → p.shape ≡ Fall offset de
 fall_follows p offset den is None = refl
 fall_follows p offset den is (Some end) = rw is (under_two end.rank _)
 
--- the first piece of a group follows as the group does
+-- a group continues an end if its first piece does
 pub group_first : (group : List Piece) (p : Piece) (marks : List (Option End)) (found : Option ℕ)
     → slice_get group 0 ≡ Some p
     → IsFirst (follows p) marks found → IsFirst (group_follows group) marks found
@@ -135,7 +135,7 @@ followed_is (q ∷ []) [] = refl
 followed_is (q ∷ []) (p ∷ ps) = turned (continues q p) (nat_lt (rank_of q.shape) (rank_of p.shape)) (rank_of q.shape)
 followed_is (q ∷ next ∷ qs) later = followed_is (next ∷ qs) later
 
--- a group is taken by those with a mark that it follows
+-- a group can be appended exactly to the groups with a mark that it continues
 group_agrees : (later group : List Piece) → is_some (extended later group) ≡ group_follows later (group_end group)
 group_agrees later group = by_test (is_followed_by group later) ∙ followed_is group later where
   by_test : (b : Bool) → is_some (if b then Some (group ++ later) else None) ≡ b
@@ -152,7 +152,7 @@ not_followed [] = refl
 not_followed (q ∷ []) = refl
 not_followed (q ∷ next ∷ qs) = not_followed (next ∷ qs)
 
--- a group that one is added to ends as that one does
+-- a group has the end of the group that was appended to it
 pub end-append : (later group : List Piece) → is_followed_by group later ≡ true
     → group_end (group ++ later) ≡ group_end later
 end-append [] group follows = let none = not_followed group in cc
@@ -160,13 +160,13 @@ end-append (p ∷ ps) group follows = rw (last-append group p ps) refl
 
 module _ (later : List Piece) (groups : List (List Piece)) (ends : List (Option End)) (marked : ends
     ≡ map group_end groups) where
-  -- it follows no group
+  -- the group continues no other
   pub grouped_last : IsFirst (group_follows later) ends None → put_grouped groups later ≡ groups ++ later ∷ []
   grouped_last none =
       put_last (extended later) later group_end (group_follows later) (group_agrees later) groups (rw marked at none)
 
   module _ (place : ℕ) (d : List Piece) (first : IsFirst (group_follows later) ends (Some place)) where
-    -- it may follow the group of this place
+    -- the group may follow the group at this position
     pub follows_there : (place < length groups) × (is_followed_by (get_or groups place d) later ≡ true)
     follows_there =
         let holds = rw marked at first in
@@ -177,7 +177,7 @@ module _ (later : List Piece) (groups : List (List Piece)) (ends : List (Option 
           by_test true is = refl
           by_test false is = is
 
-    -- and no group before
+    -- the group is appended at this position, as it continues no earlier group
     pub grouped_there : put_grouped groups later ≡ set groups place (get_or groups place d ++ later)
     grouped_there =
         let joined = get_or groups place d ++ later in

@@ -1,4 +1,4 @@
--- Pieces that are groups of their own sound as their groups did.
+-- Splitting groups into pieces keeps their sum.
 use Rattle.std.proofs.Common.{◌≡◌, ◌∙◌, ℕ, List, [], ◌∷◌, ◌++◌, refl, sym, ap, arith, All}
 use Rattle.std.specs.Prelude.{⊤}
 use Rattle.std.specs.List.{flat_map, list_all, list_any}
@@ -16,7 +16,7 @@ alone-append : (a b : List Piece) → each_alone (a ++ b) ≡ each_alone a ++ ea
 alone-append [] b = refl
 alone-append (p ∷ ps) b = ap (λ rest. (p ∷ []) ∷ rest) (alone-append ps b)
 
--- the groups of all pieces
+-- one group for each piece of all groups
 pub all_alone : (groups : List (List Piece)) → flat_map each_alone groups ≡ each_alone (pieces_of groups)
 all_alone [] = refl
 all_alone (group ∷ groups) =

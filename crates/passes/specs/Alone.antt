@@ -2,6 +2,6 @@
 use Rattle.std.specs.Prelude.{List, [], ◌∷◌, map}
 use Rattle.sound_terms.specs.declared.piece.Piece.{Piece}
 
--- each piece a group
+-- one group per piece
 abbrev pub each_alone : List Piece → List (List Piece)
 each_alone pieces = map (λ p. p ∷ []) pieces

@@ -1,4 +1,4 @@
--- What goes on with a group, and where it is found in a list.
+-- Ends of pieces, and the first position of an end in a list.
 use Rattle.std.specs.Prelude.{◌≡◌, ℕ, zero, suc, ◌+◌, ◌<◌, ◌==◌, ◌&&◌, nat_lt, Bool, true, false, List, [], ◌∷◌, Option, None}
 use Rattle.std.specs.Prelude.{Some, option_map, if◌then◌else◌}
 use Rattle.std.specs.declared.cmp.Ordering.{Ordering}
@@ -21,7 +21,7 @@ end_of p = record {
   width = p.width;
 }
 
--- the end that a piece goes on from, where the shape before it has this rank
+-- the end that a piece continues if the shape before it has the given rank
 abbrev pub end_before : ℕ → Piece → End
 end_before rank p = record {
   rank = rank;
@@ -33,13 +33,13 @@ end_before rank p = record {
   width = p.width;
 }
 
--- the piece of a group that is one flat piece
+-- the piece of a group that consists of one flat piece
 abbrev pub flat_alone : List Piece → Option Piece
 flat_alone [] = None
 flat_alone (p ∷ []) = if is_flat p.shape then Some p else None
 flat_alone (p ∷ q ∷ ps) = None
 
--- its end
+-- the end of such a piece
 abbrev pub flat_end : List Piece → Option End
 flat_end group = option_map end_of (flat_alone group)
 
@@ -48,11 +48,11 @@ last_piece [] = None
 last_piece (p ∷ []) = Some p
 last_piece (p ∷ q ∷ ps) = last_piece (q ∷ ps)
 
--- the end of a group is that of its last piece
+-- the end of a group: the end of its last piece
 abbrev pub group_end : List Piece → Option End
 group_end group = option_map end_of (last_piece group)
 
--- the same in all that it tells
+-- two ends agree in all fields
 abbrev pub is_same : End → End → Bool
 is_same a b =
     a.rank == b.rank && (a.start == b.start && (a.frame == b.frame && (a.file == b.file
@@ -62,35 +62,35 @@ abbrev pub is_end : End → Option End → Bool
 is_end end None = false
 is_end end (Some mark) = is_same end mark
 
--- a piece goes on from this end, behind a shape of a lower rank
+-- a piece continues this end, after a shape of lower rank
 abbrev pub follows : Piece → Option End → Bool
 follows p None = false
 follows p (Some end) = nat_lt end.rank (rank_of p.shape) && is_same (end_before end.rank p) end
 
--- so does the first piece of a group
+-- the first piece of a group continues this end
 abbrev pub group_follows : List Piece → Option End → Bool
 group_follows [] mark = false
 group_follows (p ∷ ps) mark = follows p mark
 
--- a test holds at this place
+-- the element at this position exists and passes the test
 abbrev pub holds_at : {X : Type 0} → (X → Bool) → List X → ℕ → Bool
 holds_at test [] place = false
 holds_at test (x ∷ xs) zero = test x
 holds_at test (x ∷ xs) (suc place) = holds_at test xs place
 
--- the first place at which a test holds; none where it holds nowhere
+-- the first position at which a test holds, or none if it holds nowhere
 abbrev pub IsFirst : {X : Type 0} → (X → Bool) → List X → Option ℕ → Type 0
 IsFirst test xs None = (place : ℕ) → holds_at test xs place ≡ false
 IsFirst test xs (Some first) =
     (holds_at test xs first ≡ true) × ((place : ℕ) → place < first → holds_at test xs place ≡ false)
 
--- the first of two places, where there are any
+-- the smaller of two optional positions
 abbrev pub earlier : Option ℕ → Option ℕ → Option ℕ
 earlier None other = other
 earlier (Some one) None = Some one
 earlier (Some one) (Some other) = if nat_lt other one then Some other else Some one
 
--- by start, then frame, and so on
+-- order of ends: by start, then by position in the file, file, rank and channels
 abbrev pub end_cmp : End → End → Ordering
 end_cmp a b =
     ordering_then (nat_cmp a.start b.start) (ordering_then (nat_cmp a.frame b.frame)
@@ -101,7 +101,7 @@ end_cmp a b =
 abbrev pub place_cmp : End × ℕ → End × ℕ → Ordering
 place_cmp a b = ordering_then (end_cmp a.0 b.0) (nat_cmp a.1 b.1)
 
--- the index has each mark at each of its places, and nothing else
+-- the index has exactly the positions of each mark in the list
 abbrev pub IsIndexOf : List (Option End) → BTreeSet (End × ℕ) → Type 0
 IsIndexOf marks places =
     (end : End) (place : ℕ) → contains place_cmp places (end, place) ≡ holds_at (is_end end) marks place

@@ -1,4 +1,4 @@
--- A piece is called silent exactly where it is, and a reading agrees with what it calls silent.
+-- A reading agrees with the silence flags computed from it.
 use Rattle.std.proofs.Common.{◌≡◌, ℕ, zero, suc, ◌+◌, ◌<◌, true, arith, refl}
 use Rattle.std.specs.Prelude.{ℤ, pos, ◌↔◌, List, [], ◌∷◌}
 use Rattle.std.specs.Ordering.{int_eq}
@@ -69,7 +69,7 @@ silent_is r p =
     let is = zero_channels r p.file p.first p.width p.frame p.length in
     let called = called_channels r p.file p.first p.width p.frame p.length in (is, called)
 
--- the reading agrees with what it calls silent
+-- a reading agrees with the silence flags computed from it
 agrees_with : (r : Reading) (pieces : List Piece) → Agrees r pieces (silences_of r pieces)
 agrees_with r [] = tt
 agrees_with r (p ∷ ps) = ((silent_is r p).0, agrees_with r ps)
@@ -77,7 +77,7 @@ agrees_with r (p ∷ ps) = ((silent_is r p).0, agrees_with r ps)
 pub agrees : (r : Reading) (groups : List (List Piece)) → Agrees r (pieces_of groups) (silences r groups)
 agrees r groups = agrees_with r (pieces_of groups)
 
--- what calls nothing silent agrees with every reading
+-- every reading agrees with an empty list of flags
 pub agrees_none : (r : Reading) (pieces : List Piece) → Agrees r pieces []
 agrees_none r [] = tt
 agrees_none r (p ∷ ps) = tt

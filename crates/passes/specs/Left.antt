@@ -1,4 +1,4 @@
--- What passes leave of groups, by the samples of the files.
+-- Groups that remain after passes, as a function of the source samples.
 use Rattle.std.proofs.Common.{◌≡◌, refl}
 use Rattle.std.specs.Prelude.{ℕ, Bool, false, List, IsTrue}
 use Rattle.std.specs.List.{list_any}
@@ -10,17 +10,17 @@ use Rattle.passes.specs.Keeping.{StayWhole}
 use Rattle.passes.specs.Standard.{AreStandard}
 use mathlib.Core.Path.{fun_ext}
 
--- the groups that are left of some groups
+-- a function from source samples and groups to the groups that remain
 abbrev pub Leaving : Type 0
 Leaving = Reading → List (List Piece) → List (List Piece)
 
--- these passes, one after the other; those that look are told what is silent by then
+-- the result of passes in order; each pass that needs the silence flags gets those of its input
 abbrev pub left_by : {B : Type 0} → (looks : B → Bool) → (gives : B → List (List Piece) → List Bool → List (List Piece))
     → List B → Leaving
 left_by looks gives passes reading groups = in_turn looks gives (silences reading) passes groups
 
--- What `rest` of some passes makes of the groups left by the others is what all of them make of the given groups. What
--- is left has the sum of the given groups, and plays no more frames. Where no pass looks, nothing is asked (`unasked`).
+-- `left` is an intermediate result: the passes in `rest` turn it into the result of all passes. It has the sum of the
+-- given groups and reads no more samples. `unasked` holds if no pass needs the silence flags.
 abbrev pub IsLeft : {B : Type 0} → Reading → (is_honest unasked : Type 0) → (looks : B → Bool)
     → (gives : B → List (List Piece) → List Bool → List (List Piece))
     → (passes rest : List B) → (groups left : List (List Piece)) → Type 0
@@ -34,14 +34,14 @@ IsLeft reading is_honest unasked looks gives passes rest groups left = record {
   quiet : list_any looks passes ≡ false → (list_any looks rest ≡ false) × unasked;
 }
 
--- four passes in the standard order give the standard groups
+-- four passes in the standard order produce the standard groups
 pub standard_in_turn : {B : Type 0} (looks : B → Bool) (gives : B → List (List Piece) → List Bool → List (List Piece))
     (reading : Reading) (passes : List B) (groups : List (List Piece)) → AreStandard looks gives passes
     → in_turn looks gives (silences reading) passes groups ≡ standard_groups reading groups
 standard_in_turn looks gives reading passes groups are =
     rw (are.are, are.splits, are.looking, are.leaves_out, are.joins, are.regroups) refl
 
--- so that is what they leave
+-- the standard passes leave the standard groups
 pub standard_left : {B : Type 0} (looks : B → Bool) (gives : B → List (List Piece) → List Bool → List (List Piece))
     (passes : List B) → AreStandard looks gives passes → left_by looks gives passes ≡ standard_groups
 standard_left looks gives passes are =

@@ -1,4 +1,4 @@
--- The groups that a pass has put out, with the marks by which they are found.
+-- The output of a pass and its marks.
 use Rattle.std.specs.Prelude.{◌≡◌, List, Option, map}
 use Rattle.std.specs.List.{fold}
 use Rattle.sound_terms.specs.declared.piece.Piece.{Piece}
@@ -6,7 +6,7 @@ use Rattle.passes.specs.declared.ends.End.{End}
 use Rattle.passes.specs.Ends.{flat_end, group_end}
 use Rattle.passes.specs.declared.output.Output.{Output}
 
--- each group that is one flat piece is marked by its end, and no other is
+-- exactly the groups of one flat piece are marked, by their ends
 abbrev pub HasFlatEnds : Output → Type 0
 HasFlatEnds output = output.ends ≡ map flat_end output.groups.items
 
@@ -14,7 +14,7 @@ HasFlatEnds output = output.ends ≡ map flat_end output.groups.items
 abbrev pub HasLastEnds : Output → Type 0
 HasLastEnds output = output.ends ≡ map group_end output.groups.items
 
--- the groups that wait are still to be put to those that are put out, to make `whole`, and each of these has its mark
+-- adding the waiting groups to the output yields `whole`, and each group of the output has its mark
 abbrev pub IsPuttingOut : (put : List (List Piece) → List Piece → List (List Piece)) → (mark : List Piece → Option End)
     → (whole : List (List Piece)) → Output → (waiting : List (List Piece)) → Type 0
 IsPuttingOut put mark whole output waiting =

@@ -1,4 +1,4 @@
--- Joined cuts and groups that are put together again play the frames that they played before.
+-- Joining cuts and regrouping don't change the set of source samples read.
 use Rattle.std.proofs.Common.{◌≡◌, ◌∙◌, ℕ, ◌+◌, Bool, true, false, List, [], ◌∷◌, refl, sym}
 use Rattle.std.specs.Prelude.{◌||◌, ◌==◌, nat_le, nat_lt}
 use Rattle.std.specs.List.{list_any}

@@ -1,4 +1,4 @@
--- What the standard passes give, and that what is played of it is what isn't silent.
+-- The standard passes keep exactly the pieces that aren't silent.
 use Rattle.std.proofs.Common.{◌≡◌, ◌∙◌, ℕ, Bool, true, false, List, [], ◌∷◌, length, refl, ap, arith, All}
 use Rattle.std.specs.Prelude.{◌&&◌, ◌||◌, not, nat_le, ⊤}
 use Rattle.std.specs.List.{list_any}
@@ -36,7 +36,7 @@ module _ (r : Reading) (file channel frame : ℕ) where
   abbrev sounds_by : List Piece → Bool
   sounds_by group = list_any (λ p. is_read p file channel frame && not (is_silent_in r p)) group
 
-  -- a piece alone is left out where it is silent
+  -- a group of one silent piece is dropped
   left_one : (p : Piece) (groups : List (List Piece)) (silent : List Bool) (b : Bool) → is_silent_in r p ≡ b
       → reads (without_silent groups silent) file channel frame ≡ total ◌||◌ false sounds_by groups
       → reads (without_silent ((p ∷ []) ∷ groups) (b ∷ silent)) file channel frame

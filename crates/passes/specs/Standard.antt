@@ -1,4 +1,4 @@
--- The standard passes, and what of a sound is played where they have gone over it.
+-- The standard passes, and the source samples that remain in use after them.
 use Rattle.std.specs.Prelude.{◌≡◌, ℕ, Bool, true, false, not, ◌&&◌, List, [], ◌∷◌}
 use Rattle.std.specs.List.{list_any}
 use Rattle.sound_terms.specs.declared.piece.Piece.{Piece}
@@ -7,8 +7,7 @@ use Rattle.sound_terms.specs.Groups.{is_read, pieces_of}
 use Rattle.sound_terms.specs.Passes.{join_cuts, regroup, split_fades, without_silent}
 use Rattle.passes.specs.Silent.{is_silent_in}
 
--- Four passes in the standard order: each piece alone, without what is silent, without cuts that aren't heard, and in
--- groups again. Only the second is told what is silent.
+-- the standard passes in order: split fades, drop silent groups, join cuts, regroup; only the second needs the flags
 pub record AreStandard {B : Type 0} (looks : B → Bool) (gives : B → List (List Piece) → List Bool → List (List Piece))
     (passes : List B) : Type 0 where
   pub splitting : B
@@ -24,7 +23,7 @@ pub record AreStandard {B : Type 0} (looks : B → Bool) (gives : B → List (Li
   pub joins : (groups : List (List Piece)) (silent : List Bool) → gives joining groups silent ≡ join_cuts groups
   pub regroups : (groups : List (List Piece)) (silent : List Bool) → gives grouping groups silent ≡ regroup groups
 
--- a piece that isn't silent reads this channel of this file at this frame
+-- a piece that isn't silent reads this sample of this channel of this file
 abbrev pub reads_sounding : Reading → List (List Piece) → (file channel frame : ℕ) → Bool
 reads_sounding reading groups file channel frame =
     list_any (λ p. is_read p file channel frame && not (is_silent_in reading p)) (pieces_of groups)

@@ -1,4 +1,4 @@
--- What all groups give together, in any order, where a pass puts them out one after the other.
+-- Totals over all groups don't depend on how a pass adds them to its output.
 use Rattle.std.proofs.Common.{◌≡◌, ◌∙◌, Bool, true, false, List, [], ◌∷◌, ◌++◌, refl, ap}
 use Rattle.std.specs.Prelude.{Option, None, Some, if◌then◌else◌}
 use Rattle.std.specs.List.{fold}
@@ -12,7 +12,7 @@ module _ {A : Type 0} (add : A → A → A) (none : A) (value : List Piece → A
   abbrev pub given : List (List Piece) → A
   given = total add none value
 
-  -- what a group gives that another one is joined to
+  -- joining `own` to a group adds the value of `own` to the value of the group
   abbrev pub Joins : (List Piece → Option (List Piece)) → List Piece → Type 0
   Joins takes own = (group joined : List Piece) → takes group ≡ Some joined → (rest : A) → add (value joined) rest
       ≡ add (value own) (add (value group) rest)
@@ -69,7 +69,7 @@ module _ {A : Type 0} (add : A → A → A) (none : A) (value : List Piece → A
         total_fold put_grouped (λ out own. total_put (extended own) own (joins own) out) groups []
         ∙ ap given (append-nil groups)
 
--- what is so of every group with one added is so of what a group is extended to
+-- a property of appending to any group holds for `extended`
 pub by_extended : (P : List Piece → List Piece → Type 0) (later : List Piece)
     → ((group : List Piece) → is_followed_by group later ≡ true → P group (group ++ later))
     → (group joined : List Piece) → extended later group ≡ Some joined → P group joined

@@ -1,4 +1,4 @@
-// Where pieces end, and what they go on from.
+// Ends of pieces, by which a continuing piece is found.
 ghost use Rattle.std.specs.Prelude.{◌≡◌};
 ghost use Rattle.sound_terms.specs.Groups as spec;
 ghost use Rattle.sound_terms.specs.Groups.{IsPiece};
@@ -6,17 +6,17 @@ ghost use Rattle.passes.specs.Ends.{end_before, end_of};
 
 use groups::{Piece, Shape};
 
-/// The rank of a rise: it stands first in a group.
+/// Rank of a fade-in, the first part of a group.
 pub(crate) const RISE: u8 = 0;
 
-/// The rank of a flat shape.
+/// Rank of a flat part.
 pub(crate) const FLAT: u8 = 1;
 
-/// The rank of a fall.
+/// Rank of a fade-out.
 const FALL: u8 = 2;
 
-/// The end of a piece: the rank of its shape, and the place from which another piece goes on in destination and source,
-/// on the same channels of the same file. The small fields stand side by side, so that an end takes 24 bytes.
+/// The end of a piece: the rank of its shape, and the position, file and channels at which another
+/// piece continues it. Small fields are adjacent so that an end takes 24 bytes.
 #[derive(Clone, Copy, Debug, PartialEq, Eq, PartialOrd, Ord)]
 pub(crate) struct End {
     start: u64,
@@ -28,7 +28,7 @@ pub(crate) struct End {
     width: u8,
 }
 
-/// The place of a shape in a group: a rise, a flat part, a fall.
+/// The position of a shape within a group: fade-in, flat part, fade-out.
 fn rank_of(shape: Shape) -> u8
     ensures { result ≡ spec.rank_of shape }
 {
@@ -40,7 +40,7 @@ fn rank_of(shape: Shape) -> u8
 }
 
 impl End {
-    /// The end of a piece.
+    /// Returns the end of a piece.
     pub(crate) fn of(piece: &Piece) -> Self
         requires { IsPiece piece.now }
         ensures { result ≡ end_of piece.now }
@@ -56,7 +56,7 @@ impl End {
         }
     }
 
-    /// The end that a piece goes on from, where the shape before it has this rank.
+    /// Returns the end that `piece` continues if the shape before it has the given rank.
     pub(crate) fn before(piece: &Piece, rank: u8) -> Self
         ensures { result ≡ end_before rank piece.now }
     {

@@ -1,4 +1,4 @@
-// Each piece as a group of its own.
+// The pass that makes each piece a group of its own.
 ghost use Rattle.std.specs.Prelude.{◌≡◌, ◌++◌, false, IfOk, OnOk};
 ghost use Rattle.std.specs.List.{flat_map};
 ghost use Rattle.sound_terms.specs.Passes as spec;
@@ -19,7 +19,7 @@ fn push_each(group: &Group, groups: &mut Vec<Group>) -> Result<(), AllocError>
     Ok(())
 }
 
-/// Each piece of the groups as a group of its own.
+/// Makes each piece of the groups a group of its own.
 fn pieces_alone(intervals: &Intervals) -> Result<Vec<Group>, AllocError>
     ensures { IfOk result (λ groups. groups.items ≡ flat_map each_alone intervals.now) }
 {
@@ -30,7 +30,8 @@ fn pieces_alone(intervals: &Intervals) -> Result<Vec<Group>, AllocError>
     Ok(groups)
 }
 
-/// Makes each piece a group of its own, in order of start, so that a fade can be dealt with apart from what it fades.
+/// Pass that makes each piece a group of its own, in order of start time, so that fades are treated
+/// separately from the sound that they fade.
 #[derive(Debug, Drop)]
 pub struct SplitFades;
 

@@ -1,4 +1,4 @@
-// Why a pass fails.
+// Errors of passes.
 ghost use Rattle.std.specs.Prelude.{◌≡◌};
 ghost use Rattle.passes.specs.Fault.{number_of};
 ghost use Rattle.passes.specs.declared.fault.PassFault.TheVariants.{Memory};
@@ -6,19 +6,19 @@ ghost use Rattle.passes.specs.declared.fault.PassFault.TheVariants.{Memory};
 use std::alloc::AllocError;
 use thiserror::Error;
 
-/// Why a pass gives no intervals.
+/// Error of a pass.
 #[derive(Clone, Copy, Debug, PartialEq, Eq, Error)]
 pub enum PassFault {
-    /// 51
+    /// Out of memory (refusal 51).
     #[error("out of memory")]
     Memory,
-    /// 52: the samples of the file of this number can't be read.
+    /// The samples of file number `file` can't be read (refusal 52).
     #[error("file {file} can't be read")]
     Device { file: u32 },
 }
 
 impl PassFault {
-    /// The number of the refusal.
+    /// Returns the refusal number.
     pub fn number(&self) -> u8
         ensures { result ≡ number_of self.now }
     {

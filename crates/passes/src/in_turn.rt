@@ -1,4 +1,4 @@
-// Passes, one after the other.
+// Sequences of passes.
 ghost use Rattle.std.specs.Prelude.{◌≡◌, ℕ, [], false, IsTrue, IfErr, IfOk, if◌then◌else◌};
 ghost use Rattle.std.specs.List.{list_any};
 ghost use Rattle.sound_terms.specs.Groups.{SameMix, mix_of, reads};
@@ -12,7 +12,8 @@ use crate::{Pass, PassFault, Samples, silent_of};
 use groups::Intervals;
 use std::alloc::Global;
 
-/// Applies a pass, which is dropped then.
+/// Applies a pass and drops it. `silent` has one flag per piece, in order. Returns
+/// `PassFault::Memory` if out of memory.
 pub fn turn(
     alloc: Global,
     mut pass: Box<dyn Pass>,
@@ -28,7 +29,7 @@ pub fn turn(
     pass.apply(alloc, intervals, silent)
 }
 
-/// Asks what is silent where a pass looks, and applies it.
+/// Applies a pass; finds the silent pieces first if the pass needs them.
 fn asked<P: Samples>(
     alloc: Global,
     pass: Box<dyn Pass>,
@@ -53,8 +54,9 @@ fn asked<P: Samples>(
     }
 }
 
-/// What passes make of these groups, one after the other. What is silent is asked anew before each pass that looks, and
-/// a pass is dropped once it was applied.
+/// Applies passes in order. Silent pieces are determined again before each pass that needs them,
+/// and each pass is dropped after use. Returns `PassFault::Memory` if out of memory, and
+/// `PassFault::Device` if samples can't be read.
 pub fn run<P: Samples>(
     alloc: Global,
     passes: Vec<Box<dyn Pass>>,

@@ -1,4 +1,4 @@
-// Flat pieces that go on without a gap, as one.
+// The pass that joins contiguous flat pieces.
 ghost use Rattle.std.specs.Prelude.{◌≡◌, ◌∷◌, [], false, IfOk, OnOk};
 ghost use Rattle.std.specs.List.{All};
 ghost use Rattle.sound_terms.specs.declared.piece.Shape.TheVariants.{Flat};
@@ -16,7 +16,7 @@ use crate::{Pass, PassFault};
 use groups::{Group, Intervals, Piece, Shape};
 use std::alloc::{AllocError, Global};
 
-/// The piece of a group that is one flat piece.
+/// The piece of a group that consists of one flat piece.
 fn flat_alone(group: &Group) -> Option<Piece>
     ensures alone { result ≡ ends.flat_alone group.now }
     ensures sound { All IsPiece group.now }
@@ -29,7 +29,7 @@ fn flat_alone(group: &Group) -> Option<Piece>
     }
 }
 
-/// Lengthens the group of this place, the first that takes the piece.
+/// Extends the group at `position`, the first that `piece` continues.
 fn lengthen(output: &mut Output, position: usize, piece: Piece) -> Result<(), AllocError>
     requires flat { piece.shape ≡ Flat }
     requires sound { IsPiece piece }
@@ -43,7 +43,7 @@ fn lengthen(output: &mut Output, position: usize, piece: Piece) -> Result<(), Al
     output.ends.set(position, Some(End::of(&piece)))
 }
 
-/// Puts a flat piece to the first one that it goes on from, and else behind the others.
+/// Extends the first group that a flat piece continues, or adds the piece as a new group.
 fn put_flat(output: &mut Output, piece: Piece) -> Result<(), AllocError>
     requires flat { piece.shape ≡ Flat }
     requires sound { IsPiece piece }
@@ -61,7 +61,7 @@ fn put_flat(output: &mut Output, piece: Piece) -> Result<(), AllocError>
     }
 }
 
-/// Puts a group to those that are put out.
+/// Joins a group to the output.
 fn put_joined(output: &mut Output, group: Group) -> Result<(), AllocError>
     requires ends { HasFlatEnds output.old }
     ensures ends { OnOk result (HasFlatEnds output.new) }
@@ -73,7 +73,7 @@ fn put_joined(output: &mut Output, group: Group) -> Result<(), AllocError>
     }
 }
 
-/// The groups put out one after the other.
+/// Joins all groups, one after the other.
 fn joined(intervals: Intervals) -> Result<Vec<Group>, AllocError>
     ensures { IfOk result (λ groups. groups.items ≡ spec.join_cuts intervals) }
 {
@@ -85,9 +85,9 @@ fn joined(intervals: Intervals) -> Result<Vec<Group>, AllocError>
     Ok(output.groups)
 }
 
-/// Joins flat pieces that go on without a gap, in destination and source, on the same channels of one file: a group of
-/// one flat piece lengthens the first such group that it goes on from, and every other group stays as it is. A cut that
-/// isn't heard is gone then.
+/// Pass that joins flat pieces that are contiguous in destination and source, on the same channels
+/// of one file. A group of one flat piece extends the first such group that it continues; all other
+/// groups stay unchanged. This removes inaudible cuts.
 #[derive(Debug, Drop)]
 pub struct JoinCuts;
 

@@ -1,4 +1,4 @@
-//! What may be done to the groups of a sound without a change of any sum.
+//! Transformations of groups that leave the sum of samples unchanged.
 #![tactic(auto)]
 
 mod ends;

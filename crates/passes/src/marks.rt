@@ -1,4 +1,4 @@
-// Marks in a list, each found at its first place by an ordered index.
+// A list of marks with an ordered index to each mark's first position.
 ghost use Rattle.std.specs.Prelude.{◌≡◌, ◌++◌, ◌∷◌, [], ◌<◌, length, None, Some, slice_get, slice_set, IfOk, OnOk};
 ghost use Rattle.passes.specs.Ends.{IsFirst, is_end};
 
@@ -7,8 +7,8 @@ use std::alloc::{AllocError, Global};
 use std::collections::BTreeSet;
 use std::marker::Model;
 
-/// A list of marks, some of them none, in which the first place of a mark is found without a search of all. A clause
-/// sees the list.
+/// A list of optional marks with an index that finds the first position of a mark without a search.
+/// Contracts see the list.
 #[derive(Drop)]
 pub(crate) struct Marks {
     marks: Vec<Option<End>>,
@@ -28,7 +28,7 @@ impl Model for Marks {
 }
 
 impl Marks {
-    /// No marks, and room for so many.
+    /// Creates an empty list with room for `count` marks.
     pub(crate) fn new(alloc: Global, count: usize) -> Result<Self, AllocError>
         ensures { IfOk result (λ marks. marks ≡ []) }
     {
@@ -38,7 +38,7 @@ impl Marks {
         })
     }
 
-    /// The first place of this mark.
+    /// Returns the first position of a mark.
     pub(crate) fn first(&self, end: End) -> Option<usize>
         ensures { IsFirst (is_end end) self.now result }
     {
@@ -47,7 +47,7 @@ impl Marks {
         if found.0 == end { Some(found.1) } else { None }
     }
 
-    /// Puts a mark to a place that has none.
+    /// Sets the mark of a position that has none.
     fn put(&mut self, position: usize, end: End) -> Result<(), AllocError>
         requires { slice_get self.old position ≡ Some None }
         ensures { OnOk result (self.new ≡ slice_set self.old position (Some end)) }
@@ -57,7 +57,7 @@ impl Marks {
         Ok(())
     }
 
-    /// Takes the mark of a place away.
+    /// Removes the mark of a position.
     fn clear(&mut self, position: usize)
         requires { position < length self.old }
         ensures { self.new ≡ slice_set self.old position None }
@@ -68,7 +68,7 @@ impl Marks {
         }
     }
 
-    /// Adds a mark, or none, behind the others.
+    /// Appends a mark, or an entry without one.
     pub(crate) fn push(&mut self, mark: Option<End>) -> Result<(), AllocError>
         ensures { OnOk result (self.new ≡ self.old ++ mark ∷ []) }
     {
@@ -80,7 +80,7 @@ impl Marks {
         }
     }
 
-    /// Puts a mark, or none, in place of what a place has.
+    /// Replaces the mark of a position, or removes it.
     pub(crate) fn set(&mut self, position: usize, mark: Option<End>) -> Result<(), AllocError>
         requires { position < length self.old }
         ensures { OnOk result (self.new ≡ slice_set self.old position mark) }

@@ -1,4 +1,4 @@
-// The groups that a pass puts out.
+// Output of a pass.
 ghost use Rattle.std.specs.Prelude.{◌≡◌, ◌++◌, ◌∷◌, [], IfOk, OnOk};
 
 use crate::ends::End;
@@ -6,7 +6,7 @@ use crate::marks::Marks;
 use groups::Group;
 use std::alloc::{AllocError, Global};
 
-/// The groups that a pass has put out, each with the mark by which it is found.
+/// The groups that a pass has produced, each with its mark in the index.
 #[derive(Drop)]
 pub(crate) struct Output {
     pub(crate) groups: Vec<Group>,
@@ -14,7 +14,7 @@ pub(crate) struct Output {
 }
 
 impl Output {
-    /// No groups, and room for so many.
+    /// Creates an empty output with room for `count` groups.
     pub(crate) fn new(alloc: Global, count: usize) -> Result<Self, AllocError>
         ensures groups { IfOk result (λ output. output.groups.items ≡ []) }
         ensures ends { IfOk result (λ output. output.ends ≡ []) }
@@ -25,7 +25,7 @@ impl Output {
         })
     }
 
-    /// Puts a group behind the others.
+    /// Appends a group.
     pub(crate) fn push(&mut self, group: Group, end: Option<End>) -> Result<(), AllocError>
         ensures groups { OnOk result (self.new.groups.items ≡ self.old.groups.items ++ group ∷ []) }
         ensures ends { OnOk result (self.new.ends ≡ self.old.ends ++ end ∷ []) }

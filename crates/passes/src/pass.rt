@@ -1,4 +1,4 @@
-// Passes over groups.
+// The trait of passes over groups.
 ghost use Rattle.std.specs.Prelude.{◌≡◌, Bool, List, IfOk, IfErr, OnErr};
 ghost use Rattle.sound_terms.specs.declared.piece.Piece.{Piece};
 ghost use Rattle.sound_terms.specs.Groups.{SameMix};
@@ -9,20 +9,21 @@ use crate::PassFault;
 use groups::Intervals;
 use std::alloc::Global;
 
-/// A pass over the groups of a sound: it gives other groups, with the same sum on every channel at every time.
+/// A transformation of groups that keeps the sum on every channel at every time.
 pub trait Pass: Drop {
-    /// The groups that it gives for a list of groups and for what is called silent of their pieces.
+    /// The groups that the pass produces from a list of groups and the flags of silent pieces.
     ghost gives: { Self → List (List Piece) → List Bool → List (List Piece) };
 
-    /// Whether it has to be told what is silent.
+    /// Whether the pass needs the flags of silent pieces.
     ghost looking: { Self → Bool };
 
-    /// Whether it has to be told what is silent.
+    /// Returns whether the pass needs the flags of silent pieces.
     fn looks(&self) -> bool
         ensures { result ≡ looking self.now };
 
-    /// The groups that the pass makes of these. `silent` answers for the pieces of all groups in order; what it doesn't
-    /// reach is not silent. Where no memory was left the pass is as it was.
+    /// Transforms groups. `silent` has one flag per piece, in order over all groups; pieces past
+    /// its end count as not silent. Returns `PassFault::Memory` if out of memory, and then leaves
+    /// the pass unchanged.
     fn apply(
         &mut self,
         alloc: Global,

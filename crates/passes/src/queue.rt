@@ -1,17 +1,17 @@
-// Groups that wait for a pass.
+// Queue of the groups that a pass still has to process.
 ghost use Rattle.std.specs.Prelude.{◌≡◌, ◌∷◌, [], MatchOption};
 
 use groups::Group;
 use std::marker::Model;
 
-/// After so many groups their memory is given back.
+/// Interval, in groups, at which unused memory is released.
 const MANY: usize = 1024;
 
-/// Groups that wait for a pass. Their memory is given back as they are taken out, so that it serves for what is put
-/// out. A clause sees the list.
+/// A queue of groups. Memory is released as groups are removed, so that the output can use it.
+/// Contracts see the list.
 #[derive(Drop)]
 pub(crate) struct Waiting {
-    /// The first one stands last.
+    /// In reverse order: the first group is last.
     groups: Vec<Group>,
 }
 
@@ -25,7 +25,7 @@ impl Model for Waiting {
 }
 
 impl Waiting {
-    /// These groups.
+    /// Creates a queue from a list of groups.
     pub(crate) fn of(mut groups: Vec<Group>) -> Self
         ensures { result ≡ groups.items }
     {
@@ -33,7 +33,7 @@ impl Waiting {
         Waiting { groups }
     }
 
-    /// Takes the first one out.
+    /// Removes and returns the first group.
     pub(crate) fn next(&mut self) -> Option<Group>
         ensures { MatchOption result (self.old ≡ []) (λ group. self.old ≡ group ∷ self.new) }
     {

@@ -1,4 +1,4 @@
-// Pieces that continue one another, as groups again.
+// The pass that combines contiguous pieces into groups.
 ghost use Rattle.std.specs.Prelude.{◌≡◌, false, IfOk, OnOk, Some};
 ghost use Rattle.sound_terms.specs.Passes as spec;
 ghost use Rattle.passes.specs.Ends as ends;
@@ -13,7 +13,7 @@ use crate::{Pass, PassFault};
 use groups::{Group, Intervals, Piece, Shape};
 use std::alloc::{AllocError, Global};
 
-/// The first of two places, where there are any.
+/// The smaller of two positions, either of which may be absent.
 fn earlier(one: Option<usize>, other: Option<usize>) -> Option<usize>
     ensures { result ≡ ends.earlier one other }
 {
@@ -24,14 +24,13 @@ fn earlier(one: Option<usize>, other: Option<usize>) -> Option<usize>
     }
 }
 
-/// The end of a group.
 fn end_of(group: &Group) -> Option<End>
     ensures { result ≡ group_end group.now }
 {
     Some(End::of(&group.last()))
 }
 
-/// The first end that a piece goes on from, behind a shape of a lower rank.
+/// Finds the first end that a piece continues, after a shape of lower rank.
 fn first_before(ends: &Marks, piece: &Piece) -> Option<usize>
     ensures { IsFirst (follows piece.now) ends.now result }
 {
@@ -46,14 +45,14 @@ fn first_before(ends: &Marks, piece: &Piece) -> Option<usize>
     }
 }
 
-/// The first end that the first piece of a group goes on from.
+/// Finds the first end that the first piece of a group continues.
 fn place_for(ends: &Marks, group: &Group) -> Option<usize>
     ensures { IsFirst (group_follows group.now) ends.now result }
 {
     first_before(ends, &group.first())
 }
 
-/// Adds a group to the end of the one at this place, the first that it may follow.
+/// Appends a group to the one at `position`, the first that it continues.
 fn append(
     output: &mut Output,
     position: usize,
@@ -70,7 +69,7 @@ fn append(
     output.ends.set(position, end)
 }
 
-/// Adds a group to the end of the first one that it may follow, and else puts it behind the others.
+/// Appends a group to the first one that it continues, or adds it to the output.
 fn put_grouped(output: &mut Output, group: Group) -> Result<(), AllocError>
     requires ends { HasLastEnds output.old }
     ensures ends { OnOk result (HasLastEnds output.new) }
@@ -83,7 +82,7 @@ fn put_grouped(output: &mut Output, group: Group) -> Result<(), AllocError>
     }
 }
 
-/// The groups put out one after the other.
+/// Regroups all groups, one after the other.
 fn grouped(intervals: Intervals) -> Result<Vec<Group>, AllocError>
     ensures { IfOk result (λ groups. groups.items ≡ spec.regroup intervals) }
 {
@@ -95,8 +94,9 @@ fn grouped(intervals: Intervals) -> Result<Vec<Group>, AllocError>
     Ok(output.groups)
 }
 
-/// Puts a rise, a flat part and a fall that continue one another into one group again: each group is added to the end
-/// of the first one that it may follow, so that a file is written for all of them together.
+/// Pass that combines a contiguous fade-in, flat part and fade-out into one group, so that one
+/// output file is written for all of them. Each group is appended to the first one that it
+/// continues.
 #[derive(Debug, Drop)]
 pub struct Regroup;
 

@@ -1,4 +1,4 @@
-// The samples of files, as passes ask for them.
+// Source samples, as passes query them.
 ghost use Rattle.std.specs.Prelude.{◌≡◌, ℕ, Bool, IsTrue, IfOk};
 ghost use Rattle.sound_terms.specs.Mix.{Reading};
 ghost use Rattle.sound_terms.specs.Passes.{are_zero};
@@ -7,22 +7,23 @@ ghost use Rattle.passes.specs.Looks.{LooksTo};
 
 use devices::ShelfFault;
 
-/// The samples of files, each by its number. A call may fail by the device of its file.
+/// Access to the samples of files, by file number. Calls may fail because of the file's device.
 pub trait Samples {
-    /// The samples at full scale, by file, channel from 1, and frame; zero elsewhere.
+    /// Samples at full scale by file, channel (from 1) and sample position; zero elsewhere.
     ghost reading: { Self → Reading };
 
-    /// Whether what is answered is so of these samples.
+    /// Whether the results of calls are true of these samples.
     ghost honest: { Self → Bool };
 
-    /// How often a device has failed, in 64 bits: at the last value a call may fail without a rise.
+    /// Number of device failures, in 64 bits; at the maximum a failure isn't counted any more.
     ghost failures: { Self → ℕ };
 
-    /// A device has failed at the file of this number.
+    /// Whether a device has failed on the file of this number.
     ghost failed_at: { Self → ℕ → Type 0 };
 
-    /// Whether the samples of `width` channels of a file, from channel `first` on (from 1), are all zero in `length`
-    /// frames from frame `from` on. A range that isn't inside the file is a failure of its device.
+    /// Returns whether the samples of `width` channels from channel `first` (from 1) on are all
+    /// zero in the `length` samples from position `from` on. Returns `ShelfFault::Device` if they
+    /// can't be read, or if the range is not in the file.
     fn all_zero(
         &mut self,
         file: u32,

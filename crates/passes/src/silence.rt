@@ -1,4 +1,4 @@
-// Groups without those that are silent.
+// The pass that drops silent groups.
 ghost use Rattle.std.specs.Prelude.{◌≡◌, true, IfOk};
 ghost use Rattle.std.specs.List.{list_all};
 ghost use Rattle.sound_terms.specs.Passes as spec;
@@ -8,21 +8,20 @@ use crate::{Pass, PassFault};
 use groups::{Group, Intervals};
 use std::alloc::{AllocError, Global};
 
-/// Whether each of these is true.
 fn are_true(flags: &[bool]) -> bool
     ensures { result ≡ list_all (λ flag. flag) flags.now }
 {
     flags.iter().all(|flag| *flag)
 }
 
-/// Whether so many pieces are there and each is called silent.
+/// Whether the next `count` pieces exist in `silent` and are all silent.
 fn is_called(count: usize, silent: &[bool]) -> bool
     ensures { result ≡ spec.is_called count silent.now }
 {
     count <= silent.len() && are_true(&silent[..count])
 }
 
-/// The groups of which not each piece is called silent.
+/// The groups with at least one piece that isn't marked silent.
 fn sounding(intervals: Intervals, silent: &[bool]) -> Result<Vec<Group>, AllocError>
     ensures { IfOk result (λ groups. groups.items ≡ without_silent intervals silent.now) }
 {
@@ -38,7 +37,8 @@ fn sounding(intervals: Intervals, silent: &[bool]) -> Result<Vec<Group>, AllocEr
     Ok(sounding)
 }
 
-/// Leaves out each group of which every piece is called silent. What isn't reached by `silent` is kept.
+/// Pass that drops each group whose pieces are all marked silent. Pieces past the end of `silent`
+/// are kept.
 #[derive(Debug, Drop)]
 pub struct DropSilent;
 

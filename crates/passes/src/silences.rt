@@ -1,4 +1,4 @@
-// Which pieces are silent.
+// Detection of silent pieces.
 ghost use Rattle.std.specs.Prelude.{◌≡◌, ◌++◌, map, IsTrue, IfOk, OnOk};
 ghost use Rattle.std.specs.List.{flat_map};
 ghost use Rattle.passes.specs.Silent.{AsksFor, is_silent_in, silences_of};
@@ -27,7 +27,7 @@ fn is_silent<P: Samples>(piece: &Piece, samples: &mut P) -> Result<bool, PassFau
     }
 }
 
-/// Adds, for each of these pieces, whether it is silent.
+/// Adds one flag per piece: whether it is silent.
 fn push_silences<P: Samples>(
     pieces: &[Piece],
     samples: &mut P,
@@ -46,7 +46,7 @@ fn push_silences<P: Samples>(
     Ok(())
 }
 
-/// The silences of the groups, one group after the other.
+/// Returns the flags of all pieces, group by group.
 fn ask_groups<P: Samples>(
     alloc: Global,
     intervals: &Intervals,
@@ -63,8 +63,9 @@ fn ask_groups<P: Samples>(
     Ok(silent)
 }
 
-/// For each piece of the groups, in order, whether all samples that it reads are zero, on all its channels. Each piece
-/// is asked for once.
+/// Returns one flag per piece, in order: whether all samples that it reads, on all its channels,
+/// are zero. Queries each piece once. Returns `PassFault::Memory` if out of memory, and
+/// `PassFault::Device` if samples can't be read.
 pub fn silent_of<P: Samples>(
     alloc: Global,
     intervals: &Intervals,

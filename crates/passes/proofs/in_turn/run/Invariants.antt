@@ -4,7 +4,7 @@ use Rattle.passes.specs.Left.{IsLeft}
 use Rattle.passes.specs.Silent.{IsStill}
 use Rattle.passes.proofs.in_turn.run.Given as goal
 
--- the passes so far have left what is left, and nothing has failed
+-- `intervals` is the intermediate result of the passes so far, and nothing has failed
 abbrev pub invariant-loop-pass : goal.invariant-loop-pass
 invariant-loop-pass g l = record {
   still : IsStill g.P.Samples l.fn.samples l.samples;

@@ -3,7 +3,7 @@ use Rattle.std.specs.List.{flat_map}
 use Rattle.passes.specs.Silent.{IsStill, silences_of}
 use Rattle.passes.proofs.silences.ask_groups.Given as goal
 
--- the silences of the groups before the index, and nothing has failed
+-- `silent` has the flags of the groups before the index, and nothing has failed
 abbrev pub invariant-loop-group : goal.invariant-loop-group
 invariant-loop-group g l =
     IsStill g.P.Samples l.initial.samples l.samples
