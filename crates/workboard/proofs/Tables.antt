@@ -1,4 +1,4 @@
--- The tables after one job was put.
+-- The tables of a board after one job is replaced.
 use Rattle.std.proofs.Common.{◌≡◌, ℕ, zero, suc, ◌+◌, ◌-◌, ◌<◌, ◌≤◌, Bool, true, false, cond, Some, None, List, [], ◌∷◌, length, get_or, set, refl, sym, ap, ◌∙◌, subst, inl, inr, arith, get_or-set_other, get_or-set_same, length-set, replicate}
 use Rattle.std.proofs.lemmas.Bool.{cases_eq}
 use Rattle.std.specs.List.{count_by}
@@ -12,12 +12,12 @@ use Rattle.job_terms.specs.declared.Counts.{Counts}
 use Rattle.job_terms.specs.Board.{is_open, is_out, is_done, is_givable, no_job, fresh_job, first_in}
 use Rattle.workboard.specs.Indexed.{IsOrder, IsCounted, IsIndexed, AreCounts}
 
--- one job changed, so a count changed by what it counts of it
+-- the count after one job is replaced
 pub count-set : (p : Job → Bool) (jobs : List Job) (k : ℕ) (job : Job) → k < length jobs
     → count_by p (set jobs k job) + cond (p (get_or jobs k no_job)) 1 0 ≡ count_by p jobs + cond (p job) 1 0
 count-set p jobs k job lt = sum_by-set (λ x. cond (p x) 1 0) jobs k job no_job lt
 
--- what is counted of one job is counted
+-- a job that is counted makes the count positive
 pub counts-one : (p : Job → Bool) (jobs : List Job) (k : ℕ) (job : Job) → k < length jobs → p job ≡ false
     → cond (p (get_or jobs k no_job)) 1 0 ≤ count_by p jobs
 counts-one p jobs k job lt none =
@@ -71,7 +71,7 @@ indexed-put jobs order places firsts counts now k job t lt counted are =
       | inr ne ↦ subst IsCounted (sym (get_or-set_other jobs k i job no_job ne)) (t.counted i below)
     ]
 
--- the first place whose flag is set
+-- the first position whose flag is set has the first job in the order that passes the test
 pub first-at : (test : ℕ → Bool) (xs : List ℕ) (p : ℕ) → p < length xs → test (get_or xs p 0) ≡ true
     → ((q : ℕ) → q < p → test (get_or xs q 0) ≡ false) → first_in test xs ≡ Some (get_or xs p 0)
 first-at test [] p lt on before = absurd (omega (arith, lt))
@@ -86,7 +86,7 @@ first-none test [] before = refl
 first-none test (x ∷ xs) before = ap (λ b. cond b (Some x) (first_in test xs)) (before zero (omega arith))
     ∙ first-none test xs (λ q le. before (suc q) (omega (arith, le)))
 
--- what a count becomes, which stays within the length
+-- the new count from the old one, and its upper bound
 pub count-moves : (p : Job → Bool) (jobs : List Job) (k : ℕ) (job : Job) → k < length jobs
     → (count_by p (set jobs k job) ≡ count_by p jobs + cond (p job) 1 0 - cond (p (get_or jobs k no_job)) 1 0)
     × (count_by p (set jobs k job) ≤ length jobs)
@@ -100,7 +100,7 @@ count-moves p jobs k job lt = (
   ),
 )
 
--- all three together
+-- the three counts add up to the number of jobs
 pub counts-whole : (jobs : List Job) → count_by (λ job. is_open job.standing) jobs + count_by (λ job. is_out
     job.standing) jobs
     + count_by (λ job. is_done job.standing) jobs ≡ length jobs

@@ -1,10 +1,10 @@
--- Where a tree's node is not set, no leaf below it is.
+-- If a node of the tree isn't set, no leaf below it is.
 use Rattle.std.proofs.lemmas.Bool.{cases_eq, cases_lt}
 use Rattle.std.proofs.Common.{replicate, ◌^◌, ◌≡◌, ◌≢◌, ℕ, zero, suc, ◌+◌, ◌-◌, ◌*◌, ◌<◌, ◌≤◌, Bool, true, false, ◌||◌, List, length, get_or, set, take, drop, refl, sym, ap, ◌∙◌, subst, inl, inr, arith, get_or-set_other, get_or-set_same, length-set, length-drop}
 use Rattle.std.proofs.lemmas.List.{get_or-take, get_or-drop, length-take, ext_get_or, get_or_default, get_or_past, get_or-replicate, length-replicate}
 use Rattle.workboard.specs.Tree.{leftmost, flag_at, Tells, IsTree, IsLeading}
 
--- doubling
+-- leftmost descendants of a doubled node
 pub leftmost-double : (d k : ℕ) → leftmost d (2 * k) ≡ 2 * leftmost d k
 leftmost-double zero k = refl
 leftmost-double (suc d) k = leftmost-double d (2 * k)
@@ -20,7 +20,7 @@ pub leftmost-above : (d k : ℕ) → k ≤ leftmost d k
 leftmost-above zero k = omega arith
 leftmost-above (suc d) k = omega (arith, leftmost-above d (2 * k))
 
--- a step down
+-- the leftmost descendant by way of the left child
 pub leftmost-down : (h l k : ℕ) → l < h → leftmost (h - l) k ≡ leftmost (h - (l + 1)) (2 * k)
 leftmost-down h l k lt = let e : h - l ≡ suc (h - (l + 1)) = omega arith in ap (λ d. leftmost d k) e
 
@@ -53,7 +53,7 @@ silent marks size tells (suc d) k some ends off j from to =
           (or-false_right (flag_at marks (2 * k)) (flag_at marks (2 * k + 1)) both) j le (omega (arith, twice, to))
     ]
 
--- the root is set, since a flag behind the last is
+-- the root is set, as the padding is
 pub root : (marks : List Bool) (height size count : ℕ) → IsTree marks height size count → flag_at marks 1 ≡ true
 root marks height size count t = go (flag_at marks 1) refl
   where
@@ -66,14 +66,14 @@ root marks height size count t = go (flag_at marks 1) refl
         apart : true ≡ false → ⊥
         apart h = cc
 
--- what a clause sees of the leaves
+-- a flag as contracts see it is the leaf at its index
 pub seen-at : (marks : List Bool) (size count k : ℕ) → length marks ≡ 2 * size → count ≤ size → k < count
     → get_or (take count (drop size marks)) k false ≡ flag_at marks (size + k)
 seen-at marks size count k whole room lt =
     get_or-take count (drop size marks) k false lt ∙ get_or-drop size marks k false
     ∙ get_or_default marks (size + k) false true (omega arith)
 
--- all set
+-- the flags of a tree in which all nodes are set
 pub all-set : (count size : ℕ) → count ≤ size → take count (drop size (replicate (2 * size) true)) ≡ replicate count
     true
 all-set count size le = ext_get_or false (take count (drop size (replicate (2 * size) true))) (replicate count true)
@@ -111,7 +111,7 @@ replicate-tree height size count levels some few room high = record {
       | inr le ↦ get_or_past (replicate (2 * size) true) k true (omega (arith, length-replicate (2 * size) true))
     ]
 
--- the leaves after one was set
+-- the flags after one leaf is set
 pub leaf-set : (old new : List Bool) (size count at : ℕ) (flag : Bool) → length old ≡ 2 * size → length new ≡ 2 * size
     → count < size → at < count → ((j : ℕ) → size ≤ j → flag_at new j ≡ flag_at (set old (size + at) flag) j)
     → take count (drop size new) ≡ set (take count (drop size old)) at flag
@@ -149,7 +149,7 @@ leading-root marks height size count t = subst (λ d. IsLeading marks size d 1) 
   silent = λ j from to. absurd (omega (arith, from, to, t.levels));
 })
 
--- the node stands above leaves
+-- the node is above the leaves
 pub leading-inside : (marks : List Bool) (size height l node : ℕ) → l < height → IsLeading marks size (height - l) node
     → node < size
 leading-inside marks size height l node lt t =

@@ -1,4 +1,4 @@
--- The number of each fault of a board.
+-- Refusal numbers of the errors of a board.
 use Rattle.std.specs.Prelude.{ℕ}
 use Rattle.workboard.specs.declared.fault.BoardFault.{BoardFault}
 use Rattle.workboard.specs.declared.fault.BoardFault.TheVariants.{Memory, NoOpenJob, Stale, GivenUp}

@@ -1,4 +1,4 @@
-// The board.
+// The board of jobs.
 ghost use Rattle.std.specs.Prelude.{◌≡◌, ◌≢◌, ◌+◌, ◌-◌, ◌*◌, ◌<◌, ◌≤◌, ◌^◌, ◌↔◌, ℕ, Bool, Some, None, true, false, cond, IfOk, IfErr, OnOk, OnErr, IsErrOf, IsTrue, length, map, replicate, slice_index_or, slice_set};
 ghost use Rattle.std.specs.List.{count_by};
 ghost use Rattle.job_terms.specs.Board.{accepted, can_give, done_count, done_job, faulted, fresh_job, given_out, idle_count, is_current, is_finished, is_givable, is_last_fault, is_done, is_open, is_out, job_at, next_job, no_job, out_count, reopened, ticket_of, with_job};
@@ -10,7 +10,7 @@ use job_terms::{Counts, Job, Standing, Ticket};
 use std::alloc::Global;
 use std::marker::Model;
 
-/// A board of jobs. A clause sees the jobs and the order in which they are handed out.
+/// A board of jobs. Contracts see the jobs and the order in which they are dispatched.
 pub struct Board {
     jobs: Vec<Job>,
     order: Vec<u32>,
@@ -19,7 +19,7 @@ pub struct Board {
     counts: Counts,
 }
 
-// Written out, so that it is one call where a board is dropped.
+// Written out so that dropping a board is a single call.
 impl Drop for Board {
     fn drop(self) {
         let Board {
@@ -47,14 +47,14 @@ impl Model for Board {
     ghost invariant = { λ b. IsIndexed b.jobs.items b.order.items b.places.items b.firsts b.counts };
 }
 
-/// Whether the job can be handed out.
+/// Whether the job can be dispatched.
 fn givable(job: &Job) -> bool
     ensures { result ≡ is_givable job.now }
 {
     job.standing == Standing::Open && job.given < u32::MAX
 }
 
-/// The count after one of what it counts has changed.
+/// A count after one of the counted jobs has changed from `from` to `to`.
 fn moved(count: u32, from: bool, to: bool) -> u32
     requires some { cond from 1 0 ≤ count + cond to 1 0 }
     requires room { count + cond to 1 0 - cond from 1 0 < 2 ^ 32 }
@@ -67,28 +67,25 @@ fn moved(count: u32, from: bool, to: bool) -> u32
     }
 }
 
-/// Whether nobody does the job.
 fn open_now(job: &Job) -> bool
     ensures { result ≡ is_open job.now.standing }
 {
     matches!(job.standing, Standing::Open)
 }
 
-/// Whether the job is handed out.
 fn out_now(job: &Job) -> bool
     ensures { result ≡ is_out job.now.standing }
 {
     matches!(job.standing, Standing::Out)
 }
 
-/// Whether the job is done.
 fn done_now(job: &Job) -> bool
     ensures { result ≡ is_done job.now.standing }
 {
     matches!(job.standing, Standing::Done)
 }
 
-/// How the standings count once job k is this one.
+/// Counts of jobs by state after job `k` is replaced.
 fn counts_with(counts: &Counts, jobs: &[Job], k: usize, job: &Job) -> Counts
     requires there { k < length jobs.now }
     requires few { length jobs.now < 2 ^ 32 }
@@ -102,7 +99,7 @@ fn counts_with(counts: &Counts, jobs: &[Job], k: usize, job: &Job) -> Counts
     Counts { idle, out, done }
 }
 
-/// The place of each job in the order.
+/// The position of each job in the order.
 fn places_of(alloc: Global, jobs: u32, order: &[u32]) -> Result<Vec<u32>, BoardFault>
     requires { IsOrder jobs order.now }
     ensures length { IfOk result (λ places. length places.items ≡ jobs) }
@@ -119,7 +116,8 @@ fn places_of(alloc: Global, jobs: u32, order: &[u32]) -> Result<Vec<u32>, BoardF
 }
 
 impl Board {
-    /// A board of so many open jobs. `Memory` where none was left.
+    /// Creates a board of `jobs` open jobs, dispatched in the given order. Returns
+    /// `BoardFault::Memory` if out of memory.
     pub fn new(alloc: Global, jobs: u32, order: Vec<u32>) -> Result<Self, BoardFault>
         requires { IsOrder jobs order.items }
         ensures made { IfOk result (λ b. b ≡ record { jobs = replicate jobs fresh_job; order = order.items }) }
@@ -150,7 +148,7 @@ impl Board {
         })
     }
 
-    /// Puts this job in the place of job k.
+    /// Replaces job `k`.
     fn put(&mut self, k: u32, job: Job)
         requires there { k < length self.old.jobs }
         requires counted { IsCounted job }
@@ -163,7 +161,8 @@ impl Board {
         self.jobs[k] = job;
     }
 
-    /// A board of so many jobs, of which those marked are done.
+    /// Creates a board of `jobs` jobs, of which the marked ones are done. Returns
+    /// `BoardFault::Memory` if out of memory.
     pub fn with_done(
         alloc: Global,
         jobs: u32,
@@ -189,8 +188,8 @@ impl Board {
         Ok(board)
     }
 
-    /// Hands out the first job in the board's order that can be handed out, under a new ticket. `NoOpenJob` where none
-    /// can.
+    /// Dispatches the first open job in the board's order under a new ticket. Returns
+    /// `BoardFault::NoOpenJob` if no job can be dispatched.
     pub fn give(&mut self, _worker: u32) -> Result<Ticket, BoardFault>
         ensures given { IfOk result (λ ticket. (next_job self.old ≡ Some ticket.job)
             × (ticket ≡ ticket_of self.old ticket.job) × (self.new ≡ given_out self.old ticket.job)) }
@@ -215,7 +214,7 @@ impl Board {
         Ok(Ticket { job: k, serial })
     }
 
-    /// Whether the job is out under this ticket.
+    /// Returns whether the job is dispatched under this ticket.
     pub fn is_current(&self, ticket: &Ticket) -> bool
         ensures { result ≡ is_current self.now ticket.now }
     {
@@ -225,7 +224,7 @@ impl Board {
         }
     }
 
-    /// Whether the job is done; no job behind the last is open.
+    /// Returns whether the job is done. Numbers past the last job count as done.
     pub fn is_done(&self, job: u32) -> bool
         ensures { result ≡ is_done (job_at self.now job).standing }
     {
@@ -235,7 +234,7 @@ impl Board {
         }
     }
 
-    /// The job is done, under its current ticket. `Stale` under another.
+    /// Marks the ticket's job as done. Returns `BoardFault::Stale` if the ticket isn't current.
     pub fn deliver(&mut self, ticket: Ticket) -> Result<(), BoardFault>
         ensures done { OnOk result ((is_current self.old ticket ≡ true) × (self.new ≡ accepted self.old ticket.job)) }
         ensures stale { IfErr result (λ fault. (fault ≡ BoardFault.Stale) × (is_current self.old ticket ≡ false)) }
@@ -257,8 +256,8 @@ impl Board {
         Ok(())
     }
 
-    /// The job is open again with one fault more, under its current ticket; `GivenUp` where it is the third or a later
-    /// one. `Stale` under another ticket.
+    /// Counts a failure of the ticket's job and opens it again. Returns `BoardFault::GivenUp` on
+    /// the third and every later failure, and `BoardFault::Stale` if the ticket isn't current.
     pub fn fault(&mut self, ticket: Ticket) -> Result<(), BoardFault>
         ensures stale { is_current self.old ticket ≡ false → (IsErrOf result BoardFault.Stale) × (self.new ≡ self.old) }
         ensures counted { is_current self.old ticket ≡ true → self.new ≡ faulted self.old ticket.job }
@@ -285,7 +284,8 @@ impl Board {
         Ok(())
     }
 
-    /// Opens a job that is out; its ticket is stale from then on. False where it isn't out, and nothing happens.
+    /// Opens a dispatched job again, which makes its ticket stale. Returns false and does nothing
+    /// if the job isn't dispatched.
     pub fn reclaim(&mut self, job: u32) -> bool
         ensures reported { result ≡ is_out (job_at self.old job).standing }
         ensures opened { self.new ≡ cond (is_out (job_at self.old job).standing) (reopened self.old job) self.old }
@@ -309,14 +309,14 @@ impl Board {
         true
     }
 
-    /// Whether every job is done.
+    /// Returns whether every job is done.
     pub fn finished(&self) -> bool
         ensures { result ≡ is_finished self.now }
     {
         self.counts.done as usize == self.jobs.len()
     }
 
-    /// How many jobs are open, out and done.
+    /// Returns the numbers of open, dispatched and done jobs.
     pub fn counts(&self) -> Counts
         ensures counts { result ≡ record { idle = idle_count self.now; out = out_count self.now; done = done_count self.now } }
         ensures all { result.idle + result.out + result.done ≡ length self.now.jobs }
