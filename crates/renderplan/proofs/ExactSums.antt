@@ -1,4 +1,4 @@
--- The exact sums of a block: those of the mix, and zero where no piece sounds.
+-- The exact sums of a block are the mix, and zero if no piece sounds.
 use Rattle.std.proofs.Common.{◌≡◌, ℕ, ◌+◌, ◌<◌, ◌≤◌, Bool, true, false, not, All, List, [], ◌∷◌, ◌++◌, Some, None, refl, ap, ◌∙◌, arith}
 use Rattle.std.specs.Prelude.{pos, max, min, nat_le, nat_lt, Option, is_some}
 use Rattle.std.specs.List.{flat_map}
@@ -17,14 +17,14 @@ use Rattle.renderplan.specs.Spans.{written}
 use Rattle.renderplan.specs.Sources.{first_source, sounds_in}
 use Rattle.renderplan.proofs.Summing.{lines_sum}
 
--- what is said to be none is none
+-- the value is `None` if the test for it says so
 pub none_there : {A : Type 0} (value : Option A) (is_none : Bool) → is_some value ≡ not is_none → is_none ≡ true
     → value ≡ None
 none_there None is_none told there = refl
 none_there (Some x) is_none told there = let wrong : true ≡ false = rw there at told in cc
 
 module _ (reading : Reading) (from n channels : ℕ) where
-  -- a piece that doesn't sound in a block adds nothing there
+  -- a piece that is silent in a block adds nothing there
   part_silent : (p : Piece) (i c : ℕ) → i < n → c ≤ channels → sounds_in from n channels p ≡ false
       → part_of reading p c (from + i) ≡ pos 0
   part_silent p i c below inside none =
@@ -51,7 +51,7 @@ module _ (reading : Reading) (from n channels : ℕ) where
             let here = part_silent p i c below inside e in
             rw (here, rest) refl
 
--- the sums of so many samples, from a time on, are those of the mix
+-- the sums of a window are the mix of its samples
 pub written_exact : (reading : Reading) (pieces : List Piece) (from n channels : ℕ) (depth : Depth) (start : BlockState)
     → All (PlaysFull reading) (written from n channels depth pieces) → All IsPiece pieces → IsBounded 32767 pieces
     → (i c : ℕ) → i < n → c ≤ channels

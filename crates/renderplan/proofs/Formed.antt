@@ -1,4 +1,4 @@
--- The programs of pieces are formed, and add nothing but what the pieces play.
+-- The programs of pieces are well-formed and add only samples of the pieces.
 use Rattle.std.proofs.Common.{◌≡◌, ℕ, ◌+◌, ◌-◌, ◌<◌, ◌≤◌, Bool, true, false, List, [], refl, arith, All}
 use Rattle.std.specs.Prelude.{max, min, nat_le, nat_lt}
 use Rattle.std.specs.List.{flat_map}
@@ -19,7 +19,7 @@ use Rattle.sound_terms.specs.BlockLaws.{addition_of-adding}
 use Rattle.sound_terms.specs.Blocks.{IsBlockProgram, IsFormed, LiesInFiles, adding, lines_of, stretch_in}
 
 module _ (from n channels : ℕ) where
-  -- a line of a piece is the one of its stretch
+  -- an instruction for a piece has the properties of its stretch
   by_stretch : (P : Instruction → Type 0) (p : Piece)
       → (max from p.start < min (from + n) (p.start + p.length) → p.dest ≤ channels
       → P (adding (stretch_in from (max from p.start) (min (from + n) (p.start + p.length)) channels p)

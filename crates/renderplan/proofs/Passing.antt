@@ -1,4 +1,4 @@
--- Pieces outside of a block add nothing to its program, and aren't the first that sounds in it.
+-- Pieces outside of a block add nothing to its program and aren't its first source.
 use Rattle.std.proofs.Common.{◌≡◌, ◌⊎◌, inl, inr, ℕ, ◌+◌, ◌≤◌, Bool, true, false, List, [], ◌∷◌, ◌++◌, take, drop, refl, sym, ap, ◌∙◌, arith, All}
 use Rattle.std.specs.Prelude.{◌||◌, max, min, nat_le, nat_lt}
 use Rattle.std.specs.List.{flat_map}
@@ -39,7 +39,7 @@ module _ (from n channels least greatest : ℕ) (outside : (greatest ≤ from) �
       rw (silent p (All-head (LiesWithin least greatest) p ps all))
       (none_first ps rest (All-tail (LiesWithin least greatest) p ps all))
 
--- where a reach lies outside
+-- a reach that ends before the window or starts after it
 outside_of : (from to : ℕ) (reach : Reach) → (nat_le reach.greatest from || nat_le to reach.least) ≡ true
     → (reach.greatest ≤ from) ⊎ (to ≤ reach.least)
 outside_of from to reach test = either_side (nat_le reach.greatest from) refl where
@@ -48,7 +48,7 @@ outside_of from to reach test = either_side (nat_le reach.greatest from) refl wh
   either_side false before =
       let behind : nat_le to reach.least ≡ true = rw before at test in inr (grind (arith, nat_tests))
 
--- its pieces can be passed over
+-- the pieces of such a reach can be skipped
 pub passed_over : (from n channels : ℕ) (pieces : List Piece) (reach : Reach) → IsReach pieces reach
     → (nat_le reach.greatest from || nat_le (from + n) reach.least) ≡ true
     → flat_map (lines_of from n channels) pieces ≡ flat_map (lines_of from n channels) (drop reach.count pieces)

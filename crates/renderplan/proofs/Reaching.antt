@@ -1,4 +1,4 @@
--- Reaches of neighbours join, and tell of the pieces behind them.
+-- Reaches of adjacent runs join, and hold for the pieces that follow.
 use Rattle.std.proofs.Common.{◌≡◌, ◌⊎◌, inl, inr, ℕ, ◌+◌, ◌-◌, ◌<◌, ◌≤◌, List, [], ◌∷◌, ◌++◌, length, drop, get_or, ap, ◌∙◌, arith, length-drop, length-append}
 use Rattle.std.proofs.Math.Seq.{take-add}
 use Rattle.std.proofs.lemmas.Bool.{cases_lt}
@@ -11,7 +11,7 @@ use Rattle.renderplan.specs.Reaches.{AreReaches, IsReach, LiesWithin, joined_rea
 pub length-last : (n : ℕ) (pieces : List Piece) → n ≤ length pieces → length (last n pieces) ≡ n
 length-last n pieces few = length-drop (length pieces - n) pieces ∙ omega arith
 
--- of the last pieces, those behind the first ones
+-- the last n pieces without the first c of them
 pub drop-last : (c n : ℕ) (pieces : List Piece) → c ≤ n → n ≤ length pieces
     → drop c (last n pieces) ≡ last (n - c) pieces
 drop-last c n pieces some few =

@@ -1,4 +1,4 @@
--- What a piece adds is no larger than full scale, so that sums of few pieces lie inside 64 bits.
+-- Each sample of a piece is at most full scale, so sums of few pieces fit in 64 bits.
 use Rattle.std.proofs.Common.{◌≡◌, ℕ, zero, suc, ◌+◌, ◌-◌, ◌*◌, ◌/◌, ◌^◌, ◌<◌, ◌≤◌, min, Bool, true, false, refl, sym, ap, subst, arith}
 use Rattle.std.specs.Prelude.{ℤ, pos, negsuc, neg_ℤ, ◌+ℤ◌, ◌≤ℤ◌, ◌&&◌, nat_le, nat_lt, if◌then◌else◌}
 use Rattle.std.specs.Int.{int_div_euclid}
@@ -13,14 +13,14 @@ use Rattle.sound_terms.specs.Mix.{Reading, share_of}
 use Rattle.sound_terms.specs.Groups.{IsPiece, IsRamp, fraction_of, is_under, part_of}
 use Rattle.sound_terms.specs.Blocks.{held}
 
--- as large as the sum of m samples at most
+-- the magnitude is at most the sum of m samples at full scale
 abbrev pub IsWithin : ℕ → ℤ → Type 0
 IsWithin m z = (neg_ℤ (pos (m * 2 ^ 47)) ≤ℤ z) × (z ≤ℤ pos (m * 2 ^ 47))
 
 pub within_add : (m n : ℕ) (x y : ℤ) → IsWithin m x → IsWithin n y → IsWithin (m + n) (x +ℤ y)
 within_add m n x y first second = (omega (arith, ints, first, second), omega (arith, ints, first, second))
 
--- such a sum of few samples is held as it is
+-- the sum of few samples isn't saturated
 pub held_few : (m : ℕ) (z : ℤ) → m ≤ 32767 → IsWithin m z → held z ≡ z
 held_few m (pos n) few within =
     let below : min n (2 ^ 63 - 1) ≡ n = omega (arith, ints, within) in ap pos below
@@ -48,7 +48,7 @@ share_within (negsuc n) num den within le some =
     subst (λ (z : ℤ). IsWithin 1 z) (sym is)
     (negative_share (suc n * num) den (suc n) some (mul-le-mul_left (suc n) le) (omega (arith, ints, within)))
 
--- a shape takes at most all of a sample
+-- a fade doesn't increase the magnitude of a sample
 ramp_fraction : (v : ℤ) (shape : Shape) (n i : ℕ) → IsRamp shape n → i < n → IsWithin 1 v
     → IsWithin 1 (share_of v (fraction_of shape i))
 ramp_fraction v Flat n i ramp below within = share_within v 1 1 within (omega arith) (omega arith)
@@ -57,7 +57,7 @@ ramp_fraction v (Rise offset den) n i ramp below within =
 ramp_fraction v (Fall offset den) n i ramp below within =
     share_within v (den - (offset + i)) den within (omega arith) (omega (arith, ramp.0))
 
--- whether the piece holds a time, as a count
+-- 1 if the piece covers this time, else 0
 abbrev pub holds : Piece → ℕ → ℕ
 holds p time = if nat_le p.start time && nat_lt time (p.start + p.length) then 1 else 0
 
@@ -74,7 +74,7 @@ gated false b h x here = nothing h where
   nothing true = (omega (arith, ints), omega (arith, ints))
   nothing false = (omega (arith, ints), omega (arith, ints))
 
--- what a piece adds at a time, by whether it holds it, where what it plays is full scale
+-- bound of the sample that a piece adds at a time, if its source is within full scale
 pub part_within : (reading : Reading) (p : Piece) → IsPiece p → (channel time : ℕ)
     → (is_under p channel time ≡ true → IsWithin 1 (reading p.file (p.first + (channel - p.dest))
     (p.frame + (time - p.start))))

@@ -1,4 +1,4 @@
--- The program of a block sums what its pieces add.
+-- The program of a block sums the samples of its pieces.
 use Rattle.std.proofs.Common.{◌≡◌, ℕ, zero, suc, ◌+◌, ◌-◌, ◌<◌, ◌≤◌, Bool, true, false, List, [], ◌∷◌, ◌++◌, refl, sym, ap, ◌∙◌, subst, arith, All}
 use Rattle.std.specs.Prelude.{ℤ, pos, ◌+ℤ◌, ◌&&◌, max, min, nat_le, nat_lt, if◌then◌else◌}
 use Rattle.std.specs.List.{flat_map}
@@ -21,7 +21,7 @@ use Rattle.renderplan.specs.Spans.{written}
 use Rattle.renderplan.proofs.Formed.{lines_formed}
 use Rattle.renderplan.proofs.Shares.{IsWithin, held_few, holds, part_within, within_add}
 
--- the same sums are handed out alike
+-- equal sums are emitted as equal samples
 same_frame : (depth : ℕ) (f g : ℕ → ℕ → ℤ) (i channel n : ℕ) → ((c : ℕ) → channel ≤ c → c < channel + n → f i c ≡ g i c)
     → frame_samples depth f i channel n ≡ frame_samples depth g i channel n
 same_frame depth f g i channel zero same = refl
@@ -40,20 +40,20 @@ same_block depth f g channels i (suc n) same =
     let rest = same_block depth f g channels (suc i) n (λ j c low high. same j c (omega arith) (omega arith)) in
     rw (here, rest) refl
 
--- what a piece adds where it sounds
+-- the sample that a piece adds at a time that it covers
 abbrev share_in : Reading → Piece → ℕ → ℕ → ℤ
 share_in reading p channel time =
     share_of (reading p.file (p.first + (channel - p.dest)) (p.frame + (time - p.start)))
     (fraction_of p.shape (time - p.start))
 
--- a sum that isn't too large is held as it is
+-- a sum within bounds isn't saturated
 held_sum : (under : Bool) (m : ℕ) (x share : ℤ) → m ≤ 32767 → IsWithin m (x +ℤ (if under then share else pos 0))
     → (if under then held (x +ℤ share) else x) ≡ x +ℤ (if under then share else pos 0)
 held_sum true m x share few within = held_few m (x +ℤ share) few within
 held_sum false m x share few within = omega (arith, ints)
 
 module _ (reading : Reading) (from n channels : ℕ) where
-  -- the stretch sounds where its piece does
+  -- the stretch of a piece sounds at the same samples of the block as the piece
   same_under : (p : Piece) (i c : ℕ) → i < n → c ≤ channels → p.dest ≤ channels
       → is_on (stretch_in from (max from p.start) (min (from + n) (p.start + p.length)) channels p) i c
       ≡ is_under p c (from + i)
@@ -74,7 +74,7 @@ module _ (reading : Reading) (from n channels : ℕ) where
       let samples : max from p.start - p.start + (i - (max from p.start - from)) ≡ from + i - p.start = omega arith in
       rw (frames, fraction_behind p.shape (max from p.start - p.start) (i - (max from p.start - from)), samples) refl
 
-  -- the line of a piece adds what the piece adds
+  -- the instruction for a piece adds the samples of the piece
   line_effect : (p : Piece) (s : BlockState) (i c : ℕ) → i < n → c ≤ channels
       → (executed_all reading channels (lines_of from n channels p) s).sums i c
       ≡ (if is_under p c (from + i) then held (s.sums i c +ℤ share_in reading p c (from + i)) else s.sums i c)
@@ -104,7 +104,7 @@ module _ (reading : Reading) (from n channels : ℕ) where
               let on = same_under p i c below inside there ∙ under in
               rw (e, f) (rw (executed-adding reading channels _ _ s) (rw (on, under) refl))
 
-  -- what the piece plays there is full scale where all that its line plays is
+  -- the source of a piece is within full scale if the sources of its instruction are
   full_under : (p : Piece) (i c : ℕ) → i < n → c ≤ channels → All (PlaysFull reading) (lines_of from n channels p)
       → is_under p c (from + i) ≡ true → IsWithin 1 (reading p.file (p.first + (c - p.dest))
       (p.frame + (from + i - p.start)))
@@ -122,7 +122,7 @@ module _ (reading : Reading) (from n channels : ℕ) where
       subst (λ (frame : ℕ). IsWithin 1 (reading p.file (p.first + (c - p.dest)) frame)) frames
       (omega (arith, ints, both.0), omega (arith, ints, both.1))
 
-  -- as the sum of both, where few pieces were added
+  -- the sum after one instruction, if few pieces were added before
   line_sum : (p : Piece) (s : BlockState) (i c m : ℕ) → All (PlaysFull reading) (lines_of from n channels p) → IsPiece p
       → i < n → c ≤ channels
       → m + holds p (from + i) ≤ 32767 → IsWithin m (s.sums i c)
@@ -158,7 +158,7 @@ module _ (reading : Reading) (from n channels : ℕ) where
       (subst (λ (z : ℤ). IsWithin (m + holds p (from + i)) z) (sym first) both) in
       ap (λ (state : BlockState). state.sums i c) split ∙ rest ∙ omega (arith, ints, first)
 
--- so many samples, from a time on, are those of the mix
+-- the samples emitted for a window are the mix
 pub written_sums : (reading : Reading) (pieces : List Piece) (from n channels : ℕ) (depth : Depth) (start : BlockState)
     → All (PlaysFull reading) (written from n channels depth pieces) → All IsPiece pieces → IsBounded 32767 pieces
     → (executed_all reading channels (written from n channels depth pieces) start).out

@@ -1,4 +1,4 @@
--- The number of each fault of a plan.
+-- Refusal numbers of the errors of a plan.
 use Rattle.std.specs.Prelude.{ℕ}
 use Rattle.renderplan.specs.declared.fault.PlanFault.{PlanFault}
 use Rattle.renderplan.specs.declared.fault.PlanFault.TheVariants.{Memory, EmptyRange}

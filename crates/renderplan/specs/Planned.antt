@@ -1,16 +1,16 @@
--- What a plan renders.
+-- Contents of a plan.
 use Rattle.std.specs.Prelude.{◌<◌, ◌≤◌, List, All}
 use Rattle.sampletime.specs.TimeCode.{day}
 use Rattle.sound_terms.specs.declared.piece.Piece.{Piece}
 use Rattle.sound_terms.specs.Groups.{IsBounded, IsPiece}
 use Rattle.sound_terms.specs.Render.{Range}
 
--- pieces, and which samples of which channels of them are rendered, at which depth
+-- the pieces, and the range, channels and bit depth of the rendering
 pub record Planned : Type 0 where
   pub pieces : List Piece
   pub range : Range
 
--- samples and channels that there can be, some of each, under as few pieces at once as can be summed
+-- valid pieces, few enough at once to be summed, and a valid range with at least one sample and one channel
 pub record IsPlan (planned : Planned) : Type 0 where
   pub pieces_ok : All IsPiece planned.pieces
   pub bounded : IsBounded 32767 planned.pieces

@@ -1,4 +1,4 @@
-// What the blocks of a plan sum to, before any rounding.
+// Exact sums of the blocks of a plan, before any rounding.
 ghost use Rattle.std.specs.Prelude.{◌≡◌, ◌+◌, ◌<◌, ◌≤◌, ℕ, pos, IsTrue, is_some, not};
 ghost use Rattle.std.specs.List.{All};
 ghost use Rattle.sampletime.specs.TimeCode.{day};
@@ -10,7 +10,7 @@ ghost use Rattle.renderplan.specs.Sources.{source_of};
 use crate::Plan;
 
 impl Plan {
-    /// The time at which block k begins.
+    /// Returns the start time of block `k` in samples.
     pub fn start_of(&self, k: u64) -> u64
         requires { k < block_count self.now.range }
         ensures start { result ≡ block_start self.now.range k }
@@ -19,7 +19,7 @@ impl Plan {
         self.window_of(k).from
     }
 
-    /// Whether none of the plan's pieces sounds in block k, so that no file is heard there: its sums are zero then.
+    /// Returns whether none of the plan's pieces is audible in block `k`. All sums are zero then.
     pub fn is_silent(&self, k: u64) -> bool
         requires { k < block_count self.now.range }
         ensures found { is_some (source_of self.now.pieces self.now.range k) ≡ not result }
@@ -30,7 +30,8 @@ impl Plan {
         self.source_of(k).is_none()
     }
 
-    /// That the program of each block sums to what its pieces play, exactly. It does nothing.
+    /// States that the program of each block sums exactly the samples of its pieces. Has no effect
+    /// at run time.
     pub fn sums_exactly(&self)
         ensures { (reading : Reading) (k : ℕ) → All (PlaysFull reading) (program_of self.now.pieces self.now.range k)
             → (start : BlockState) (i channel : ℕ) → i < block_frames self.now.range k

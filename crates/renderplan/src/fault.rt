@@ -1,4 +1,4 @@
-// Why a rendering isn't planned.
+// Errors of planning a rendering.
 ghost use Rattle.std.specs.Prelude.{◌≡◌};
 ghost use Rattle.renderplan.specs.Fault.{number_of};
 ghost use Rattle.renderplan.specs.declared.fault.PlanFault.TheVariants.{Memory};
@@ -6,19 +6,19 @@ ghost use Rattle.renderplan.specs.declared.fault.PlanFault.TheVariants.{Memory};
 use std::alloc::AllocError;
 use thiserror::Error;
 
-/// Why a plan or a block of it isn't made.
+/// Error of creating a plan or the program of a block.
 #[derive(Clone, Copy, Debug, PartialEq, Eq, Error)]
 pub enum PlanFault {
-    /// 57
+    /// Out of memory (refusal 57).
     #[error("out of memory")]
     Memory,
-    /// 58: the range ends where it begins, or before.
+    /// The range is empty or ends before it begins (refusal 58).
     #[error("the range is empty")]
     EmptyRange,
 }
 
 impl PlanFault {
-    /// The number of the refusal.
+    /// Returns the refusal number.
     pub fn number(&self) -> u8
         ensures { result ≡ number_of self.now }
     {

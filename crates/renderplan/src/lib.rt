@@ -1,5 +1,5 @@
-//! A rendering as programs of blocks: which stretches of the files are added to the sums of each block, and under which
-//! shape.
+//! Plans of renderings: for each block of the output, a program that says which stretches of the
+//! files are added to its sums, and with which fades.
 #![tactic(auto)]
 
 mod exact;

@@ -1,4 +1,4 @@
-// The instructions of the pieces that sound in a block.
+// Instructions for the pieces that are audible in a block.
 ghost use Rattle.std.specs.Prelude.{◌≡◌, ◌+◌, ◌≤◌, ◌++◌, length, option_to_list};
 ghost use Rattle.std.specs.List.{flat_map};
 ghost use Rattle.sampletime.specs.TimeCode.{day};
@@ -8,7 +8,7 @@ ghost use Rattle.sound_terms.specs.Blocks.{lines_of};
 use crate::reach::Reached;
 use sound_terms::{Instruction, Piece, Program, Stretch};
 
-/// The samples of a block, `frames` from the time `from` on, on channels from 1.
+/// The extent of a block: `frames` sample frames from time `from` on, on channels 1 to `channels`.
 #[derive(Clone, Copy)]
 pub struct Window {
     pub from: u64,
@@ -18,7 +18,7 @@ pub struct Window {
     ghost few_channels: { channels ≤ 64 },
 }
 
-/// What of a piece sounds in a block; `None` where nothing does.
+/// The instruction for the part of a piece within the window, or `None` if there is no such part.
 fn line_of(piece: &Piece, window: Window) -> Option<Instruction>
     requires { IsPiece piece.now }
     ensures { option_to_list result ≡ lines_of window.from window.frames window.channels piece.now }
@@ -42,8 +42,8 @@ fn line_of(piece: &Piece, window: Window) -> Option<Instruction>
 }
 
 impl Reached {
-    /// Adds what of the pieces sounds in a block, in their order, to its program, which has room for one instruction a
-    /// piece.
+    /// Adds one instruction for each piece that is audible in the window to a program with enough
+    /// room.
     pub fn push_lines(&self, window: Window, program: &mut Program)
         requires { length program.old.lines + length self.now ≤ program.old.room }
         ensures few { length program.new.lines ≤ length program.old.lines + length self.now }

@@ -21,11 +21,11 @@ use sound_terms::{Depth, Format, Instruction, Piece, Program};
 use std::alloc::{AllocError, Global};
 use std::marker::Model;
 
-/// The frames of a block; the last one may have fewer.
+/// Sample frames per block; the last block may be shorter.
 pub(crate) const BLOCK_LENGTH: u64 = 4096;
 
-/// A rendering of pieces, cut into blocks: the samples of a range, on channels from 1, at a depth. A clause sees all
-/// pieces, the range and the depth.
+/// A rendering of pieces in blocks: the samples of a time range, on channels from 1 on, at a bit
+/// depth. Contracts see the pieces, the range and the depth.
 pub struct Plan {
     pieces: Reached,
     pub(crate) from: SampleTime,
@@ -34,7 +34,7 @@ pub struct Plan {
     depth: Depth,
 }
 
-// Written out, so that it is one call where a plan is dropped.
+// Written out so that dropping a plan is a single call.
 impl Drop for Plan {
     fn drop(self) {
         let Plan {
@@ -65,8 +65,10 @@ impl Model for Plan {
 }
 
 impl Plan {
-    /// A rendering of groups from one time up to, and without, another, on 1 to 64 channels. No sample may be held by
-    /// more than 32,767 pieces. `EmptyRange` where `to` isn't behind `from`.
+    /// Creates a plan that renders groups from time `from` to time `to` (exclusive), in samples, on
+    /// 1 to 64 channels. At most 32,767 pieces may overlap at a sample. Returns
+    /// `PlanFault::EmptyRange` unless `to` is after `from`, and `PlanFault::Memory` if out of
+    /// memory.
     pub fn new(
         alloc: Global,
         intervals: Intervals,
@@ -97,14 +99,15 @@ impl Plan {
         })
     }
 
-    /// How many blocks it has: one at least.
+    /// Returns the number of blocks, at least 1.
     pub fn blocks(&self) -> u64
         ensures { result ≡ block_count self.now.range }
     {
         (self.to.get() - self.from.get() + BLOCK_LENGTH - 1) / BLOCK_LENGTH
     }
 
-    /// The frames of block k, counted from 0: 4096, of the last one the rest, and none behind it.
+    /// Returns the number of sample frames in block `k` (from 0): 4096, fewer for the last block, 0
+    /// past the end.
     pub fn frames_of(&self, k: u64) -> u32
         ensures { result ≡ block_frames self.now.range k }
     {
@@ -113,14 +116,15 @@ impl Plan {
         left.min(BLOCK_LENGTH) as u32
     }
 
-    /// The most instructions that the program of a block has: one a piece, and two.
+    /// Returns the maximum number of instructions in the program of a block: one per piece, plus
+    /// two.
     pub fn most_instructions(&self) -> usize
         ensures { result ≡ length self.now.pieces + 2 }
     {
         self.pieces.pieces().len() + 2
     }
 
-    /// The channels and the depth of its samples.
+    /// Returns the number of channels and the bit depth of the output.
     pub fn format(&self) -> Format
         ensures format { result ≡ record { channels = self.now.range.channels; depth = self.now.range.depth } }
         ensures planned { IsPlan self.now }
@@ -131,7 +135,7 @@ impl Plan {
         }
     }
 
-    /// The samples of block k.
+    /// Returns the extent of block `k`.
     pub(crate) fn window_of(&self, k: u64) -> Window
         requires { k < block_count self.now.range }
         ensures from { result.from ≡ block_start self.now.range k }
@@ -145,8 +149,9 @@ impl Plan {
         }
     }
 
-    /// Where the first of the plan's pieces that sounds in block k meets it: its file, and the frame that is heard first.
-    /// `None` where the block is silent, and behind the last block.
+    /// Returns the source of the first piece that is audible in block `k`: the number of its file
+    /// and the first sample of it in the block. Returns `None` if the block is silent or past the
+    /// end.
     pub fn source_of(&self, k: u64) -> Option<(u32, u64)>
         ensures source { k < block_count self.now.range
             → result ≡ sources.source_of self.now.pieces self.now.range k }
@@ -160,7 +165,7 @@ impl Plan {
         self.pieces.first_source(window)
     }
 
-    /// Writes the instructions of these samples over those of a program that has room for them.
+    /// Overwrites a program that has enough room with the instructions for a window.
     pub(crate) fn write(&self, window: Window, program: &mut Program)
         requires { length self.now.pieces + 2 ≤ program.old.room }
         ensures program { program.new ≡ record program.old {
@@ -177,8 +182,8 @@ impl Plan {
         program.push(Instruction::Emit { depth: self.depth });
     }
 
-    /// Writes the program of block k, counted from 0, over another that has room for it. It hands out the block's
-    /// samples, frame by frame. It takes no memory.
+    /// Overwrites a program that has enough room with the program of block `k` (from 0). The
+    /// program emits the block's samples in interleaved order. Allocates nothing.
     pub fn fill(&self, k: u64, program: &mut Program)
         requires there { k < block_count self.now.range }
         requires room { length self.now.pieces + 2 ≤ program.old.room }
@@ -195,7 +200,8 @@ impl Plan {
         self.write(self.window_of(k), program);
     }
 
-    /// The program of block k, counted from 0, with room for that of any other block.
+    /// Returns the program of block `k` (from 0), with room for the program of any other block.
+    /// Returns `PlanFault::Memory` if out of memory.
     pub fn block(&self, alloc: Global, k: u64) -> Result<Program, PlanFault>
         requires { k < block_count self.now.range }
         ensures program { IfOk result (λ program. program.lines ≡ program_of self.now.pieces self.now.range k) }

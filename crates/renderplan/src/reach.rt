@@ -1,4 +1,4 @@
-// An index of pieces by what they can be passed over for.
+// An index that skips runs of pieces outside of a block.
 ghost use Rattle.std.specs.Prelude.{◌≡◌, ◌+◌, ◌<◌, ◌≤◌, ◌^◌, ◌||◌, nat_le, drop, length, IfOk};
 ghost use Rattle.std.specs.List.{All, flat_map};
 ghost use Rattle.sound_terms.specs.Blocks.{lines_of};
@@ -11,7 +11,8 @@ use sound_terms::Piece;
 use std::alloc::{AllocError, Global};
 use std::marker::Model;
 
-/// Where `count` pieces, one behind the other in their list, sound: not before `least`, and not from `greatest` on.
+/// The time extent of `count` consecutive pieces of a list: none of them sounds before `least`, or
+/// from `greatest` on.
 #[derive(Clone, Copy, Debug, PartialEq, Eq)]
 pub struct Reach {
     pub count: usize,
@@ -20,7 +21,7 @@ pub struct Reach {
 }
 
 impl Reach {
-    /// That of one piece.
+    /// The reach of one piece.
     fn of(piece: &Piece) -> Self
         requires { IsPiece piece.now }
         ensures { result ≡ record {
@@ -36,7 +37,7 @@ impl Reach {
         }
     }
 
-    /// That of its pieces and of those behind them.
+    /// The reach of two adjacent runs of pieces together.
     fn joined(self, next: Reach) -> Self
         requires { self.count + next.count < 2 ^ 64 }
         ensures { result ≡ joined_reach self next }
@@ -48,7 +49,7 @@ impl Reach {
         }
     }
 
-    /// Whether none of its pieces sounds from one time up to, and without, another.
+    /// Whether none of the pieces sounds from `from` to `to` (exclusive).
     fn is_outside(self, from: u64, to: u64) -> bool
         ensures { result ≡ (nat_le self.greatest from || nat_le to self.least) }
     {
@@ -56,10 +57,11 @@ impl Reach {
     }
 }
 
-/// The reach of one piece more than there are reaches, by the reaches behind it.
+/// Returns the next reach, which begins one piece before the existing ones.
 ///
-/// Equal counts are joined, as 1 is added to a binary number. So a reach counts at least as many pieces as all that it
-/// is passed over for, and there are few of each count on the way through all pieces.
+/// Runs of equal length are merged, as in adding 1 to a binary number. So the reach counts at least
+/// as many pieces as all reaches that it skips, and a walk over all pieces meets few reaches of
+/// each length.
 fn next_reach(pieces: &[Piece], reaches: &[Reach]) -> Reach
     requires more { length reaches.now < length pieces.now }
     requires sound { All IsPiece pieces.now }
@@ -77,7 +79,7 @@ fn next_reach(pieces: &[Piece], reaches: &[Reach]) -> Reach
     reach
 }
 
-/// A reach for the pieces from each one on, that of the last piece first.
+/// Computes a reach for the run that begins at each piece, from the last piece to the first.
 fn reaches_of(alloc: Global, pieces: &[Piece]) -> Result<Vec<Reach>, AllocError>
     requires { All IsPiece pieces.now }
     ensures { IfOk result (λ reaches. AreReached pieces.now reaches.items) }
@@ -90,7 +92,7 @@ fn reaches_of(alloc: Global, pieces: &[Piece]) -> Result<Vec<Reach>, AllocError>
     Ok(reaches)
 }
 
-/// Pieces, of which those that are silent in a block can be passed over many at once.
+/// A list of pieces in which runs that are silent in a block can be skipped.
 #[derive(Drop)]
 pub struct Reached {
     pieces: Vec<Piece>,
@@ -110,7 +112,7 @@ impl Model for Reached {
 }
 
 impl Reached {
-    /// These pieces.
+    /// Indexes a list of pieces. Returns `AllocError` if out of memory.
     pub fn new(alloc: Global, pieces: Vec<Piece>) -> Result<Self, AllocError>
         requires { All IsPiece pieces.items }
         ensures { IfOk result (λ reached. reached ≡ pieces.items) }
@@ -119,7 +121,7 @@ impl Reached {
         Ok(Reached { pieces, reaches })
     }
 
-    /// The pieces, in their order.
+    /// Returns the pieces in order.
     pub fn pieces(&self) -> &[Piece]
         ensures lent { result.now ≡ self.now }
         ensures sound { All IsPiece self.now }
@@ -127,7 +129,7 @@ impl Reached {
         self.pieces.as_slice()
     }
 
-    /// The reach of the pieces from this one on.
+    /// The reach of the run that begins at piece `next`.
     fn reach_from(&self, next: usize) -> Reach
         requires { next < length self.now }
         ensures { IsReach (drop next self.now) result }
@@ -135,8 +137,8 @@ impl Reached {
         self.reaches[self.pieces.len() - 1 - next]
     }
 
-    /// The next piece from this one on that may sound in a block: the silent ones before it are passed over. Where none
-    /// is left, how many pieces there are.
+    /// Returns the index of the first piece from `from` on that may sound in the window, after
+    /// skipping silent runs, or the number of pieces if there is none.
     pub fn next_near(&self, from: usize, window: Window) -> usize
         ensures after { from ≤ result }
         ensures there { from ≤ length self.now → result ≤ length self.now }

@@ -1,4 +1,4 @@
-// Where the sound of a block begins in its files.
+// The first file and sample that are audible in a block.
 ghost use Rattle.std.specs.Prelude.{◌≡◌, ◌+◌, ◌≤◌, if◌then◌else◌, IfSome, None, Some};
 ghost use Rattle.sound_terms.specs.Groups.{IsPiece};
 ghost use Rattle.renderplan.specs.Sources as spec;
@@ -8,7 +8,8 @@ use crate::lines::Window;
 use crate::reach::Reached;
 use sound_terms::Piece;
 
-/// The file of a piece, and the frame of it that is heard first in a block; `None` where the piece isn't heard there.
+/// The file of a piece and the first sample of it in the window, or `None` if the piece is silent
+/// there.
 fn heard_first(piece: &Piece, window: Window) -> Option<(u32, u64)>
     requires { IsPiece piece.now }
     ensures source { result ≡ (if sounds_in window.from window.frames window.channels piece.now
@@ -24,7 +25,8 @@ fn heard_first(piece: &Piece, window: Window) -> Option<(u32, u64)>
 }
 
 impl Reached {
-    /// That of the first of the pieces, in their order, that is heard in a block; `None` where none is.
+    /// Returns the file and the first sample of the first piece that is audible in the window, or
+    /// `None` if all are silent.
     pub fn first_source(&self, window: Window) -> Option<(u32, u64)>
         ensures source { result ≡ spec.first_source window.from window.frames window.channels self.now }
         ensures in_day { IfSome result IsInDay }

@@ -1,4 +1,4 @@
-// Blocks that are taken as one.
+// Programs for several blocks at once.
 ghost use Rattle.std.specs.Prelude.{◌≡◌, ◌+◌, ◌<◌, ◌≤◌, ℕ, List};
 ghost use Rattle.std.specs.List.{All};
 ghost use Rattle.sound_terms.specs.Sounds.{SoundFacts};
@@ -15,7 +15,7 @@ use crate::plan::BLOCK_LENGTH;
 use sound_terms::Program;
 
 impl Plan {
-    /// The samples of the blocks from one on up to, and without, another.
+    /// The extent of the blocks from `first` to `last` (exclusive).
     fn window_between(&self, first: u64, last: u64) -> Window
         requires { IsSpan self.now.range first last }
         ensures from { result.from ≡ block_start self.now.range first }
@@ -31,8 +31,8 @@ impl Plan {
         }
     }
 
-    /// The same as `fill` does with one block, with the blocks from one on up to, and without, another: its program hands
-    /// out all their samples at once. It gives how many frames they have.
+    /// Overwrites a program with one that emits all samples of the blocks from `first` to `last`
+    /// (exclusive) at once; otherwise like `fill`. Returns the number of sample frames.
     pub fn fill_span(&self, first: u64, last: u64, program: &mut Program) -> u32
         requires { CanFill self.now first last program.old.room }
         ensures frames { result ≡ span_frames self.now.range first last }

@@ -5,7 +5,7 @@ use Rattle.renderplan.proofs.Formed.{same_written, written_formed, written_insid
 use Rattle.renderplan.proofs.Summing.{written_sums}
 use Rattle.renderplan.proofs.plan.Plan.fill.Goals as goal
 
--- the instructions that were written
+-- the instructions in the program
 lines : (c : goal.After-write) → c.write.new.program.lines ≡ written (block_start c.args.self.now.range c.args.k)
     (block_frames c.args.self.now.range c.args.k) c.args.self.now.range.channels c.args.self.now.range.depth c.args.self.now.pieces
 lines c =

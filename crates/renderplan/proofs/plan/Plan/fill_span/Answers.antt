@@ -6,7 +6,7 @@ use Rattle.renderplan.proofs.Summing.{written_sums}
 use Rattle.renderplan.proofs.ExactSums.{written_exact}
 use Rattle.renderplan.proofs.plan.Plan.fill_span.Goals as goal
 
--- the instructions that were written
+-- the instructions in the program
 lines : (c : goal.After-write) → c.write.new.program.lines ≡ written (block_start c.args.self.now.range c.args.first)
     (span_frames c.args.self.now.range c.args.first c.args.last) c.args.self.now.range.channels c.args.self.now.range.depth c.args.self.now.pieces
 lines c =
