@@ -1,4 +1,4 @@
--- Frames of a stretch that are added one after the other are the whole stretch.
+-- Adding a stretch one sample frame at a time adds the whole stretch.
 use Rattle.std.proofs.Common.{◌≡◌, ◌⊎◌, inl, inr, ℕ, suc, ◌+◌, ◌-◌, ◌*◌, ◌<◌, ◌≤◌, Bool, true, false, List, length, take, drop, set, get_or, refl, sym, ap, ◌∙◌, subst, arith}
 use Rattle.std.specs.Prelude.{ℤ, pos, negsuc, neg_ℤ, ◌+ℤ◌, ◌&&◌, nat_le, nat_lt, if◌then◌else◌}
 use Rattle.std.specs.Int.{int_div_euclid}
@@ -19,14 +19,14 @@ use Rattle.blockmachine.specs.Playing.{Plays}
 use Rattle.blockmachine.specs.Sums.{AreSums, HasAdded, HasAddedTo, block_of}
 use Rattle.blockmachine.proofs.Places.{get_or-part, kept_elsewhere, written_here}
 
--- a stretch of no sample adds nothing
+-- an empty stretch adds nothing
 pub no_sample : (reading : Reading) (stretch : Stretch) (shape : Shape) (before : ℕ → ℕ → ℤ) (i c : ℕ)
     → sums_with reading (record stretch { length = 0 }) shape before i c ≡ before i c
 no_sample reading stretch shape before i c =
     let out : (nat_le stretch.at i && nat_lt i (stretch.at + 0)) ≡ false = grind (arith, nat_tests) in
     otherwise (nat_le stretch.dest c) (nat_lt c (stretch.dest + stretch.width)) _ _ _ out
 
--- one sum more has its share
+-- one more sum with its share added
 pub added_more : (n : ℕ) (fraction : ℕ × ℕ) (depth : ℕ) (samples old new : List ℤ) (v : ℤ) → n < length new
     → HasAddedTo n fraction depth samples old new
     → v ≡ held (get_or new n (pos 0) +ℤ share_of (full_scale depth (get_or samples n (pos 0))) fraction)
@@ -50,19 +50,19 @@ added_more n fraction depth samples old new v inside has value = (here, behind) 
       ≡ held (get_or old k (pos 0) +ℤ share_of (full_scale depth (get_or samples k (pos 0))) fraction)
   here k below = by_place k below (cases_lt k n)
 
--- all of a sample
+-- the full share of a sample is the sample
 pub flat_share : (v : ℤ) → share_of v (1, 1) ≡ v
 flat_share (pos n) = ap (λ z. int_div_euclid z (pos 1)) (pos-*ℤ-pos n 1) ∙ ap pos (omega arith)
 flat_share (negsuc n) = ap (λ z. int_div_euclid z (pos 1)) (negsuc-*ℤ-pos n 1 ∙ all) ∙ ap negsuc (omega arith) where
   all : neg_ℤ (pos (suc n * 1)) ≡ negsuc n
   all = let one : suc n * 1 ≡ suc n = omega arith in rw one refl
 
--- the test of so many frames more
+-- the extended range contains a new sample
 on_more : (a b p q r : Bool) (x y : ℤ) → a ≡ true → b ≡ true → p ≡ true → q ≡ false → r ≡ true
     → (if a && (b && (p && r)) then held (y +ℤ x) else y) ≡ held ((if a && (b && (p && q)) then held (y +ℤ x) else y) +ℤ x)
 on_more a b p q r x y first second begun before now = rw (first, second, begun, before, now) refl
 
--- and of others
+-- the extended range doesn't change for other samples
 off_more : (a b p q r : Bool) (x y : ℤ) → (a ≡ true → b ≡ true → p ≡ true → r ≡ q)
     → (if a && (b && (p && r)) then held (y +ℤ x) else y) ≡ (if a && (b && (p && q)) then held (y +ℤ x) else y)
 off_more false b p q r x y same = refl
@@ -70,7 +70,7 @@ off_more true false p q r x y same = refl
 off_more true true false q r x y same = refl
 off_more true true true q r x y same = rw (same refl refl refl) refl
 
--- so many frames more, in one run of the sums: one frame, or frames of all channels
+-- the next sample frames form one run of the sums: a single frame, or frames of all channels
 abbrev pub IsRun : (frames width source channels long : ℕ) → Type 0
 IsRun frames width source channels long =
     ((frames ≡ 1) × (long ≡ width)) ⊎ ((width ≡ channels) × (source ≡ channels) × (long ≡ frames * channels))
@@ -88,7 +88,7 @@ run_fits stretch source most channels done count long inside (inr all) short =
     let parts = add-mul (stretch.at + done) count channels in
     omega (arith, row, parts, all.0, all.2, inside.dest_inside, inside.dest_from_one)
 
--- a shorter part of a ramp
+-- a prefix of a ramp is a ramp
 pub ramp_shorter : (shape : Shape) (n m : ℕ) → m ≤ n → IsRamp shape n → IsRamp shape m
 ramp_shorter Flat n m le ramp = tt
 ramp_shorter (Rise offset den) n m le ramp = (omega (arith, le, ramp.0), ramp.1)
@@ -104,7 +104,7 @@ module _ (reading : Reading) (stretch : Stretch) (shape : Shape) (before : ℕ �
     abbrev begin : ℕ → ℕ
     begin done = (stretch.at + done) * channels + (stretch.dest - 1)
 
-    -- sample i of a channel lies in these frames of the stretch
+    -- sample i of channel c is in these frames of the stretch
     record IsHere (done count i c : ℕ) : Type 0 where
       low : stretch.dest ≤ c
       high : c < stretch.dest + stretch.width
@@ -147,7 +147,7 @@ module _ (reading : Reading) (stretch : Stretch) (shape : Shape) (before : ℕ �
               let high : c < stretch.dest + stretch.width = grind (arith, nat_tests) in
               by_place low high (cases_lt i (stretch.at + done)) (cases_lt i (stretch.at + (done + count)))
 
-    -- where it stands in the run
+    -- the offset of the sample in the run
     place_in : (done count long i c : ℕ) → IsRun count stretch.width source channels long → IsHere done count i c
         → (i * channels + (c - 1) ≡ begin done + ((i - (stretch.at + done)) * channels + (c - stretch.dest)))
         × ((i - (stretch.at + done)) * channels + (c - stretch.dest) < long)
@@ -166,7 +166,7 @@ module _ (reading : Reading) (stretch : Stretch) (shape : Shape) (before : ℕ �
         mul-le-mul_right channels (omega (arith, here.begun, here.ends)) in
         (omega (arith, row, dest, here.low), omega (arith, most, all.0, all.2, dest, here.low, here.high))
 
-    -- others stand before it or behind it
+    -- samples outside of these frames are outside of the run
     elsewhere : (done count long i c : ℕ) → IsRun count stretch.width source channels long → 1 ≤ c → c ≤ channels
         → (IsHere done count i c → ⊥)
         → (i * channels + (c - 1) < begin done) ⊎ (begin done + long ≤ i * channels + (c - 1))
@@ -205,7 +205,7 @@ module _ (reading : Reading) (stretch : Stretch) (shape : Shape) (before : ℕ �
           by_place (inr all) (inr begun) (inl ends) (inr from) (inr after) =
               absurd (omega (arith, all.0, inside.dest_inside, inside.dest_from_one, high, after))
 
-    -- the place of its sample
+    -- the offset of the sample in the source
     source_place : (done count long i c : ℕ) → IsRun count stretch.width source channels long → IsHere done count i c
         → done * source + (stretch.first - 1) + ((i - (stretch.at + done)) * channels + (c - stretch.dest))
         ≡ (i - stretch.at) * source + (stretch.first - 1 + (c - stretch.dest))
@@ -218,7 +218,7 @@ module _ (reading : Reading) (stretch : Stretch) (shape : Shape) (before : ℕ �
         let parts = add-mul done (i - (stretch.at + done)) channels in
         rw (row, all.1) (omega (arith, parts))
 
-    -- the sums of so many frames more were written
+    -- the sums after a run is added
     pub run_more : (done count long : ℕ) (fraction : ℕ × ℕ) (samples old new : List ℤ)
         → IsRun count stretch.width source channels long → done + count ≤ stretch.length
         → length old ≡ most * channels → length new ≡ long

@@ -1,4 +1,4 @@
--- Sums that are kept at the depth of their block.
+-- Sums kept at the depth of their block.
 use Rattle.std.proofs.Common.{◌≡◌, ◌⊎◌, inl, inr, ℕ, suc, All, ◌+◌, ◌-◌, ◌*◌, ◌^◌, ◌<◌, ◌≤◌, List, ◌++◌, length, map, take, drop, set, get_or, refl, sym, ap, ◌∙◌, subst, arith, length-append}
 use Rattle.std.specs.Prelude.{ℤ, pos, negsuc, ◌+ℤ◌, ◌*ℤ◌}
 use Rattle.std.specs.Int.{saturate_to_bits}
@@ -22,7 +22,7 @@ use Rattle.blockmachine.specs.Sums.{AreFew, AreSums, AreZero, block_of, widened}
 use Rattle.soundlaw.specs.SumLaws.{held_few, within_add}
 use Rattle.blockmachine.proofs.Full.{full_sample}
 
--- ---- places
+-- ---- offsets
 
 pub get_or-widened : (depth : ℕ) (sums : List ℤ) (k : ℕ) → k < length sums
     → get_or (widened depth sums) k (pos 0) ≡ full_scale depth (get_or sums k (pos 0))
@@ -52,7 +52,7 @@ full_zero depth = pos-*ℤ-pos 0 (2 ^ (48 - depth)) ∙ ap pos (omega arith)
 pub length-front : (n : ℕ) (new rest : List ℤ) → n ≤ length new → length (take n (new ++ rest)) ≡ n
 length-front n new rest room = length-take-le n (new ++ rest) (omega (arith, length-append new rest))
 
--- sums of zero, written over all that were kept
+-- zeros written over all sums
 zero_at : (depth n : ℕ) (new rest : List ℤ) → AreZero new → length new ≡ n
     → (k : ℕ) → k < n → get_or (widened depth (take n (new ++ rest))) k (pos 0) ≡ pos 0
 zero_at depth n new rest zero long k below =
@@ -75,7 +75,7 @@ cleared_few depth n from new rest zero long =
       λ k later below. nothing k below,
     )
 
--- samples in place of the sums
+-- samples taken as sums are small
 pub samples_few : (depth : Depth) (samples : List ℤ) (n : ℕ) → length samples ≡ n
     → All (FitsDepth (bits_of depth)) samples → AreFew 1 n (widened (bits_of depth) samples)
 samples_few depth samples n long fit =
@@ -99,7 +99,7 @@ no_sum : (z : ℤ) → IsWithin 0 z → z ≡ pos 0
 no_sum (pos n) within = ap pos (omega (arith, ints, within))
 no_sum (negsuc n) within = absurd (omega (arith, ints, within))
 
--- as many zeros are sums of nothing
+-- zeros are the sums of nothing
 pub zeros_widened : (depth : ℕ) (sums zeros : List ℤ) → length sums ≡ length zeros
     → ((k : ℕ) → get_or zeros k (pos 0) ≡ pos 0) → All (IsWithin 0) (widened depth sums) → zeros ≡ widened depth sums
 zeros_widened depth sums zeros each zero clear =
@@ -109,7 +109,7 @@ zeros_widened depth sums zeros each zero clear =
 
 -- ---- one sum
 
--- a sample of 16 bits at 24
+-- a 16-bit sample at 24 bits
 pub wider_sample : (x : ℤ) → full_scale 24 (x *ℤ pos 256) ≡ full_scale 16 x
 wider_sample (pos n) = omega (arith, ints)
 wider_sample (negsuc n) = omega (arith, ints)
@@ -133,7 +133,7 @@ layer_sum depth sum x small fit =
     spread depth sum x
     ∙ sym (held_few 255 _ (omega arith) (within_add 254 1 _ _ small (full_sample depth x fit)))
 
--- ---- what it is handed out as
+-- ---- emission
 
 pub quantized_layer : (depth : Depth) (z : ℤ)
     → quantized (bits_of depth) (full_scale (bits_of depth) z) ≡ saturate_to_bits (bits_of depth - 1) z
@@ -141,7 +141,7 @@ quantized_layer Sixteen z = ap (saturate_to_bits 15) (floor_whole z (2 ^ 31) (2 
 quantized_layer TwentyFour z = ap (saturate_to_bits 23) (floor_whole z (2 ^ 23) (2 ^ 24) (omega arith))
 quantized_layer ThirtyTwo z = ap (saturate_to_bits 31) (floor_whole z (2 ^ 15) (2 ^ 16) (omega arith))
 
--- ---- one entry more
+-- ---- one more entry
 
 pub entry_more : (P : ℕ → ℤ → Type 0) (n : ℕ) (l : List ℤ) (v : ℤ) → n < length l
     → ((k : ℕ) → k < n → P k (get_or l k (pos 0))) → P n v
@@ -155,7 +155,7 @@ entry_more P n l v inside before here k below = by_place (cases_lt k n) where
       subst (λ m. P m (get_or (set l n v) m (pos 0))) same
       (subst (P n) (sym (get_or-set_same l n v (pos 0) inside)) here)
 
--- one sum more that is kept at a depth is handed out at another one
+-- one more sum emitted at another depth
 pub rounded_more : (kept depth : Depth) (sums out : List ℤ) (n : ℕ) (z : ℤ) → n < length out
     → ((k : ℕ) → k < n → get_or out k (pos 0)
     ≡ quantized (bits_of depth) (full_scale (bits_of kept) (get_or sums k (pos 0))))

@@ -1,4 +1,4 @@
--- A stretch more leaves sums larger by one sample at most where it sounds, and as they were elsewhere.
+-- Adding a stretch increases sums by at most one sample while it sounds, and leaves the others unchanged.
 use Rattle.std.proofs.Common.{◌≡◌, ◌⊎◌, inl, inr, ℕ, ◌+◌, ◌-◌, ◌*◌, ◌/◌, ◌%◌, ◌<◌, ◌≤◌, All, Bool, true, false, List, ◌++◌, length, take, get_or, refl, sym, ap, ◌∙◌, subst, arith}
 use Rattle.std.specs.Prelude.{ℤ, pos, ◌+ℤ◌, ◌&&◌, nat_le, nat_lt, if◌then◌else◌}
 use Rattle.std.proofs.lemmas.Bool.{cases_lt}
@@ -21,11 +21,11 @@ use Rattle.blockmachine.specs.Sums.{AreFew, BlockSums, Counts, HasPlayed, block_
 use Rattle.soundlaw.specs.SumLaws.{held_grow, share_within, within_add, within_more}
 use Rattle.blockmachine.proofs.Full.{full_frames}
 
--- what is written over all of a list
+-- a full overwrite of a list
 pub written : (n : ℕ) (new rest : List ℤ) → length new ≡ n → take n (new ++ rest) ≡ new
 written n new rest long = take-append-le n new rest (omega (arith, long)) ∙ take_all n new (omega (arith, long))
 
--- what was played, of equal sums
+-- transport of `HasPlayed` along equal sums
 pub played_as : (stretch : Stretch) (shape : Shape) (source depth : ℕ) (frames : List ℤ) (old self new kept : BlockSums)
     → old ≡ self → new ≡ kept → HasPlayed stretch shape source depth frames old new
     → HasPlayed stretch shape source depth frames self kept
@@ -33,7 +33,7 @@ played_as stretch shape source depth frames old self new kept before after playe
     subst (λ (s : BlockSums). HasPlayed stretch shape source depth frames s kept) before
     (subst (HasPlayed stretch shape source depth frames old) after played)
 
--- the share of a sample under a ramp
+-- a share of a sample under a ramp is at most a sample
 ramp_share : (shape : Shape) (n i : ℕ) (v : ℤ) → IsRamp shape n → i < n → IsWithin 1 v
     → IsWithin 1 (share_of v (fraction_of shape i))
 ramp_share Flat n i v ramp below within = share_within v 1 1 within (omega arith) (omega arith)
@@ -55,7 +55,7 @@ module _ (stretch : Stretch) (shape : Shape) (source most_frames channels : ℕ)
     (played : HasPlayed stretch shape source (bits_of depth) frames (block_of most_frames channels old)
     (block_of most_frames channels new))
   where
-    -- what has these frames
+    -- a reading that yields the given samples
     abbrev reading : Reading
     reading file channel frame =
         full_scale (bits_of depth) (get_or frames ((frame - stretch.frame) * source + (channel - 1)) (pos 0))
@@ -78,7 +78,7 @@ module _ (stretch : Stretch) (shape : Shape) (source most_frames channels : ℕ)
         → get_or new (i * channels + (c - 1)) (pos 0) ≡ sums_with reading stretch shape before i c
     after = played reading plays before (λ i c near low high. refl)
 
-    -- what sounds at a sample is no larger than a sample
+    -- the share at a sample is at most a sample
     share : (i c : ℕ) → is_on stretch i c ≡ true → IsWithin 1 (share_at reading stretch shape i c)
     share i c on =
         let low : nat_le stretch.dest c ≡ true = and_left _ _ on in
@@ -91,7 +91,7 @@ module _ (stretch : Stretch) (shape : Shape) (source most_frames channels : ℕ)
         let there : c - stretch.dest < stretch.width = grind (arith, nat_tests, low, high) in
         ramp_share shape stretch.length (i - stretch.at) _ ramp near (full (c - stretch.dest) (i - stretch.at) there near)
 
-    -- the frame and the channel of the k-th sum
+    -- index k from its sample frame and channel
     place : (k : ℕ) → 1 ≤ channels → k / channels * channels + (k % channels + 1 - 1) ≡ k
     place k some = omega (arith, div-add-mod k channels)
 

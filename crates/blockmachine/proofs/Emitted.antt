@@ -1,4 +1,4 @@
--- What sums are handed out as.
+-- Samples emitted from sums.
 use Rattle.std.proofs.Common.{◌≡◌, ◌⊎◌, inl, inr, ◌≤◌, ◌<◌, ℕ, zero, suc, ◌+◌, ◌-◌, ◌*◌, Bool, true, false, List, [], ◌∷◌, ◌++◌, length, map, take, get_or, refl, sym, ap, ◌∙◌, subst, arith, zero-add}
 use Rattle.std.specs.Prelude.{ℤ, pos}
 use Rattle.std.proofs.lemmas.List.{append-nil, append_assoc, ext_get_or, get_or-map, get_or-take, length-map, length-take-le, map-append, take_more}
@@ -10,7 +10,7 @@ use Rattle.clipping.specs.Clips.{block_sums, frame_sums}
 use Rattle.blockmachine.specs.Lines.{FillFrames}
 use Rattle.blockmachine.specs.Sums.{AreSums, BlockSums, block_of, kept_sums}
 
--- a block's samples are its sums at a depth
+-- the samples of a block are its sums, rounded to the depth
 module _ (depth : ℕ) (sums : ℕ → ℕ → ℤ) where
   frame_mapped : (i c n : ℕ) → frame_samples depth sums i c n ≡ map (quantized depth) (frame_sums sums i c n)
   frame_mapped i c zero = refl
@@ -24,7 +24,7 @@ module _ (depth : ℕ) (sums : ℕ → ℕ → ℤ) where
       (sym (map-append (quantized depth) (frame_sums sums i 1 channels) (block_sums sums channels (suc i) n)))
 
 module _ (sums : ℕ → ℕ → ℤ) where
-  -- a channel more
+  -- one more channel
   frame_more : (i c n : ℕ) → frame_sums sums i c (n + 1) ≡ frame_sums sums i c n ++ sums i (c + n) ∷ []
   frame_more i c zero = let here : c + 0 ≡ c = omega arith in rw here refl
   frame_more i c (suc n) =
@@ -32,7 +32,7 @@ module _ (sums : ℕ → ℕ → ℤ) where
       let place : c + suc n ≡ suc c + n = omega arith in
       rw (more, place, frame_more i (suc c) n) refl
 
-  -- a frame more
+  -- one more sample frame
   block_more : (channels i n : ℕ) → block_sums sums channels i (n + 1)
       ≡ block_sums sums channels i n ++ frame_sums sums (i + n) 1 channels
   block_more channels i zero = let here : i + 0 ≡ i = omega arith in
@@ -42,10 +42,10 @@ module _ (sums : ℕ → ℕ → ℤ) where
       let place : i + suc n ≡ suc i + n = omega arith in
       rw (more, place, block_more channels (suc i) n) (sym (append_assoc (frame_sums sums i 1 channels) _ _))
 
--- values that are one by one the sums are, as far as the frames go, the block's
+-- values that equal the sums one by one are the sums of the block
 module _ (sums : ℕ → ℕ → ℤ) (channels frames : ℕ) (values : List ℤ) (long : frames * channels ≤ length values)
     (sum_at : (i j : ℕ) → i < frames → j < channels → sums i (1 + j) ≡ get_or values (i * channels + j) (pos 0)) where
-  -- the first sums of a frame
+  -- the first sums of a sample frame
   frame_taken : (i j : ℕ) → i < frames → j ≤ channels
       → take (i * channels + j) values ≡ take (i * channels) values ++ frame_sums sums i 1 j
   frame_taken i zero below on =
@@ -63,7 +63,7 @@ module _ (sums : ℕ → ℕ → ℤ) (channels frames : ℕ) (values : List ℤ
       ∙ ap (λ (l : List ℤ). take (i * channels) values ++ l)
       (sym (frame_more sums i 1 j) ∙ ap (frame_sums sums i 1) (sym count))
 
-  -- the first frames
+  -- the first sample frames
   pub frames_taken : (i : ℕ) → i ≤ frames → take (i * channels) values ≡ block_sums sums channels 0 i
   frames_taken zero below = let none : 0 * channels ≡ 0 = omega arith in ap (λ (n : ℕ). take n values) none
   frames_taken (suc i) below =
@@ -76,7 +76,7 @@ module _ (sums : ℕ → ℕ → ℤ) (channels frames : ℕ) (values : List ℤ
       ∙ sym (block_more sums channels 0 i)
       ∙ ap (block_sums sums channels 0) (sym count)
 
--- a sample of frames that are as many as few ones
+-- a sample of the first frames is within the capacity
 pub near : (i frames few most channels j : ℕ) → j < channels → few ≤ most → i < frames → few * channels ≡ frames * channels
     → i < most
 near i frames few most channels j some small below same = by_place (cases_lt i most) where
@@ -87,18 +87,18 @@ near i frames few most channels j some small below same = by_place (cases_lt i m
       let room : few * channels ≤ most * channels = mul-le-mul_right channels small in
       absurd (omega (arith, row, room, same, some))
 
--- few frames have no more samples than most
+-- fewer frames have no more samples
 pub room : (n few most channels : ℕ) → few ≤ most → n ≡ few * channels → n ≤ most * channels
 room n few most channels small is =
     let row : few * channels ≤ most * channels = mul-le-mul_right channels small in omega arith
 
--- as many sums are kept in either way
+-- both forms of storage have the same length
 length-kept : (at_depth : Bool) (depth n : ℕ) (layers values : List ℤ) → length layers ≡ n → length values ≡ n
     → length (kept_sums at_depth depth layers values) ≡ n
 length-kept true depth n layers values a b = length-map layers (full_scale depth) ∙ a
 length-kept false depth n layers values a b = b
 
--- so a machine keeps a sum for each sample
+-- the machine stores one sum for each sample
 pub each_kept : (at_depth : Bool) (depth frames channels : ℕ) (layers values : List ℤ) (kept : BlockSums)
     → block_of frames channels (kept_sums at_depth depth layers values) ≡ kept → length layers ≡ frames * channels
     → length values ≡ frames * channels → length kept.values ≡ kept.extent.frames * kept.extent.channels
@@ -106,7 +106,7 @@ each_kept at_depth depth frames channels layers values kept view a b =
     subst (λ (s : BlockSums). length s.values ≡ s.extent.frames * s.extent.channels) view
     (length-kept at_depth depth (frames * channels) layers values a b)
 
--- and where some that are to be handed out are no more, there is one for each
+-- there is a sum for each sample to be emitted
 pub enough : (frames channels sums : ℕ) (values out : List ℤ) (kept : BlockSums) → block_of frames channels values ≡ kept
     → FillFrames kept.extent out → sums ≡ frames * channels → length out ≤ sums
 enough frames channels sums values out kept view fills long =
@@ -114,7 +114,7 @@ enough frames channels sums values out kept view fills long =
     let most = room (length out) fills.0 kept.extent.frames kept.extent.channels fills.1 fills.2 in
     omega (arith, most, long, same)
 
--- the first frames of sums that are kept are, one by one, the block's
+-- the first frames of the stored sums are the sums of the block
 pub block_taken : (kept : BlockSums) (all : ℕ → ℕ → ℤ) → AreSums kept all
     → length kept.values ≡ kept.extent.frames * kept.extent.channels → (frames given : ℕ) → given ≤ kept.extent.frames
     → frames * kept.extent.channels ≡ given * kept.extent.channels
@@ -129,7 +129,7 @@ block_taken kept all are whole frames given few count =
     (omega arith) (omega (arith, on)))
     ∙ ap (λ n. get_or kept.values (i * channels + n) (pos 0)) same) frames (omega arith)
 
--- samples that are one by one a block's sums at a depth are the block's
+-- samples that equal the rounded sums one by one are the samples of the block
 pub by_sums : (depth : ℕ) (sums : ℕ → ℕ → ℤ) (channels frames : ℕ) (out values : List ℤ)
     → values ≡ block_sums sums channels 0 frames → length out ≡ length values
     → ((k : ℕ) → k < length out → get_or out k (pos 0) ≡ quantized depth (get_or values k (pos 0)))
@@ -140,7 +140,7 @@ by_sums depth sums channels frames out values are long each =
     (λ k below. each k below ∙ sym (get_or-map (quantized depth) values k (pos 0) (pos 0) (omega (arith, below, long))))
     ∙ ap (map (quantized depth)) are ∙ sym (block_mapped depth sums channels 0 frames)
 
--- so are those that are one by one the first sums that a machine keeps
+-- the same for samples emitted from the stored sums
 pub handed_out : (depth : ℕ) (all : ℕ → ℕ → ℤ) (kept : BlockSums) (frames : ℕ) (out : List ℤ) → AreSums kept all
     → length kept.values ≡ kept.extent.frames * kept.extent.channels → FillFrames kept.extent out
     → length out ≡ frames * kept.extent.channels
@@ -155,7 +155,7 @@ handed_out depth all kept frames out are whole fills long each =
     (λ k below. each k below
     ∙ ap (quantized depth) (sym (get_or-take n kept.values k (pos 0) (omega (arith, below, long)))))
 
--- and so those that are kept at a depth, all of them
+-- the same for all samples emitted at the depth of storage
 pub each_handed_out : (depth : ℕ) (sums out : List ℤ) → length out ≡ length sums
     → ((k : ℕ) → k < length out
     → get_or out k (pos 0) ≡ quantized depth (full_scale depth (get_or sums k (pos 0))))

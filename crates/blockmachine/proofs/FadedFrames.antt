@@ -1,4 +1,4 @@
--- Frames that become their shares, one more.
+-- Fading one more sample frame.
 use Rattle.std.proofs.Common.{◌≡◌, ◌⊎◌, inl, inr, ◌<◌, ◌≤◌, ℕ, ◌+◌, ◌-◌, ◌*◌, ◌/◌, List, drop, length, take, get_or, arith, sym, ap, ◌∙◌, length-take, length-drop}
 use Rattle.std.specs.Prelude.{ℤ, pos}
 use Rattle.std.proofs.lemmas.Bool.{cases_lt}
@@ -18,7 +18,7 @@ module _ (shape : Shape) (channels depth i a k : ℕ) (first old new : List ℤ)
     abbrev share : ℕ → ℤ
     share n = quantized depth (share_of (full_scale depth (get_or first n (pos 0))) (fraction_of shape (n / channels)))
 
-    -- a sample of this frame
+    -- a sample of this sample frame
     here : (n : ℕ) → a ≤ n → n < a + k → get_or (put_mid a k old new) n (pos 0) ≡ share n
     here n low high =
         let taken = length-take k (drop a old) in

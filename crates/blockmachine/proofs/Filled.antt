@@ -1,4 +1,4 @@
--- The frames of a file that fills a block alone: what of them the block hands out, and that nothing of it is clipped.
+-- A block filled by one file: its output, and the absence of clipping.
 use Rattle.std.proofs.Common.{◌≡◌, ◌≤◌, ◌<◌, ℕ, zero, suc, ◌+◌, ◌-◌, ◌*◌, ◌/◌, ◌%◌, ◌^◌, true, false, All, List, [], ◌∷◌, ◌++◌, length, get_or, refl, sym, ap, ◌∙◌, arith, zero-add}
 use Rattle.std.specs.Prelude.{ℤ, pos, neg_ℤ, ◌+ℤ◌, ◌||◌, int_lt, nat_le, nat_lt}
 use Rattle.std.specs.Int.{saturate_to_bits}
@@ -31,7 +31,7 @@ use Rattle.soundlaw.specs.SumLaws.{held_few, share_within}
 use Rattle.blockmachine.proofs.Emitted.{by_sums}
 use Rattle.blockmachine.proofs.Full.{full_sample}
 
--- a sample at full scale, rounded to its own depth, is that sample
+-- a sample at full scale, rounded to its own depth, is unchanged
 same_depth : (depth : Depth) (x : ℤ) → FitsDepth (bits_of depth) x
     → quantized (bits_of depth) (full_scale (bits_of depth) x) ≡ x
 same_depth Sixteen x fits =
@@ -41,7 +41,7 @@ same_depth TwentyFour x fits =
 same_depth ThirtyTwo x fits =
     ap (saturate_to_bits 31) (floor_whole x (2 ^ 15) (2 ^ 16) (omega arith)) ∙ kept_inside 31 x fits.0 fits.1
 
--- what lies in a depth isn't clipped
+-- a sample within its depth isn't clipped
 within_15 : (r : ℤ) → FitsDepth 16 r → (int_lt r (neg_ℤ (pos (2 ^ 15))) || int_lt (pos (2 ^ 15 - 1)) r) ≡ false
 within_15 r fits = grind (arith, ints, nat_tests)
 
@@ -57,7 +57,7 @@ share_unclipped Sixteen x num den fits le some = within_15 _ (share_fits Sixteen
 share_unclipped TwentyFour x num den fits le some = within_23 _ (share_fits TwentyFour x num den fits le some)
 share_unclipped ThirtyTwo x num den fits le some = within_31 _ (share_fits ThirtyTwo x num den fits le some)
 
--- the fractions of a ramp are at most one
+-- the gain of a ramp is at most one
 some_fraction : (shape : Shape) (n i : ℕ) → IsRamp shape n → i < n
     → ((fraction_of shape i).0 ≤ (fraction_of shape i).1) × (0 < (fraction_of shape i).1)
 some_fraction Flat n i ramp below = (omega arith, omega arith)
@@ -71,7 +71,7 @@ some_channels frames (suc channels) k below = omega arith
 none_more : (z : ℤ) → pos 0 +ℤ z ≡ z
 none_more z = omega (arith, ints)
 
--- a sum of a block, where it stands
+-- a sum of a block by its index
 module _ (sums : ℕ → ℕ → ℤ) (d : ℤ) where
   frame_at : (i channel n j : ℕ) → j < n → get_or (frame_sums sums i channel n) j d ≡ sums i (channel + j)
   frame_at i channel zero j below = absurd (omega (arith, below))
@@ -98,7 +98,7 @@ module _ (sums : ℕ → ℕ → ℤ) (d : ℤ) where
       ∙ ap (λ m. get_or (block_sums sums channels (suc i) n) m d) place
       ∙ block_at channels (suc i) n k j (omega (arith, below)) on ∙ ap (λ m. sums m (1 + j)) here
 
--- a program of one stretch
+-- the effect of a program with one stretch
 pub alone_executed : (reading : Reading) (channels frames : ℕ) (stretch : Stretch) (shape : Shape) (depth : Depth)
     (start : BlockState)
     → executed_all reading channels (Start frames ∷ ((adding stretch shape ∷ []) ++ Emit depth ∷ [])) start
@@ -125,7 +125,7 @@ module _ (reading : Reading) (file frame frames channels : ℕ) (depth : Depth) 
     abbrev share : (i k : ℕ) → ℤ
     share i k = share_of (full_scale bits (get_or stored k (pos 0))) (fraction_of shape i)
 
-    -- a sum of it
+    -- a sum of this program
     sum_at : (i j : ℕ) → i < frames → j < channels → sums i (1 + j) ≡ share i (i * channels + j)
     sum_at i j below on =
         let low : nat_le 1 (1 + j) ≡ true = grind (arith, nat_tests) in
@@ -149,7 +149,7 @@ module _ (reading : Reading) (file frame frames channels : ℕ) (depth : Depth) 
         ∙ ap held (none_more (share i (i * channels + j)))
         ∙ held_few 1 _ (omega arith) small)
 
-    -- the frame and the channel of a sample
+    -- the sample frame and the channel of a sample
     frame_of : (k : ℕ) → k < frames * channels
         → (k / channels < frames) × ((k % channels < channels) × (k / channels * channels + k % channels ≡ k))
     frame_of k below =
@@ -159,7 +159,7 @@ module _ (reading : Reading) (file frame frames channels : ℕ) (depth : Depth) 
         let inside : channels * (k / channels) < channels * frames = omega (arith, parts, below) in
         (lt_of_mul-lt-mul_left channels inside, (rest, omega (arith, parts)))
 
-    -- samples that became their shares are what the block hands out
+    -- the faded samples are the output of the block
     pub fades_itself_out : (out : List ℤ) → length out ≡ length stored → HasFaded shape channels bits stored out
         → out ≡ block_samples bits sums channels 0 frames
     fades_itself_out out whole faded =
@@ -176,7 +176,7 @@ module _ (reading : Reading) (file frame frames channels : ℕ) (depth : Depth) 
         ∙ sym (ap (λ m. get_or (block_sums sums channels 0 frames) m (pos 0)) there
         ∙ block_at sums (pos 0) channels 0 frames i j parts.0 parts.1.0 ∙ ap (λ m. sums m (1 + j)) (zero-add i))))
 
-    -- and none of its sums is clipped
+    -- no sum of the block is clipped
     pub fades_unclipped : All (λ sum. is_clipped bits sum ≡ false) (block_sums sums channels 0 frames)
     fades_unclipped =
         all_block (λ sum. is_clipped bits sum ≡ false) sums channels 0 frames (λ i c begun below first last.
@@ -191,14 +191,14 @@ module _ (reading : Reading) (file frame frames channels : ℕ) (depth : Depth) 
         ∙ share_unclipped depth (get_or stored (i * channels + j) (pos 0)) (fraction_of shape i).0
         (fraction_of shape i).1 (fit (i * channels + j) (pos 0) within) part.0 part.1)
 
--- samples are all of themselves
+-- unfaded samples are unchanged
 pub itself : (channels : ℕ) (depth : Depth) (stored : List ℤ) → All (FitsDepth (bits_of depth)) stored
     → HasFaded Flat channels (bits_of depth) stored stored
 itself channels depth stored fit = λ k below.
     sym (ap (quantized (bits_of depth)) (flat_share (full_scale (bits_of depth) (get_or stored k (pos 0))))
     ∙ same_depth depth (get_or stored k (pos 0)) (fit k (pos 0) below))
 
--- samples are the sums of the layer that they are
+-- the samples of a layer are its sums
 pub layer_sums : (reading : Reading) (file frame frames channels : ℕ) (depth : Depth) (stored : List ℤ)
     → Plays reading (filling file frame frames channels) channels (bits_of depth) stored
     → All (FitsDepth (bits_of depth)) stored → length stored ≡ frames * channels

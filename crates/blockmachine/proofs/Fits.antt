@@ -1,4 +1,4 @@
--- Samples that are handed out fit their depth.
+-- Emitted samples fit their depth.
 use Rattle.std.proofs.Common.{ℕ, zero, suc, All}
 use Rattle.std.specs.Prelude.{ℤ}
 use Rattle.std.proofs.lemmas.List.Elements.{All-append, All-cons, All-nil}
@@ -14,7 +14,7 @@ module _ (depth : Depth) (sums : ℕ → ℕ → ℤ) where
   fits_frame i c (suc n) =
       All-cons (FitsDepth (bits_of depth)) _ _ (fits_quantized depth (sums i c)) (fits_frame i (suc c) n)
 
-  -- so do all of a block
+  -- all samples of a block fit the depth
   pub fits_block : (channels i n : ℕ)
       → All (FitsDepth (bits_of depth)) (block_samples (bits_of depth) sums channels i n)
   fits_block channels i zero = All-nil (FitsDepth (bits_of depth))

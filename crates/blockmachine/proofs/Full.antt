@@ -1,4 +1,4 @@
--- What was read of a file lies inside full scale, part by part.
+-- Samples read from a file are within full scale, part by part.
 use Rattle.std.proofs.Common.{◌≡◌, ◌⊎◌, inl, inr, ℕ, ◌+◌, ◌-◌, ◌*◌, ◌^◌, ◌<◌, ◌≤◌, All, List, length, get_or, sym, subst, arith}
 use Rattle.std.specs.Prelude.{ℤ, pos, negsuc, neg_ℤ, ◌≤ℤ◌}
 use Rattle.std.proofs.lemmas.Bool.{cases_lt}
@@ -40,7 +40,7 @@ full_sample Sixteen z fits = full16 z fits
 full_sample TwentyFour z fits = full24 z fits
 full_sample ThirtyTwo z fits = full32 z fits
 
--- frames of samples of a depth
+-- all samples of a stretch
 pub full_frames : (reading : Reading) (part : Stretch) (channels : ℕ) (depth : Depth) (frames : List ℤ)
     → All (FitsDepth (bits_of depth)) frames → Plays reading part channels (bits_of depth) frames
     → length frames ≡ part.length * channels → 1 ≤ part.first → part.first + part.width ≤ channels + 1
@@ -51,7 +51,7 @@ full_frames reading part channels depth frames fit plays whole first last = λ j
     let within : k < length frames = omega arith in
     subst Within (plays i j below on) (full_sample depth (get_or frames k (pos 0)) (fit k (pos 0) within))
 
--- a part more
+-- one more part
 pub full_more : (reading : Reading) (stretch : Stretch) (done count : ℕ)
     → IsFull reading (record stretch { length = done })
     → IsFull reading (record stretch { at = stretch.at + done; length = count; frame = stretch.frame + done })

@@ -1,4 +1,4 @@
--- Frames of a file that a buffer holds as they are stored.
+-- Samples of a file that the buffer holds as stored.
 use Rattle.std.proofs.Common.{◌≡◌, ℕ, zero, suc, ◌+◌, ◌*◌, ◌/◌, ◌≤◌, List, [], ◌∷◌, Some, length, take, drop, get_or, refl, sym, ap, ◌∙◌, subst, arith}
 use Rattle.std.specs.Prelude.{pos, slice_get}
 use Rattle.std.proofs.Math.Nat.{mul-le-mul_left}
@@ -16,14 +16,14 @@ use Rattle.blockmachine.specs.Playing.{Plays}
 use Rattle.blockmachine.proofs.Full.{full_frames}
 use Rattle.blockmachine.proofs.Played.{plays_sound}
 
--- a sound that was read at the index of a stretch's file is the opened file
+-- the sound at the index of the stretch's file is the open file
 pub opened : (sounds : List SoundFacts) (part : Stretch)
     → LiesInFile sounds part.file part.first part.width part.frame part.length → (sound : SoundFacts)
     → sound ≡ get_or sounds part.file sound → slice_get sounds part.file ≡ Some sound
 opened sounds part lies sound is =
     slice_get_read sounds (length sounds) part.file sound refl (slice_get_within sounds part.file lies.facts lies.there) is
 
--- so the stretch lies in that
+-- the stretch is within this file
 pub lies_in : (sounds : List SoundFacts) (part : Stretch)
     → LiesInFile sounds part.file part.first part.width part.frame part.length → (sound : SoundFacts)
     → slice_get sounds part.file ≡ Some sound
@@ -32,7 +32,7 @@ lies_in sounds part lies sound found =
     subst (λ (f : SoundFacts). (part.first + part.width ≤ f.channels + 1) × (part.frame + part.length ≤ f.frames))
     (same_Some lies.facts sound (sym lies.there ∙ found)) (lies.channels, lies.frames)
 
--- the bytes of so many frames: there is room for them where there is for as many samples, each of up to four
+-- if n frames fit as samples, they fit as bytes, at up to four bytes per sample
 pub room_for : (facts : SoundFacts) (n samples bytes : ℕ) → n * facts.channels ≤ samples → samples * 4 ≤ bytes
     → n * frame_length facts ≤ bytes
 room_for facts n samples bytes few room =
@@ -45,14 +45,14 @@ pub bytes_of : (facts : SoundFacts) (n channels width : ℕ) → channels ≡ fa
 bytes_of facts n channels width alike wide =
     ap (λ m. n * m * width) alike ∙ ap (λ w. n * facts.channels * w) wide ∙ omega arith
 
--- the first of some bytes
+-- the first bytes of a list of bytes
 pub small_front : (n : ℕ) (bytes : List ℕ) → AreBytes bytes → AreBytes (take n bytes)
 small_front zero bytes small place = omega arith
 small_front (suc n) [] small place = omega arith
 small_front (suc n) (byte ∷ bytes) small zero = small 0
 small_front (suc n) (byte ∷ bytes) small (suc place) = small_front n bytes (λ k. small (suc k)) place
 
--- these bytes are the frames of a stretch, as they are stored
+-- the bytes are the stored samples of a stretch
 pub record AreRead (files : Files) (sounds : List SoundFacts) (facts : SoundFacts) (part : Stretch) (bytes : List ℕ)
     : Type 0 where
   pub there : slice_get sounds part.file ≡ Some facts
@@ -65,7 +65,7 @@ pub record AreRead (files : Files) (sounds : List SoundFacts) (facts : SoundFact
 module _ (files : Files) (sounds : List SoundFacts) (facts : SoundFacts) (part : Stretch) (bytes : List ℕ)
     (are : AreRead files sounds facts part bytes)
   where
-    -- their samples are what the part plays
+    -- these samples are the ones that the stretch plays
     pub held_plays : Plays (reading_by files sounds) part facts.channels (bits_of facts.depth)
         (samples_in (bits_of facts.depth) (part.length * facts.channels) bytes)
     held_plays =

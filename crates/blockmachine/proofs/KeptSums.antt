@@ -1,4 +1,4 @@
--- Sums that are kept at a depth are handed out as they are where none of them is clipped.
+-- Sums kept at a depth are emitted unchanged if none is clipped.
 use Rattle.std.proofs.Common.{◌≡◌, ◌-◌, ◌^◌, Bool, true, false, List, [], ◌∷◌, length, map, refl, arith}
 use Rattle.std.specs.Prelude.{ℤ, pos, neg_ℤ, int_lt, ◌||◌, ◌≤ℤ◌, ◌<ℤ◌}
 use Rattle.std.specs.List.{filter}
@@ -24,7 +24,7 @@ inside_31 : (r : ℤ) → (int_lt r (neg_ℤ (pos (2 ^ 31))) || int_lt (pos (2 ^
     → (neg_ℤ (pos (2 ^ 31)) ≤ℤ r) × (r <ℤ pos (2 ^ 31))
 inside_31 r inside = (grind (arith, ints, nat_tests), grind (arith, ints, nat_tests))
 
--- one that isn't clipped
+-- one sum that isn't clipped
 as_it_is : (depth : Depth) (s : ℤ) → is_clipped (bits_of depth) (full_scale (bits_of depth) s) ≡ false
     → quantized (bits_of depth) (full_scale (bits_of depth) s) ≡ s
 as_it_is Sixteen s inside =
@@ -40,7 +40,7 @@ as_it_is ThirtyTwo s inside =
     let within = inside_31 s (rw whole at inside) in
     rw whole (kept_inside 31 s within.0 within.1)
 
--- all of them
+-- all sums
 pub as_they_are : (depth : Depth) (sums : List ℤ)
     → length (filter (is_clipped (bits_of depth)) (at_full_scale (bits_of depth) sums)) ≡ 0
     → map (quantized (bits_of depth)) (at_full_scale (bits_of depth) sums) ≡ sums

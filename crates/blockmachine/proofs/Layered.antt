@@ -1,4 +1,4 @@
--- A layer of a block: one run of the sums that are kept at a depth.
+-- A layer of a block is one run of the sums.
 use Rattle.std.proofs.Common.{◌≡◌, ◌<◌, ◌≤◌, ℕ, List, ◌+◌, ◌-◌, ◌*◌, inr, All, drop, get_or, length, take, arith, refl, sym, ap, ◌∙◌, subst, length-take, length-drop}
 use Rattle.std.specs.Prelude.{ℤ, pos}
 use Rattle.std.proofs.lemmas.List.{length-map}
@@ -20,7 +20,7 @@ module _ (stretch : Stretch) (shape : Shape) (source most channels bits depth : 
     abbrev inside : FitsBlock most channels stretch
     inside = all.takes.inside
 
-    -- where its run of sums begins, and how long it is
+    -- the start and the length of the run
     abbrev from : ℕ
     from = stretch.at * channels
 

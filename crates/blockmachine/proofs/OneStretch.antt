@@ -1,4 +1,4 @@
--- A program that one stretch fills.
+-- Programs that consist of one stretch.
 use Rattle.std.proofs.Common.{◌≡◌, ◌≤◌, ℕ, ◌*◌, All, List, [], ◌∷◌, ◌++◌, refl, sym, ap, ◌∙◌, subst, arith}
 use Rattle.std.specs.Prelude.{Some, slice_get}
 use Rattle.std.proofs.lemmas.Option.{same_Some}
@@ -20,7 +20,7 @@ use Rattle.blockmachine.specs.Playing.{Plays}
 abbrev added : Stretch × Shape → Instruction
 added both = adding both.0 both.1
 
--- an instruction by what it adds
+-- an instruction from the stretch that it adds
 pub by_addition : (line : Instruction) (stretch : Stretch) (shape : Shape) → addition_of line ≡ Some (stretch, shape)
     → line ≡ adding stretch shape
 by_addition (Start frames) stretch shape is = cc
@@ -29,7 +29,7 @@ by_addition (Flat s) stretch shape is = ap added (same_Some (s, shapes.Flat) (st
 by_addition (Rise s offset den) stretch shape is = ap added (same_Some (s, shapes.Rise offset den) (stretch, shape) is)
 by_addition (Fall s offset den) stretch shape is = ap added (same_Some (s, shapes.Fall offset den) (stretch, shape) is)
 
--- what is formed fits its block, and has a ramp
+-- a well-formed instruction fits its block and has a ramp
 formed_by : (frames channels : ℕ) (stretch : Stretch) (shape : Shape) → IsFormed frames channels (adding stretch shape)
     → FitsBlock frames channels stretch × IsRamp shape stretch.length
 formed_by frames channels stretch shapes.Flat formed = formed
@@ -42,7 +42,7 @@ plays_full reading stretch shapes.Flat full = full
 plays_full reading stretch (shapes.Rise offset den) full = full
 plays_full reading stretch (shapes.Fall offset den) full = full
 
--- of one that fills a block alone there are samples
+-- a block that one stretch fills has samples
 pub record IsFormedAlone (shape : Shape) (frames channels : ℕ) : Type 0 where
   pub some_frames : 1 ≤ frames
   pub some_channels : 1 ≤ channels
@@ -64,7 +64,7 @@ formed_alone sounds frames channels depth program lines stretch shape fills bloc
       ramp = subst (IsRamp shape) long formed.1;
     }
 
--- one that fills a block alone does so whatever else is there, and in as many frames and channels
+-- filling a block doesn't depend on the other instructions, only on the numbers of frames and channels
 pub fills_as : (sounds : List SoundFacts) (frames channels most wide : ℕ) (depth : Depth) (lines : List Instruction)
     (stretch : Stretch) (shape : Shape) → frames ≡ most → channels ≡ wide
     → FillsAlone sounds frames channels depth lines stretch shape
@@ -78,7 +78,7 @@ fills_as sounds frames channels most wide depth lines stretch shape long broad f
   depth_alike = fills.depth_alike;
 }
 
--- what is read of one is played
+-- the samples read for the stretch are the samples that it plays
 pub played_alone : (reading : Reading) (sounds : List SoundFacts) (frames channels : ℕ) (depth : Depth)
     (lines : List Instruction) (stretch : Stretch) (shape : Shape) (bytes : List ℕ)
     → FillsAlone sounds frames channels depth lines stretch shape
@@ -96,7 +96,7 @@ played_alone reading sounds frames channels depth lines stretch shape bytes fill
     subst (λ (s : Stretch). Plays reading s channels (bits_of depth)
     (samples_in (bits_of depth) (frames * channels) bytes)) is played
 
--- this stretch alone is the program, and these bytes hold what it plays
+-- the program is exactly this stretch, and the bytes have its samples
 pub record IsFilled (reading : Reading) (stretch : Stretch) (shape : Shape) (frames channels : ℕ) (depth : Depth)
     (program : List Instruction) (bytes : List ℕ) : Type 0 where
   pub plays : Plays reading (filling stretch.file stretch.frame frames channels) channels (bits_of depth)

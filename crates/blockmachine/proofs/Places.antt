@@ -1,4 +1,4 @@
--- What stands where after a part of a list was written.
+-- Elements of a list after a part of it is overwritten.
 use Rattle.std.proofs.Common.{◌≡◌, ◌⊎◌, inl, inr, ℕ, ◌+◌, ◌-◌, ◌<◌, ◌≤◌, List, ◌++◌, length, take, drop, get_or, ap, ◌∙◌, arith, length-take}
 use Rattle.std.proofs.lemmas.List.{get_or_append_left, get_or-append_right, get_or-take, get_or-drop}
 use borrow.Rule.Slice.PartMut.{post_of, put_mid}

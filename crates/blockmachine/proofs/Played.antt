@@ -1,4 +1,4 @@
--- Frames that were read are what a stretch plays, and parts of a stretch are the whole of it.
+-- Samples read are the ones that a stretch plays, and the parts of a stretch make up the whole.
 use Rattle.std.proofs.Common.{◌≡◌, ◌⊎◌, inl, inr, ℕ, ◌+◌, ◌-◌, ◌*◌, ◌/◌, ◌<◌, ◌≤◌, Bool, true, false, List, Some, length, drop, refl, sym, ap, ◌∙◌, arith}
 use Rattle.std.specs.Prelude.{ℤ, ◌+ℤ◌, ◌&&◌, nat_le, nat_lt, if◌then◌else◌, slice_get}
 use Rattle.std.proofs.lemmas.Bool.{cases_lt}
@@ -23,7 +23,7 @@ pub device_of : (fault : ShelfFault) → (fault ≡ shelf.NotFound → ⊥) → 
 device_of shelf.NotFound other = absurd (other refl)
 device_of shelf.Device other = refl
 
--- a sample of an opened file
+-- a sample of an open file
 heard_sample : (files : Files) (sounds : List SoundFacts) (facts : SoundFacts) (n channel frame : ℕ) (file : List ℕ)
     → slice_get sounds n ≡ Some facts → files facts.name ≡ Some file → frame < facts.frames → 1 ≤ channel
     → channel ≤ facts.channels
@@ -60,7 +60,7 @@ front_of stretch done = record stretch { length = done }
 abbrev pub part_behind : Stretch → (done count : ℕ) → Stretch
 part_behind stretch done count = record stretch { at = stretch.at + done; length = count; frame = stretch.frame + done }
 
--- of two parts of a stretch one is on, and adds what the whole adds there
+-- at any time one of two parts of a stretch is active, and it adds the samples of the whole
 two_parts : (a b : Bool) (at done count i : ℕ) (x y old : ℤ) → (at + done ≤ i → y ≡ x)
     → (if a && (b && (nat_le (at + done) i && nat_lt i (at + done + count)))
     then held ((if a && (b && (nat_le at i && nat_lt i (at + done))) then held (old +ℤ x) else old) +ℤ y)
@@ -86,7 +86,7 @@ two_parts true true at done count i x y old same = by_place (cases_lt i (at + do
       let ends : at + done + count ≡ at + (done + count) = omega arith in
       rw (later, begun, here, ends, same behind) refl
 
--- a part more
+-- one more part
 pub part_more : (reading : Reading) (stretch : Stretch) (shape : Shape) (done count : ℕ) (before : ℕ → ℕ → ℤ) (i c : ℕ)
     → sums_with reading (part_behind stretch done count) (shape_behind done shape)
     (sums_with reading (front_of stretch done) shape before) i c

@@ -1,4 +1,4 @@
--- What a program does, line after line.
+-- The effect of a program, instruction by instruction.
 use Rattle.std.proofs.Common.{◌≡◌, ℕ, ◌+◌, ◌-◌, ◌<◌, ◌≤◌, List, All, [], ◌∷◌, ◌++◌, Some, length, take, drop, get_or, arith, length-append, sym, ap, ◌∙◌, subst}
 use Rattle.std.proofs.lemmas.List.{take_at, take_more}
 use Rattle.std.proofs.lemmas.List.Elements.{All-drop, All-take, All-weaker}
@@ -16,7 +16,7 @@ use Rattle.sound_terms.specs.Sounds.{SoundFacts}
 use Rattle.blockmachine.specs.Lines.{CanAdd}
 use Rattle.blockmachine.specs.Sums.{Extent}
 
--- what stands between the first instruction and the last one
+-- the instructions between the first and the last one
 pub between_ends : (program lines : List Instruction) (first last : Instruction)
     → program ≡ first ∷ (lines ++ last ∷ [])
     → take (length program - 1 - 1) (drop 1 program) ≡ lines
@@ -25,7 +25,7 @@ between_ends program lines first last whole =
     let count : length lines ≡ length (first ∷ (lines ++ last ∷ [])) - 1 - 1 = omega arith in
     rw whole (take_at lines (last ∷ []) _ count)
 
--- what fits a shorter block fits a longer one
+-- a stretch that fits a shorter block fits a longer one
 fits_longer : (n m channels : ℕ) → n ≤ m → (s : Stretch) → FitsBlock n channels s → FitsBlock m channels s
 fits_longer n m channels le s fits = record {
   some = fits.some;
@@ -46,7 +46,7 @@ formed_longer n m channels le (Rise s offset den) formed = (fits_longer n m chan
 formed_longer n m channels le (Fall s offset den) formed = (fits_longer n m channels le s formed.0, formed.1)
 formed_longer n m channels le (Emit depth) formed = formed
 
--- what is added is formed, and what is formed and lies in opened files is added
+-- instructions that can be added are well-formed; well-formed ones with sources in open files can be added
 pub added_formed : (sounds : List SoundFacts) (extent : Extent) (line : Instruction) → CanAdd sounds extent line
     → IsFormed extent.frames extent.channels line
 added_formed sounds extent (Start frames) can = can
@@ -63,7 +63,7 @@ can_add sounds extent (Rise s offset den) formed lies = record { inside = formed
 can_add sounds extent (Fall s offset den) formed lies = record { inside = formed.0; lies = lies; ramp = formed.1 }
 can_add sounds extent (Emit depth) formed lies = formed
 
--- what stands between the ends of a program for a shorter block, over opened files, is added
+-- the instructions of a program for a shorter block over open files can be added
 pub added_between : (sounds : List SoundFacts) (extent : Extent) (frames : ℕ) (depth : Depth)
     → (program lines : List Instruction) → frames ≤ extent.frames → IsBlockProgram frames extent.channels depth lines
     → program ≡ lines → All (LiesInFiles sounds) lines
@@ -80,7 +80,7 @@ added_between sounds extent frames depth program lines le block same inside =
     let lies = All-take (LiesInFiles sounds) (length program - 1 - 1) (drop 1 program) all in
     λ k d below. can_add sounds extent _ (formed k d below) (lies k d below)
 
--- a line adds what it plays
+-- an instruction adds its samples
 adds : (reading : Reading) (channels : ℕ) (line : Instruction) (s : Stretch) (shape : Shape) (state : BlockState)
     → addition_of line ≡ Some (s, shape)
     → sums_with reading s shape state.sums ≡ (executed reading channels line state).sums
@@ -95,7 +95,7 @@ adds reading channels (Fall t offset den) s shape state is =
     (sym (same_Some (t, shapes.Fall offset den) (s, shape) is))
 adds reading channels (Emit depth) s shape state is = absurd (cc)
 
--- and so the lines up to it
+-- the instructions up to and including it
 pub adds_more : (reading : Reading) (channels n : ℕ) (lines : List Instruction) (s : Stretch) (shape : Shape)
     (state : BlockState) → n < length lines → addition_of (get_or lines n (Start 0)) ≡ Some (s, shape)
     → sums_with reading s shape (executed_all reading channels (take n lines) state).sums

@@ -1,4 +1,4 @@
--- A shape, frame by frame.
+-- The gain of a shape, sample by sample.
 use Rattle.std.proofs.Common.{◌≡◌, ℕ, ◌+◌, Bool, refl, true, false, ◌∙◌, arith}
 use Rattle.sound_terms.specs.declared.piece.Shape.{Shape}
 use Rattle.sound_terms.specs.declared.piece.Shape.TheVariants.{Flat, Rise, Fall}
@@ -11,7 +11,7 @@ slope_fraction Flat i falls num den by at = rw (at.0, at.1, at.2) refl
 slope_fraction (Rise offset whole) i falls num den by at = rw (at.0, at.1, at.2) refl
 slope_fraction (Fall offset whole) i falls num den by at = rw (at.0, at.1, at.2) refl
 
--- a frame later
+-- one sample later
 pub slope_next : (shape : Shape) (i : ℕ) (falls later_falls : Bool) (num den by later later_den later_by : ℕ)
     → IsAt shape i falls num den by → later_falls ≡ falls → later ≡ num + by → later_den ≡ den → later_by ≡ by
     → IsAt shape (i + 1) later_falls later later_den later_by
@@ -22,7 +22,7 @@ slope_next (Rise offset whole) i falls later_falls num den by later later_den la
 slope_next (Fall offset whole) i falls later_falls num den by later later_den later_by at f n d b =
     (f ∙ at.0, omega (arith, n, at.1, at.3), d ∙ at.2, b ∙ at.3)
 
--- before its end it has a frame more
+-- there is one more sample before the end of the shape
 pub slope_more : (shape : Shape) (i : ℕ) (falls : Bool) (num den by : ℕ) → IsAt shape i falls num den by
     → IsRamp shape (i + 1) → HasFrame falls num den by
 slope_more Flat i falls num den by at ramp = record {

@@ -1,4 +1,4 @@
--- Samples, as they are stored, that are added to sums at their depth.
+-- Stored samples added to sums at their depth.
 use Rattle.std.proofs.Common.{◌≡◌, ◌<◌, ◌≤◌, ℕ, List, All, get_or, length, arith, refl, sym, ap, ◌∙◌, subst}
 use Rattle.std.specs.Prelude.{ℤ, pos}
 use Rattle.std.proofs.lemmas.Int.{ints}
@@ -21,7 +21,7 @@ module _ (depth : Depth) (sums samples : List ℤ) (shallow : bits_of depth ≤ 
         subst (IsWithin 254) (get_or-widened (bits_of depth) sums k inside)
         (small k (pos 0) (omega (arith, inside, length-map sums (full_scale (bits_of depth)))))
 
-    -- none leaves 32 bits
+    -- no sum exceeds 32 bits
     pub stored_room : All (FitsDepth 32) (summed sums samples)
     stored_room = λ k d below.
         let inside : k < length sums = omega (arith, below, length-summed sums samples) in

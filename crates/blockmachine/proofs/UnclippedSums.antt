@@ -1,4 +1,4 @@
--- Which sums of a block are clipped, by the samples that they are handed out as.
+-- Clipped sums as seen from the emitted samples.
 use Rattle.std.proofs.Common.{◌≡◌, ◌<◌, ◌-◌, ◌^◌, false, All, List, length, get_or, map, ap, ◌∙◌, subst, arith}
 use Rattle.std.specs.Prelude.{ℤ, pos, neg_ℤ, int_lt, ◌||◌}
 use Rattle.std.specs.Int.{saturate_to_bits}
@@ -12,7 +12,7 @@ use Rattle.sound_terms.specs.Mix.{quantized}
 use Rattle.clipping.specs.Clips.{is_clipped, rounded}
 use Rattle.blockmachine.specs.Clipped.{IsBetween}
 
--- what is held inside of a depth and reaches neither end lies inside
+-- a saturated value that is at neither end of the range was within the range
 inside_15 : (r : ℤ) → IsBetween 16 (saturate_to_bits 15 r)
     → (int_lt r (neg_ℤ (pos (2 ^ 15))) || int_lt (pos (2 ^ 15 - 1)) r) ≡ false
 inside_15 r between = grind (arith, ints, nat_tests)
@@ -31,7 +31,7 @@ not_clipped Sixteen sum between = inside_15 (rounded 16 sum) between
 not_clipped TwentyFour sum between = inside_23 (rounded 24 sum) between
 not_clipped ThirtyTwo sum between = inside_31 (rounded 32 sum) between
 
--- where no sample is at an end no sum is clipped
+-- if no sample is at an end of the range, no sum is clipped
 pub none_clipped : (depth : Depth) (sums samples : List ℤ) → samples ≡ map (quantized (bits_of depth)) sums
     → All (IsBetween (bits_of depth)) samples → All (λ sum. is_clipped (bits_of depth) sum ≡ false) sums
 none_clipped depth sums samples are between = λ k d below.

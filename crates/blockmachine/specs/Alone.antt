@@ -1,4 +1,4 @@
--- A block that one file fills alone.
+-- Blocks that one file fills.
 use Rattle.std.specs.Prelude.{◌≡◌, ℕ, ◌*◌, ◌/◌, ◌≤◌, List, [], ◌∷◌, Some, slice_get}
 use Rattle.sound_terms.specs.declared.Depth.{Depth}
 use Rattle.sound_terms.specs.declared.block.Stretch.{Stretch}
@@ -13,7 +13,7 @@ use Rattle.sound_terms.specs.Sounds.{SoundFacts}
 use Rattle.blockmachine.specs.Lines.{PlaysWithin}
 use Rattle.blockmachine.specs.Sums.{Extent}
 
--- so many frames of a file, from this one on, on as many channels from the first on
+-- the stretch of a file from this sample on that fills `frames` sample frames, on channels from 1 on
 abbrev pub filling : (file frame frames channels : ℕ) → Stretch
 filling file frame frames channels = record {
   at = 0;
@@ -25,7 +25,7 @@ filling file frame frames channels = record {
   width = channels;
 }
 
--- nothing but this stretch is added, under this shape: so many frames, with all channels of a file of this depth
+-- exactly this stretch is added, under this shape, and it fills the block with all channels of a file of this depth
 pub record FillsAlone (sounds : List SoundFacts) (frames channels : ℕ) (depth : Depth) (lines : List Instruction)
     (stretch : Stretch) (shape : Shape) : Type 0 where
   pub alone : lines ≡ adding stretch shape ∷ []
@@ -35,14 +35,14 @@ pub record FillsAlone (sounds : List SoundFacts) (frames channels : ℕ) (depth 
   pub channels_alike : facts.channels ≡ channels
   pub depth_alike : facts.depth ≡ depth
 
--- this stretch fills a block of this depth as it is, and has room in so many bytes
+-- the stretch fills a block of this depth unchanged, and its stored samples fit in `bytes` bytes
 pub record CanFill (sounds : List SoundFacts) (extent : Extent) (depth : Depth) (stretch : Stretch) (bytes : ℕ)
     : Type 0 where
   pub fills : FillsAlone sounds extent.frames extent.channels depth (adding stretch Flat ∷ []) stretch Flat
   pub lies : LiesInFile sounds stretch.file stretch.first stretch.width stretch.frame stretch.length
   pub room : extent.frames * extent.channels * (bits_of depth / 8) ≤ bytes
 
--- a program of so many frames of a format, over files that hold all that it plays, and room for their bytes
+-- a program of `frames` sample frames whose sources are all within their files, and room for its stored output
 pub record CanCopy (sounds : List SoundFacts) (frames : ℕ) (format : Format) (program : Programmed) (room : ℕ)
     : Type 0 where
   pub formed : IsBlockProgram frames format.channels format.depth program.lines

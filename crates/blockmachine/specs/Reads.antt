@@ -1,4 +1,4 @@
--- What is read of files, and what a buffer holds of it.
+-- Reads of files into buffers.
 use Rattle.std.specs.Prelude.{◌≡◌, ℕ, ◌*◌, ◌/◌, ◌≤◌, Bool, List, Option, Some, length, slice_get}
 use Rattle.work_terms.specs.Disk.{Files}
 use Rattle.sound_terms.specs.declared.block.Stretch.{Stretch}
@@ -11,26 +11,26 @@ use Rattle.blockmachine.specs.Holding.{Holds}
 use Rattle.blockmachine.specs.Lines.{CanPlay}
 use Rattle.blockmachine.specs.Sums.{Extent}
 
--- the stretch lies in an opened file, and so many bytes are those of its frames
+-- the stretch is within an open file, and its stored samples are exactly `bytes` bytes long
 pub record IsRead (sounds : List SoundFacts) (stretch : Stretch) (bytes : ℕ) : Type 0 where
   pub lies : LiesInFile sounds stretch.file stretch.first stretch.width stretch.frame stretch.length
   pub first : 1 ≤ stretch.first
   pub whole : (facts : SoundFacts) → slice_get sounds stretch.file ≡ Some facts
       → bytes ≡ stretch.length * facts.channels * (bits_of facts.depth / 8)
 
--- it lies in one, and its frames have room in these bytes
+-- the stretch is within an open file, and its stored samples fit in the bytes
 pub record HasRoom (sounds : List SoundFacts) (part : Stretch) (bytes : List ℕ) : Type 0 where
   pub lies : LiesInFile sounds part.file part.first part.width part.frame part.length
   pub room : (facts : SoundFacts) → slice_get sounds part.file ≡ Some facts
       → part.length * frame_length facts ≤ length bytes
 
--- it can be played under a shape, and what a buffer holds so far is known
+-- the stretch can be played under the shape, and the content of the buffer is known
 pub record IsReady (honest : Bool) (files : Files) (sounds : List SoundFacts) (extent : Extent) (stretch : Stretch)
     (shape : Shape) (now : Option Held) (bytes : List ℕ) : Type 0 where
   pub plays : CanPlay sounds extent stretch shape
   pub held : Holds honest files sounds now bytes
 
--- so it can, and its frames are so few that there is room for them, as samples and as bytes
+-- in addition, the stretch is short enough for one read, as samples and as bytes
 pub record IsPart (honest : Bool) (files : Files) (sounds : List SoundFacts) (extent : Extent) (part : Stretch)
     (shape : Shape) (now : Option Held) (bytes : List ℕ) (samples : ℕ) : Type 0 where
   pub ready : IsReady honest files sounds extent part shape now bytes

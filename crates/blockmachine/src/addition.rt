@@ -1,4 +1,4 @@
-// Frames of a stretch, added to sums.
+// Addition of a stretch's samples to the sums of a block.
 ghost use Rattle.std.specs.Prelude.{if◌then◌else◌, IsTrue, true, ◌≡◌, ◌<◌, ◌≤◌, pos, length, slice_index_or};
 ghost use Rattle.sound_terms.specs.declared.piece.Shape.TheVariants as shape;
 ghost use Rattle.sound_terms.specs.Depth.{bits_of};
@@ -11,7 +11,7 @@ use crate::slope::Slope;
 use sound_terms::{Depth, Shape};
 use soundlaw::{Gain, Scale, added, two_added};
 
-/// Sample k of these at full scale.
+/// Sample `k` of the row at full scale.
 #[inline(always)]
 fn full_sample(row: &Row, k: usize) -> i64
     requires { k < length row.now.samples.now }
@@ -21,7 +21,8 @@ fn full_sample(row: &Row, k: usize) -> i64
     row.scale.widen(row.samples[k])
 }
 
-/// Adds samples to small sums two at a time, as long as two are left; gives how many it added.
+/// Adds samples to small sums in pairs, as far as there are pairs. Returns the number of samples
+/// added.
 #[inline(always)]
 fn add_lanes(row: &Row, sums: &mut [i64]) -> usize
     requires { TakeSamples (length row.now.samples.now) 32766 true sums.old sums.old }
@@ -40,7 +41,7 @@ fn add_lanes(row: &Row, sums: &mut [i64]) -> usize
     done
 }
 
-/// Adds samples to as many sums: small ones in lanes as far as that goes, and then one by one.
+/// Adds one sample to each sum: to small sums in pairs first, then one by one.
 #[inline(always)]
 fn add_flat(row: &Row, is_small: bool, sums: &mut [i64])
     requires { TakeSamples (length row.now.samples.now) 32766 is_small sums.old sums.old }
@@ -53,7 +54,7 @@ fn add_flat(row: &Row, is_small: bool, sums: &mut [i64])
     }
 }
 
-/// Adds the shares of samples to as many sums.
+/// Adds a share of one sample to each sum.
 #[inline(always)]
 fn add_shares(gain: Gain, row: &Row, is_small: bool, sums: &mut [i64])
     requires { TakeSamples (length row.now.samples.now) 32766 is_small sums.old sums.old }
@@ -67,7 +68,7 @@ fn add_shares(gain: Gain, row: &Row, is_small: bool, sums: &mut [i64])
     }
 }
 
-/// Adds the samples of a frame as they are, or the shares of them.
+/// Adds the samples of one sample frame, unchanged or faded.
 #[inline(always)]
 fn add_row(gain: Gain, row: &Row, is_flat: bool, is_small: bool, sums: &mut [i64])
     requires { TakeSamples (length row.now.samples.now) 32766 is_small sums.old sums.old }
@@ -81,7 +82,7 @@ fn add_row(gain: Gain, row: &Row, is_flat: bool, is_small: bool, sums: &mut [i64
     }
 }
 
-/// Adds a stretch frame by frame, one without a fade as it is.
+/// Adds a stretch one sample frame at a time, with or without a fade.
 #[inline(always)]
 fn add_rows(
     played: &Played,
@@ -111,7 +112,8 @@ fn add_rows(
     }
 }
 
-/// Whether a stretch plays all channels of its file on all channels there are, as they are.
+/// Returns whether a stretch plays all channels of its file on all channels of the block, in order
+/// and unfaded.
 pub fn is_run(played: &Played, channels: usize) -> bool
     ensures { IsTrue result → (played.now.shape ≡ shape.Flat) × (played.now.stretch.width ≡ channels)
         × (played.now.frames.channels ≡ channels) }
@@ -120,7 +122,7 @@ pub fn is_run(played: &Played, channels: usize) -> bool
     played.shape == Shape::Flat && width == channels && played.frames.channels == channels
 }
 
-/// Adds a stretch frame by frame to small sums. One or two channels have loops of their own.
+/// Adds a stretch to small sums. Specialised for one and two channels.
 #[inline(always)]
 fn add_by_width(played: &Played, lanes: Lanes, is_flat: bool, sums: &mut [i64])
     requires { TakeRows lanes.frames lanes.channels is_flat true played.now.stretch.width played.now.stretch
@@ -136,7 +138,7 @@ fn add_by_width(played: &Played, lanes: Lanes, is_flat: bool, sums: &mut [i64])
     }
 }
 
-/// Adds samples to as many small sums. Each depth has loops of its own.
+/// Adds one sample to each small sum. Specialised by bit depth.
 #[inline(always)]
 fn add_run(frames: &Frames, sums: &mut [i64])
     requires { TakeSamples (length frames.now.samples.now) 32766 true sums.old sums.old }
@@ -159,7 +161,8 @@ fn add_run(frames: &Frames, sums: &mut [i64])
     }
 }
 
-/// Adds a stretch to small sums: as one run where it is one. Each kind of shape has loops of its own.
+/// Adds a stretch to small sums, in one pass if it covers all channels. Specialised by kind of
+/// fade.
 #[inline(always)]
 fn add_small(played: &Played, lanes: Lanes, sums: &mut [i64])
     requires { TakeStretch lanes.frames lanes.channels 32766 true played.now.stretch sums.old sums.old }
@@ -182,7 +185,7 @@ fn add_small(played: &Played, lanes: Lanes, sums: &mut [i64])
     }
 }
 
-/// Adds what a stretch plays to the sums of a block. Only to small ones is it done in a quick way.
+/// Adds the samples of a stretch to the sums of a block; uses the fast loops if the sums are small.
 pub fn add_played(played: &Played, lanes: Lanes, is_small: bool, sums: &mut [i64])
     requires { TakeStretch lanes.frames lanes.channels 32766 is_small played.now.stretch sums.old sums.old }
     ensures { HasPlayed played.now.stretch played.now.shape played.now.frames.channels

@@ -1,11 +1,11 @@
-// How many stretches were added to the samples of a block.
+// Upper bound of the number of stretches added to any sample of a block.
 ghost use Rattle.std.specs.Prelude.{◌≡◌, ◌+◌, ◌^◌, ◌<◌};
 ghost use Rattle.blockmachine.specs.Sums.{Counts, few_additions};
 
 use sound_terms::Stretch;
 
-/// The most stretches that were added at one frame, and the frame from which on there is one fewer. A layer that comes in
-/// parts, one after the other, counts once.
+/// The maximum number of stretches added at any sample frame, and the frame from which on it is one
+/// less. A layer that is added in consecutive parts counts once.
 #[derive(Clone, Copy, Drop)]
 pub struct Additions {
     pub most: u32,
@@ -13,7 +13,7 @@ pub struct Additions {
 }
 
 impl Additions {
-    /// With a stretch more.
+    /// Returns the bound after one more stretch is added.
     pub fn with(self, stretch: &Stretch) -> Self
         requires inside { stretch.now.at + stretch.now.length < 2 ^ 32 }
         ensures from { result.fewer_from ≡ stretch.now.at + stretch.now.length }

@@ -1,4 +1,4 @@
-// Blocks that one file fills as it is.
+// Fast path for blocks that one file fills unchanged; equal to `Machine::store_lines`.
 ghost use Rattle.std.specs.Prelude.{◌≡◌, IfErr, IfOk, IfSome, IsTrue, length};
 ghost use Rattle.std.specs.List.{All, flat_map};
 ghost use Rattle.clipping.specs.Clips.{IsClippingOf, block_sums};
@@ -18,8 +18,9 @@ use devices::Shelf;
 use sound_terms::{Format, Instruction, Program, Shape, Stretch};
 use wavread::Sound;
 
-/// The stretch that alone fills a block of so many frames, with all channels of a file of this format, and its shape.
-/// `None` where more is to be done.
+/// Returns the stretch and the shape of the only instruction, if that stretch fills a block of
+/// `frames` sample frames with all channels of a file of the given format. Returns `None`
+/// otherwise.
 pub(crate) fn fills_alone(
     lines: &[Instruction],
     frames: u32,
@@ -51,9 +52,10 @@ pub(crate) fn fills_alone(
     Some((filling, shape))
 }
 
-/// Writes what a program hands out, so many frames, over `bytes` as a file of this format stores them, where one file
-/// fills them as it is: they are read to where they go, and nothing is clipped. There may be more frames than a machine
-/// has room for. `None` where more is to be done. `Source` where the read fails; what was written is then unspecified.
+/// Writes the output of a program, `frames` sample frames, to `bytes` in the encoding of `format`,
+/// if one file fills it unchanged: the samples are read straight into `bytes`, and none is clipped.
+/// `frames` may exceed the capacity of a machine. Returns `None` if the program needs more than
+/// that, and `MachineFault::Source` if the read fails; the content of `bytes` is then unspecified.
 pub fn copy_alone<S: Shelf>(
     program: &Program,
     frames: u32,

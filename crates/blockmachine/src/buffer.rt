@@ -1,15 +1,16 @@
-// Room for what is read of files.
+// Buffers for data read from files.
 ghost use Rattle.std.specs.Prelude.{◌≡◌, length};
 
 use std::alloc::{AllocError, Global};
 
-/// How many samples are read at once, of all channels of a file.
+/// Samples per read, over all channels of a file.
 pub const SAMPLES: usize = 16_384;
 
-/// The bytes of so many samples, of 32 bits at most.
+/// Bytes for a full read at 32 bits per sample.
 const BYTES: usize = 4 * SAMPLES;
 
-/// Frames of one of the sounds that were opened: so many from this one on, with all channels.
+/// Consecutive sample frames of an open file, with all channels: the file's index, the first frame
+/// and the number.
 #[derive(Clone, Copy, Debug, PartialEq, Eq)]
 pub struct Held {
     pub file: u32,
@@ -17,7 +18,8 @@ pub struct Held {
     pub length: u32,
 }
 
-/// Room for what is read of a file at once, as it is stored and unpacked, and which frames its bytes begin with.
+/// Buffers for one read, as stored bytes and as samples, and the range of the file that the bytes
+/// begin with.
 #[derive(Drop)]
 pub struct Buffer {
     pub bytes: Vec<u8>,
@@ -28,7 +30,7 @@ pub struct Buffer {
 }
 
 impl Buffer {
-    /// Takes the room.
+    /// Allocates the buffers. Returns `AllocError` if out of memory.
     pub fn new(alloc: Global) -> Result<Self, AllocError> {
         let mut bytes = Vec::new(alloc);
         bytes.resize(BYTES, 0)?;

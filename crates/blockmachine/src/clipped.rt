@@ -1,4 +1,4 @@
-// What is clipped of the sums of a block.
+// Detection of clipped sums in a block.
 ghost use Rattle.std.specs.Prelude.{◌≡◌, ◌*◌, ◌<◌, ◌≤ℤ◌, pos, false, slice_index_or};
 ghost use Rattle.std.specs.List.{All};
 ghost use Rattle.sound_terms.specs.Depth.{bits_of};
@@ -10,7 +10,7 @@ use clipping::Clips;
 use sound_terms::Depth;
 use soundlaw::widen;
 
-/// The least and the greatest of these samples.
+/// The minimum and the maximum of the samples.
 fn bounds_of(samples: &[i32]) -> (i32, i32)
     ensures { All (λ sample. (result.0 ≤ℤ sample) × (sample ≤ℤ result.1)) samples.now }
 {
@@ -23,7 +23,7 @@ fn bounds_of(samples: &[i32]) -> (i32, i32)
     (least, greatest)
 }
 
-/// Whether one of these samples is the least or the greatest of the depth, as each clipped one is.
+/// Whether a sample is at either end of the range, as every clipped sample is.
 fn may_be_clipped(samples: &[i32], depth: Depth) -> bool
     ensures { result ≡ false → All (IsBetween (bits_of depth)) samples.now }
 {
@@ -36,7 +36,7 @@ fn may_be_clipped(samples: &[i32], depth: Depth) -> bool
 }
 
 impl Sums {
-    /// The sum of this index at full scale.
+    /// The sum at index `k`, at full scale.
     fn sum_at(&self, k: usize) -> i64
         requires { k < self.now.extent.frames * self.now.extent.channels }
         ensures { result ≡ slice_index_or self.now.values k (pos 0) }
@@ -48,8 +48,8 @@ impl Sums {
         }
     }
 
-    /// What is clipped of the first sums, which were handed out at this depth as these samples: one by one, wherever they
-    /// are kept.
+    /// Returns which of the first sums were clipped when they were emitted as `samples`. Checks
+    /// each sum, in either form of storage, if a sample is at an end of the range.
     pub(crate) fn clips_one_by_one(&self, depth: Depth, samples: &[i32]) -> Clips
         requires { FillFrames self.now.extent samples.now }
         ensures { TellsClips depth self.now samples.now result }

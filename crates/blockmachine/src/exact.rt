@@ -1,4 +1,4 @@
-// The exact sums of a block, before any rounding.
+// Exact sums of a block, before any rounding.
 ghost use Rattle.std.specs.Prelude.{◌≡◌, ◌*◌, ℕ, ℤ, IsTrue, IfErr, OnOk, length};
 ghost use Rattle.std.specs.List.{All};
 ghost use Rattle.sound_terms.specs.declared.Depth as declared;
@@ -19,7 +19,7 @@ use sound_terms::Program;
 use wavread::Sound;
 
 impl Sums {
-    /// Hands out the first sums at full scale, as many as there is room for.
+    /// Writes the first sums at full scale, as many as fit in `out`.
     fn put(&self, out: &mut [i64])
         requires { FillFrames self.now.extent out.old }
         ensures { (all : ℕ → ℕ → ℤ) → AreSums self.now all → (frames : ℕ)
@@ -37,9 +37,10 @@ impl Sums {
 }
 
 impl Machine {
-    /// Runs the program of a block over sounds that were opened, and writes its exact sums over `out`, at full scale
-    /// (48 bits), neither rounded nor clipped, frame by frame. It takes no memory. `Source` where a read fails; what was
-    /// written is then unspecified, and the machine as ready as before.
+    /// Runs the program of a block over open sounds and writes its exact sums to `out`: at full
+    /// scale (48 bits), interleaved, neither rounded nor clipped. Allocates nothing. Returns
+    /// `MachineFault::Source` if a read fails; `out` is then unspecified, and the machine can be
+    /// used again.
     pub fn sum<S: Shelf>(
         &mut self,
         program: &Program,

@@ -1,4 +1,4 @@
-// Blocks that one file fills under a fade.
+// Fast path for blocks that one file fills, faded or unchanged; equal to `Machine::store_lines`.
 ghost use Rattle.std.specs.Prelude.{◌≡◌, ◌*◌, IfErr, IfOk, IfSome, IsTrue, length};
 ghost use Rattle.std.specs.List.{All, flat_map};
 ghost use Rattle.clipping.specs.Clips.{IsClippingOf, block_sums};
@@ -23,7 +23,7 @@ use sound_terms::{Depth, Format, Program, Shape};
 use soundlaw::Gain;
 use wavread::Sound;
 
-/// Each sample of a frame becomes its share, rounded to its depth.
+/// Applies a gain to each sample of a sample frame and rounds to the bit depth.
 #[inline(always)]
 fn fade_frame(gain: Gain, depth: Depth, samples: &mut [i32])
     requires { All (FitsDepth (bits_of depth)) samples.old }
@@ -34,7 +34,7 @@ fn fade_frame(gain: Gain, depth: Depth, samples: &mut [i32])
     }
 }
 
-/// The samples of so many frames become their shares under a shape, from its first frame on.
+/// Applies a fade to `frames` sample frames in place, starting at the fade's first sample.
 #[inline(always)]
 fn fade_frames(shape: Shape, depth: Depth, frames: usize, channels: usize, samples: &mut [i32])
     requires { AreFrames shape (bits_of depth) frames channels samples.old }
@@ -48,7 +48,7 @@ fn fade_frames(shape: Shape, depth: Depth, frames: usize, channels: usize, sampl
     }
 }
 
-/// The same. One and two channels have loops of their own.
+/// Specialised for one and two channels; otherwise like `fade_frames`.
 #[inline(always)]
 fn fade_by_width(shape: Shape, format: Format, frames: usize, samples: &mut [i32])
     requires { AreFrames shape (bits_of format.depth) frames format.channels samples.old }
@@ -62,13 +62,14 @@ fn fade_by_width(shape: Shape, format: Format, frames: usize, samples: &mut [i32
     }
 }
 
-/// The same. What rises and what falls have loops of their own, which needn't ask in each frame which it is.
+/// Specialised for fade-in and fade-out, so that no loop checks the kind of fade; otherwise like
+/// `fade_by_width`.
 fn fade(shape: Shape, format: Format, frames: usize, samples: &mut [i32])
     requires { AreFrames shape (bits_of format.depth) frames format.channels samples.old }
     ensures { HasFaded shape format.channels (bits_of format.depth) samples.old samples.new }
 {
     match shape {
-        // Built anew, or the compiler makes one loop of all.
+        // Rebuilt in each arm, or else the compiler merges the loops into one.
         Shape::Rise { offset, den } => fade_by_width(
             Shape::Rise { offset, den },
             format,
@@ -85,9 +86,9 @@ fn fade(shape: Shape, format: Format, frames: usize, samples: &mut [i32])
     }
 }
 
-/// Writes what a program hands out, as `copy_alone` does, where one file fills all of its frames under any shape.
-/// `samples` has room for them; nothing is clipped of what is no louder than a file's samples. `None` where more is to
-/// be done. `Source` where the read fails; what was written is then unspecified.
+/// Writes the output of a program to `bytes`, like `copy_alone`, if one file fills it under any
+/// shape. `samples` has room for the output. Nothing is clipped, since fading can't exceed the
+/// file's own samples.
 fn fade_alone<S: Shelf>(
     program: &Program,
     frames: u32,
@@ -124,7 +125,10 @@ fn fade_alone<S: Shelf>(
     Ok(Some(Clips::none()))
 }
 
-/// The same, where one file fills all of its frames as it is or under a fade: as it is, it is read to where it goes.
+/// Writes the output of a program to `bytes` in the encoding of `format`, if one file fills it
+/// unchanged (read straight into `bytes`) or faded (through `samples`). Returns `None` if the
+/// program needs more than that, and `MachineFault::Source` if the read fails; the content of
+/// `bytes` is then unspecified.
 pub fn play_alone<S: Shelf>(
     program: &Program,
     frames: u32,

@@ -1,23 +1,23 @@
-// Why a machine fails.
+// Errors of a machine.
 ghost use Rattle.std.specs.Prelude.{◌≡◌};
 ghost use Rattle.blockmachine.specs.Fault.{number_of};
 
 use std::alloc::AllocError;
 use thiserror::Error;
 
-/// Why a machine isn't made, or a block isn't handed out.
+/// Error of creating a machine or of running a block.
 #[derive(Clone, Copy, Debug, PartialEq, Eq, Error)]
 pub enum MachineFault {
-    /// 57
+    /// Out of memory (refusal 57).
     #[error("out of memory")]
     Memory,
-    /// 22: the sound of this place among those opened can't be read.
+    /// The open sound at index `file` can't be read (refusal 22).
     #[error("sound {file} can't be read")]
     Source { file: u32 },
 }
 
 impl MachineFault {
-    /// The number of the refusal.
+    /// Returns the refusal number.
     pub fn number(&self) -> u8
         ensures { result ≡ number_of self.now }
     {

@@ -1,4 +1,5 @@
-// The first layer of a block, in place of its sums.
+// Fast path for the first instruction of a block, read straight into the sums; equal to
+// `Sums::clear` and `add_stretch`.
 ghost use Rattle.std.specs.Prelude.{◌≡◌, ◌*◌, ◌≤◌, ℕ, pos, List, None, IsTrue, IfErr, IfOk, IfSome, OnOk, length, take};
 ghost use Rattle.std.specs.List.{All};
 ghost use Rattle.devices.specs.Frame.{OnlyReads};
@@ -20,8 +21,8 @@ use devices::Shelf;
 use sound_terms::{Depth, Format, Instruction, Shape, Stretch};
 use wavread::Sound;
 
-/// The stretch of the first of these instructions, where it fills a block of this depth as it is and can be read at
-/// once.
+/// The stretch of the first instruction, if it fills the block unchanged at the block's depth and
+/// fits in one read.
 fn first_layer(
     lines: &[Instruction],
     depth: Depth,
@@ -46,7 +47,7 @@ fn first_layer(
     }
 }
 
-/// Reads a stretch that fills a block of this depth as it is, as its sums. There is room for its bytes.
+/// Reads a stretch that fills the block unchanged and makes it the sums.
 fn read_layer<S: Shelf>(
     stretch: &Stretch,
     depth: Depth,
@@ -73,8 +74,9 @@ fn read_layer<S: Shelf>(
     Ok(())
 }
 
-/// Begins the sums of a block of this depth: with the first of these instructions, where it fills the block as it is,
-/// and else with zeros. How many of the instructions are in the sums is returned.
+/// Starts the sums of a block at the given depth: with the first instruction, if it fills the block
+/// unchanged, otherwise with zeros. Returns the number of instructions already summed, 0 or 1, or
+/// `MachineFault::Source` if the read fails.
 pub fn begin_sums<S: Shelf>(
     lines: &[Instruction],
     depth: Depth,

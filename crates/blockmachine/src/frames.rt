@@ -1,4 +1,4 @@
-// Frames of files, as they were read.
+// Samples read from files, and the layout of a block.
 ghost use Rattle.std.specs.Prelude.{◌≡◌, ◌+◌, ◌*◌, ◌/◌, ◌≤◌, length};
 ghost use Rattle.std.specs.List.{All};
 ghost use Rattle.sound_terms.specs.Depth.{bits_of};
@@ -10,7 +10,7 @@ ghost use Rattle.blockmachine.specs.Playing.{IsRamp-prop};
 use sound_terms::{Depth, Shape, Stretch};
 use soundlaw::Scale;
 
-/// How the sums of a block lie one behind the other: those of its first frame, channel by channel, then of the second.
+/// The layout of the sums of a block: interleaved, one sample frame after another.
 #[derive(Clone, Copy, Drop)]
 pub struct Lanes {
     pub frames: usize,
@@ -20,7 +20,7 @@ pub struct Lanes {
     ghost few_channels: { channels ≤ 64 },
 }
 
-/// Samples, one behind the other, with what takes them to full scale.
+/// Consecutive samples, with the scale that converts them to full scale.
 #[derive(Clone, Copy)]
 pub struct Row<'a> {
     pub samples: &'a [i32],
@@ -28,7 +28,7 @@ pub struct Row<'a> {
     ghost fit: { All (FitsDepth (bits_of scale.depth)) samples.now },
 }
 
-/// Frames of a file: the samples of each of its channels in turn.
+/// Interleaved samples of a file.
 #[derive(Clone, Copy)]
 pub struct Frames<'a> {
     pub samples: &'a [i32],
@@ -37,7 +37,7 @@ pub struct Frames<'a> {
     ghost fit: { All (FitsDepth (bits_of depth)) samples.now },
 }
 
-/// A stretch and the frames that it plays, with the shape that they are added under.
+/// A stretch with its samples and the shape under which they are added.
 #[derive(Clone, Copy)]
 pub struct Played<'a> {
     pub stretch: Stretch,
@@ -48,8 +48,7 @@ pub struct Played<'a> {
     ghost ramp: { IsRamp shape stretch.length } by { IsRamp-prop shape stretch.length },
 }
 
-/// A stretch and the bytes of the frames that it plays, as they stand in their file, with the shape that they are added
-/// under.
+/// A stretch with its samples as stored in the file, and the shape under which they are added.
 #[derive(Clone, Copy)]
 pub struct Stored<'a> {
     pub stretch: Stretch,

@@ -1,4 +1,4 @@
-// Sums at the depth of their block, of samples that are no deeper and that nothing fades: 32 bits have room for them.
+// Sums in 32 bits, at the depth of their block, for unfaded samples of no greater depth.
 ghost use Rattle.std.specs.Prelude.{IsTrue, true, ◌≡◌, ◌*◌, ◌≤◌, ◌+ℤ◌, length};
 ghost use Rattle.std.specs.List.{All};
 ghost use Rattle.sound_terms.specs.Depth.{bits_of};
@@ -13,10 +13,11 @@ use pcm::add_unpacked;
 use sound_terms::{Depth, Shape};
 use soundlaw::{Scale, finish, widen};
 
-/// So many samples of 24 bits have a sum in 32 bits.
+/// The number of 24-bit samples whose sum fits in 32 bits.
 pub const FEW_LAYERS: u32 = 255;
 
-/// Samples that are taken to the depth of a block, which is no less than their own, and is 16 or 24 bits.
+/// Samples to be converted to the depth of a block, 16 or 24 bits, which is at least their own
+/// depth.
 #[derive(Clone, Copy)]
 struct Layer<'a> {
     frames: Frames<'a>,
@@ -25,8 +26,8 @@ struct Layer<'a> {
     ghost shallow: { bits_of depth ≤ 24 },
 }
 
-/// Whether a stretch plays all channels of its file on all channels there are, as they are, at no more than this depth,
-/// which is 16 or 24 bits.
+/// Returns whether a stretch plays all channels of its file on all channels of the block, in order
+/// and unfaded, at no more than the block's depth, which must be 16 or 24 bits.
 pub fn is_layer(played: &Played, channels: usize, depth: Depth) -> bool
     ensures { IsTrue result → IsLayer played.now.stretch played.now.shape played.now.frames.channels channels
         (bits_of played.now.frames.depth) (bits_of depth) }
@@ -35,7 +36,7 @@ pub fn is_layer(played: &Played, channels: usize, depth: Depth) -> bool
     is_run(played, channels) && source.bits() <= depth.bits() && depth.bits() <= 24
 }
 
-/// A sample of these at the depth of the block.
+/// A sample at the depth of the block.
 #[inline(always)]
 fn at_depth(layer: &Layer, sample: i32) -> i32
     requires { FitsDepth (bits_of layer.now.frames.depth) sample }
@@ -49,7 +50,7 @@ fn at_depth(layer: &Layer, sample: i32) -> i32
     }
 }
 
-/// A sum of few samples, and a sample more.
+/// Adds a sample to a sum of few samples.
 #[inline(always)]
 fn layered(layer: &Layer, sum: i32, sample: i32) -> i32
     requires { TakeSample (bits_of layer.now.frames.depth) (bits_of layer.now.depth) sum sample }
@@ -59,7 +60,7 @@ fn layered(layer: &Layer, sum: i32, sample: i32) -> i32
     sum + at_depth(layer, sample)
 }
 
-/// Adds samples to as many sums.
+/// Adds one sample to each sum.
 #[inline(always)]
 fn add_samples(layer: &Layer, sums: &mut [i32])
     requires { TakeSamples (length layer.now.frames.samples.now) 254 true sums.old
@@ -72,7 +73,7 @@ fn add_samples(layer: &Layer, sums: &mut [i32])
     }
 }
 
-/// Adds what a stretch plays, a layer of the block, to sums of few samples.
+/// Adds a stretch that is a layer of the block to sums of few samples.
 pub fn add_layer(played: &Played, lanes: Lanes, depth: Depth, sums: &mut [i32])
     requires { TakeLayer lanes.frames lanes.channels played.now.stretch played.now.shape played.now.frames.channels
         (bits_of played.now.frames.depth) (bits_of depth) sums.old }
@@ -91,8 +92,8 @@ pub fn add_layer(played: &Played, lanes: Lanes, depth: Depth, sums: &mut [i32])
     add_samples(&layer, run);
 }
 
-/// Whether a stretch plays all channels of its file on all channels there are, as they are, at this very depth, which is
-/// 16 or 24 bits.
+/// Returns whether a stored stretch plays all channels of its file on all channels of the block, in
+/// order and unfaded, at exactly the block's depth, which must be 16 or 24 bits.
 pub fn is_stored_layer(stored: &Stored, channels: usize, depth: Depth) -> bool
     ensures layer { IsTrue result → IsLayer stored.now.stretch stored.now.shape stored.now.channels channels
         (bits_of stored.now.depth) (bits_of stored.now.depth) }
@@ -103,7 +104,7 @@ pub fn is_stored_layer(stored: &Stored, channels: usize, depth: Depth) -> bool
     is_run && stored.depth == depth && depth.bits() <= 24
 }
 
-/// Adds what a stretch plays, a layer of the block at its depth, to sums of few samples.
+/// Adds a stored stretch that is a layer at the depth of the block to sums of few samples.
 pub fn add_stored_layer(stored: &Stored, lanes: Lanes, sums: &mut [i32])
     requires { TakeLayer lanes.frames lanes.channels stored.now.stretch stored.now.shape stored.now.channels
         (bits_of stored.now.depth) (bits_of stored.now.depth) sums.old }
@@ -120,7 +121,8 @@ pub fn add_stored_layer(stored: &Stored, lanes: Lanes, sums: &mut [i32])
     add_unpacked(stored.depth, stored.bytes, run);
 }
 
-/// Where sums are kept at a depth, puts them at full scale over others. They are zero where nothing was added.
+/// Overwrites `values` with the sums at full scale if the sums are kept at a depth. All are zero if
+/// nothing was added.
 pub fn widen_layers(
     at_depth: bool,
     is_clear: bool,
@@ -138,7 +140,7 @@ pub fn widen_layers(
     }
 }
 
-/// Puts sums that are kept at a depth at full scale over others. Each depth has a loop of its own.
+/// Overwrites `values` with sums kept at a depth, at full scale. Specialised by depth.
 pub fn widen_all(depth: Depth, layers: &[i32], values: &mut [i64])
     requires { length layers.now ≡ length values.old }
     ensures { values.new ≡ widened (bits_of depth) layers.now }
@@ -150,7 +152,7 @@ pub fn widen_all(depth: Depth, layers: &[i32], values: &mut [i64])
     }
 }
 
-/// The same at the scale of the depth.
+/// Converts sums by the given scale.
 #[inline(always)]
 fn widen_by(scale: Scale, layers: &[i32], values: &mut [i64])
     requires { length layers.now ≡ length values.old }
@@ -161,7 +163,7 @@ fn widen_by(scale: Scale, layers: &[i32], values: &mut [i64])
     }
 }
 
-/// Every sum is zero.
+/// Sets every sum to zero.
 pub fn set_to_zero(sums: &mut [i32])
     ensures { AreZero sums.new }
 {
@@ -170,7 +172,7 @@ pub fn set_to_zero(sums: &mut [i32])
     }
 }
 
-/// The same of sums at full scale.
+/// Sets every sum at full scale to zero.
 fn set_wide_to_zero(sums: &mut [i64])
     ensures { AreZero sums.new }
 {
@@ -179,7 +181,7 @@ fn set_wide_to_zero(sums: &mut [i64])
     }
 }
 
-/// A sum at its own depth, clipped to the depth's range.
+/// A sum at its own depth, clipped to the range of the depth.
 #[inline(always)]
 fn clipped(sum: i32, depth: Depth) -> i32
     ensures { result ≡ quantized (bits_of depth) (full_scale (bits_of depth) sum) }
@@ -191,7 +193,7 @@ fn clipped(sum: i32, depth: Depth) -> i32
     }
 }
 
-/// Hands out the first sums as samples of the depth that they are kept at.
+/// Emits the first sums as samples of the depth that they are kept at.
 fn clip(sums: &[i32], depth: Depth, out: &mut [i32])
     requires { length out.old ≤ length sums.now }
     ensures { EmitsAt depth depth sums.now out.new }
@@ -201,7 +203,7 @@ fn clip(sums: &[i32], depth: Depth, out: &mut [i32])
     }
 }
 
-/// Hands out the first sums, which are kept at this depth, as samples of another one.
+/// Emits the first sums as samples of another depth.
 fn finish_layers(sums: &[i32], kept: Depth, depth: Depth, out: &mut [i32])
     requires { length out.old ≤ length sums.now }
     ensures { EmitsAt kept depth sums.now out.new }
@@ -211,7 +213,7 @@ fn finish_layers(sums: &[i32], kept: Depth, depth: Depth, out: &mut [i32])
     }
 }
 
-/// Hands out the first sums, which are kept at one depth, as samples of any.
+/// Emits the first sums, kept at one depth, as samples of any depth.
 pub fn emit_layers(sums: &[i32], kept: Depth, depth: Depth, out: &mut [i32])
     requires { length out.old ≤ length sums.now }
     ensures { EmitsAt kept depth sums.now out.new }

@@ -1,4 +1,5 @@
-//! The machine that runs the program of a block: it reads what the program plays, sums it, and hands out samples.
+//! The machine that runs the program of a block: it reads the source samples, sums them and emits
+//! output samples.
 #![tactic(auto)]
 
 mod addition;

@@ -1,4 +1,4 @@
-// The machine.
+// The machine that runs programs of blocks.
 ghost use Rattle.std.specs.Prelude.{◌≡◌, ◌*◌, ◌/◌, ◌<◌, ◌≤◌, ◌++◌, ◌∷◌, [], ℕ, List, Some, IsTrue, IfOk, IfErr, OnOk, length};
 ghost use Rattle.std.specs.List.{All, flat_map};
 ghost use Rattle.sound_terms.specs.declared.Depth as declared;
@@ -31,14 +31,14 @@ use std::alloc::Global;
 use std::marker::Model;
 use wavread::Sound;
 
-/// Room for the sums of a block, and for what is read of a file at once. A clause sees how many frames and channels it
-/// has room for.
+/// Sums of a block and buffers for one read. Contracts see the capacity in sample frames and
+/// channels.
 pub struct Machine {
     pub(crate) sums: Sums,
     pub(crate) buffer: Buffer,
 }
 
-// Written out, so that it is one call where a machine is dropped.
+// Written out so that dropping a machine is a single call.
 impl Drop for Machine {
     fn drop(self) {
         let Machine { sums, buffer } = self;
@@ -55,7 +55,7 @@ impl Model for Machine {
     ghost view = { λ machine. machine.sums.extent };
 }
 
-/// What an instruction adds: a stretch, under a shape.
+/// Returns the stretch that an instruction adds, and its shape.
 pub(crate) fn added_by(line: &Instruction) -> Option<(Stretch, Shape)>
     ensures { result ≡ addition_of line.now }
 {
@@ -87,7 +87,7 @@ pub(crate) fn added_by(line: &Instruction) -> Option<(Stretch, Shape)>
     }
 }
 
-/// Sums what each of these instructions plays, in a block of this depth.
+/// Sums the samples of all instructions in a block of the given depth.
 pub(crate) fn sum_all<S: Shelf>(
     lines: &[Instruction],
     depth: Depth,
@@ -117,7 +117,7 @@ pub(crate) fn sum_all<S: Shelf>(
     Ok(())
 }
 
-/// The depth that a program hands its samples out at.
+/// Returns the depth at which a program emits its samples.
 pub(crate) fn depth_of(program: &[Instruction]) -> Option<Depth>
     ensures { (frames : ℕ) (depth : declared.Depth) (lines : List word.Instruction)
         → program.now ≡ instruction.Start frames ∷ (lines ++ instruction.Emit depth ∷ []) → result ≡ Some depth }
@@ -129,7 +129,8 @@ pub(crate) fn depth_of(program: &[Instruction]) -> Option<Depth>
 }
 
 impl Machine {
-    /// A machine for blocks of up to so many frames, themselves up to 4096, of so many channels, 1 to 64.
+    /// Creates a machine for blocks of up to `frames` sample frames (at most 4096) on `channels`
+    /// channels (1 to 64). Returns `MachineFault::Memory` if out of memory.
     pub fn new(alloc: Global, frames: u32, channels: u8) -> Result<Self, MachineFault>
         requires frames { frames ≤ 4096 }
         requires channels { (1 ≤ channels) × (channels ≤ 64) }
@@ -145,7 +146,7 @@ impl Machine {
         Ok(Machine { sums, buffer })
     }
 
-    /// Adds what these instructions play to sums of zero, and hands the sums out.
+    /// Sums the instructions from zero and emits the sums.
     fn run_lines<S: Shelf>(
         &mut self,
         lines: &[Instruction],
@@ -173,8 +174,8 @@ impl Machine {
         Ok(())
     }
 
-    /// Adds what these instructions play to sums of zero, and writes the sums over `bytes` as a file of this depth stores
-    /// them, with `samples` as room for them. What of them is clipped is returned.
+    /// Sums the instructions from zero and writes the sums to `bytes` as stored samples of the
+    /// given depth, by way of `samples`. Returns the clipped samples.
     fn store_lines<S: Shelf>(
         &mut self,
         lines: &[Instruction],
@@ -209,9 +210,9 @@ impl Machine {
         Ok(sums.store(depth, samples, bytes))
     }
 
-    /// Runs the program of a block over the files that a project is bound to, and writes the samples that it hands out,
-    /// frame by frame. It takes no memory. `Source` where a read fails; what was written is then unspecified, and the
-    /// machine as ready as before.
+    /// Runs the program of a block over the files of a bound project and writes its samples to
+    /// `out`, interleaved. Allocates nothing. Returns `MachineFault::Source` if a read fails; `out`
+    /// is then unspecified, and the machine can be used again.
     pub fn run<S: Shelf>(
         &mut self,
         program: &Program,
@@ -237,7 +238,8 @@ impl Machine {
         self.run_over(program, bound.sounds(), shelf, out)
     }
 
-    /// Runs it over sounds that were opened, be they of a project or not.
+    /// Runs the program of a block over open sounds, which needn't belong to a project; otherwise
+    /// like `run`.
     pub fn run_over<S: Shelf>(
         &mut self,
         program: &Program,
@@ -268,11 +270,11 @@ impl Machine {
         Ok(())
     }
 
-    /// Runs the program of a block, which hands its samples out at this depth, and writes them over `bytes` as a file of
-    /// this depth stores them. `samples` has room for them. The frames of a file that fills the block as it is are read
-    /// to where they go, and those of one that fills it under a fade are faded there. What is clipped of the sums is
-    /// returned. It takes no memory. `Source` where a read fails; what was written is then unspecified, and the machine
-    /// as ready as before.
+    /// Runs the program of a block, which must emit at the given depth, and writes its samples to
+    /// `bytes` as stored samples of that depth. Returns the clipped samples. `samples` is working
+    /// space. Allocates nothing, and doesn't sum at all if one file fills the block. Returns
+    /// `MachineFault::Source` if a read fails; `bytes` is then unspecified, and the machine can be
+    /// used again.
     pub fn run_packed<S: Shelf>(
         &mut self,
         program: &Program,

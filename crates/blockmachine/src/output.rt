@@ -1,11 +1,11 @@
-// The samples that sums are handed out as.
+// Conversion of sums to output samples.
 ghost use Rattle.std.specs.Prelude.{◌≤◌, length};
 ghost use Rattle.blockmachine.specs.Sums.{Emits};
 
 use sound_terms::Depth;
 use soundlaw::finish;
 
-/// Hands out the first sums as samples.
+/// Emits the first sums as samples.
 #[inline(always)]
 fn emit_at(sums: &[i64], depth: Depth, out: &mut [i32])
     requires { length out.old ≤ length sums.now }
@@ -16,7 +16,7 @@ fn emit_at(sums: &[i64], depth: Depth, out: &mut [i32])
     }
 }
 
-/// The same. Each depth has a loop of its own.
+/// Emits the first sums as samples. Specialised by depth.
 pub fn emit(sums: &[i64], depth: Depth, out: &mut [i32])
     requires { length out.old ≤ length sums.now }
     ensures { Emits depth sums.now out.new }

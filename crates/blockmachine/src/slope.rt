@@ -1,4 +1,4 @@
-// The fractions of a shape, frame by frame.
+// The gain of a shape, one sample frame at a time.
 ghost use Rattle.std.specs.Prelude.{◌≡◌, ◌+◌, ◌-◌};
 ghost use Rattle.sound_terms.specs.Groups.{IsRamp};
 ghost use Rattle.blockmachine.specs.Slopes.{HasFrame, IsAt, fraction_at};
@@ -6,8 +6,8 @@ ghost use Rattle.blockmachine.specs.Slopes.{HasFrame, IsAt, fraction_at};
 use sound_terms::Shape;
 use soundlaw::{Fraction, Gain, Rise};
 
-/// A shape from one of its frames on: what rises with each frame, and whether the fraction is that or what it leaves of
-/// one.
+/// A shape from one of its samples on: the fraction that rises, and whether the gain is that
+/// fraction or one minus it.
 #[derive(Clone, Copy)]
 pub struct Slope {
     falls: bool,
@@ -15,7 +15,7 @@ pub struct Slope {
 }
 
 impl Slope {
-    /// A shape from its first frame on.
+    /// Starts a shape at its first sample.
     pub fn of(shape: Shape) -> Self
         requires { IsRamp shape 1 }
         ensures { IsAt shape 0 result.falls result.rise.fraction.num result.rise.fraction.den result.rise.by }
@@ -36,7 +36,7 @@ impl Slope {
         }
     }
 
-    /// The fraction of this frame; the shape goes on to the next one.
+    /// Returns the gain of the current sample and advances to the next.
     #[inline(always)]
     pub fn step(&mut self) -> Gain
         requires { HasFrame self.old.falls self.old.rise.fraction.num self.old.rise.fraction.den

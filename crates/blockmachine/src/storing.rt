@@ -1,4 +1,4 @@
-// The sums of a block as a file stores them.
+// Conversion of sums to stored samples.
 ghost use Rattle.std.specs.Prelude.{◌≡◌, ◌*◌, ◌/◌, ℕ, ℤ, length, map};
 ghost use Rattle.std.specs.List.{flat_map};
 ghost use Rattle.sound_terms.specs.Depth.{bits_of};
@@ -16,8 +16,8 @@ use clipping::{Clips, Kept};
 use pcm::pack;
 use sound_terms::Depth;
 
-/// Writes sums over `bytes` as a file of the depth that they are kept at stores them, and gives what is clipped of them:
-/// as they are where none is. `samples` has room for them.
+/// Writes sums to `bytes` as stored samples of the depth that they are kept at, without conversion
+/// if none is clipped. Returns the clipped samples.
 fn store_kept(kept: &Kept, samples: &mut [i32], bytes: &mut [u8]) -> Clips
     requires samples { length samples.old ≡ length kept.now.sums.now }
     requires bytes { length bytes.old ≡ length samples.old * (bits_of kept.now.depth / 8) }
@@ -37,8 +37,8 @@ fn store_kept(kept: &Kept, samples: &mut [i32], bytes: &mut [u8]) -> Clips
 }
 
 impl Sums {
-    /// Writes the first frames, as many as `samples` has room for, over `bytes` as a file of this depth stores them, and
-    /// gives what is clipped of them.
+    /// Writes the first sample frames, as many as fit in `samples`, to `bytes` as stored samples of
+    /// the given depth. Returns the clipped samples.
     pub fn store(&self, depth: Depth, samples: &mut [i32], bytes: &mut [u8]) -> Clips
         requires frames { FillFrames self.now.extent samples.old }
         requires room { length bytes.old ≡ length samples.old * (bits_of depth / 8) }

@@ -1,4 +1,4 @@
-// Stretches of files, read and added.
+// Reading and adding stretches of files.
 ghost use Rattle.std.specs.Prelude.{◌≡◌, ◌+◌, ◌*◌, ◌/◌, ◌^◌, ◌<◌, ◌≤◌, ℕ, ℤ, IsTrue, IfErr, OnOk, Some, slice_get, length};
 ghost use Rattle.sound_terms.specs.Depth.{bits_of};
 ghost use Rattle.sound_terms.specs.Sounds.{SoundFacts, reading_by};
@@ -19,7 +19,8 @@ use devices::Shelf;
 use sound_terms::{Shape, Stretch};
 use wavread::Sound;
 
-/// Reads the frames of a stretch as they are stored, with all channels of their file.
+/// Reads the samples of a stretch as stored, with all channels of the file. Returns
+/// `MachineFault::Source` if that fails.
 pub fn read_stored<S: Shelf>(
     part: &Stretch,
     sounds: &[Sound],
@@ -44,7 +45,7 @@ pub fn read_stored<S: Shelf>(
     }
 }
 
-/// Reads the frames of a stretch, with all channels of their file, to the front of the bytes.
+/// Reads the samples of a stretch, with all channels of the file, to the start of `bytes`.
 fn read_part<S: Shelf>(
     part: &Stretch,
     sounds: &[Sound],
@@ -67,8 +68,8 @@ fn read_part<S: Shelf>(
     }
 }
 
-/// Sees to it that the bytes begin with the frames of a stretch, with all channels of their file: they are read, unless
-/// they stand there already.
+/// Makes `bytes` begin with the samples of a stretch, with all channels of the file; reads nothing
+/// if it already does.
 fn hold<S: Shelf>(
     part: &Stretch,
     sounds: &[Sound],
@@ -98,7 +99,7 @@ fn hold<S: Shelf>(
     Ok(())
 }
 
-/// Adds the frames of a stretch, few enough to be read at once. They are read where the bytes don't hold them.
+/// Adds the samples of a stretch that fits in one read.
 fn add_part<S: Shelf>(
     part: &Stretch,
     shape: Shape,
@@ -137,7 +138,8 @@ fn add_part<S: Shelf>(
     Ok(())
 }
 
-/// Adds a stretch of one of the sounds under a shape. Each frame is read once, for all its channels.
+/// Adds a stretch of an open sound under a shape. Reads each sample frame once, for all channels of
+/// the file. Returns `MachineFault::Source` if a read fails.
 pub fn add_stretch<S: Shelf>(
     stretch: &Stretch,
     shape: Shape,

@@ -19,12 +19,13 @@ use sound_terms::Depth;
 use std::alloc::{AllocError, Global};
 use std::marker::Model;
 
-/// So many samples can't take a sum out of 64 bits.
+/// The number of samples whose sum fits in 64 bits.
 const FEW: u32 = 32_767;
 
-/// The sums of a block, frame after frame. As long as few stretches were added at one frame since all were zero, none is
-/// larger than as many samples at full scale. They begin at the depth of the block, in 32 bits, and go to full scale at
-/// the first stretch that is faded, deeper, or on some of the channels alone.
+/// The sums of a block, interleaved. While at most n stretches overlap at any sample, no sum
+/// exceeds n samples at full scale. Sums start in 32 bits at the depth of the block, and move to
+/// full scale at the first stretch that is faded, of greater depth, or on only some of the
+/// channels.
 #[derive(Drop)]
 pub struct Sums {
     pub(crate) lanes: Lanes,
@@ -52,7 +53,7 @@ impl Model for Sums {
 }
 
 impl Sums {
-    /// Sums for a block of these frames and channels.
+    /// Allocates sums for a block of the given layout. Returns `AllocError` if out of memory.
     pub fn new(alloc: Global, lanes: Lanes) -> Result<Self, AllocError>
         ensures { IfOk result (λ sums. sums.extent ≡ record { frames = lanes.frames; channels = lanes.channels }) }
     {
@@ -73,7 +74,7 @@ impl Sums {
         })
     }
 
-    /// How they lie one behind the other.
+    /// Returns the layout.
     pub fn lanes(&self) -> Lanes
         ensures frames { result.frames ≡ self.now.extent.frames }
         ensures channels { result.channels ≡ self.now.extent.channels }
@@ -81,7 +82,7 @@ impl Sums {
         self.lanes
     }
 
-    /// Every sum is zero, in a block of this depth.
+    /// Resets every sum to zero, for a block of the given depth.
     pub fn clear(&mut self, depth: Depth)
         ensures zero { AreSums self.new (λ _ _. pos 0) }
         ensures same_extent { self.new.extent ≡ self.old.extent }
@@ -95,7 +96,7 @@ impl Sums {
         };
     }
 
-    /// The sums are these samples, one for each, which are stored at the depth of the block.
+    /// Sets the sums to stored samples, one per sum, of the block's depth.
     pub fn fill(&mut self, depth: Depth, bytes: &[u8])
         requires { length bytes.now ≡ self.old.extent.frames * self.old.extent.channels * (bits_of depth / 8) }
         ensures filled { self.new.values ≡ widened (bits_of depth)
@@ -111,7 +112,7 @@ impl Sums {
         };
     }
 
-    /// Adds what a stretch plays. `samples` has room for its frames.
+    /// Adds a stored stretch. `samples` is working space with room for its samples.
     pub fn add(&mut self, stored: &Stored, samples: &mut [i32])
         requires { TakeStored self.old.extent stored.now.stretch stored.now.channels (length samples.old) }
         ensures played { HasPlayed stored.now.stretch stored.now.shape stored.now.channels (bits_of stored.now.depth)
@@ -140,7 +141,7 @@ impl Sums {
         }
     }
 
-    /// Adds what a stretch plays, frames that were unpacked: at full scale from the first one on that is no layer.
+    /// Adds an unpacked stretch. The first one that isn't a layer moves the sums to full scale.
     fn add_played(&mut self, played: &Played)
         requires { FitsBlock self.old.extent.frames self.old.extent.channels played.now.stretch }
         ensures played { HasPlayed played.now.stretch played.now.shape played.now.frames.channels
@@ -168,7 +169,7 @@ impl Sums {
         self.additions = self.additions.with(&played.stretch);
     }
 
-    /// Hands out the first frames, as many as there is room for, at this depth.
+    /// Emits the first sample frames, as many as fit in `out`, at the given depth.
     pub fn emit(&self, depth: Depth, out: &mut [i32])
         requires { FillFrames self.now.extent out.old }
         ensures { (all : ℕ → ℕ → ℤ) → AreSums self.now all → (frames : ℕ)

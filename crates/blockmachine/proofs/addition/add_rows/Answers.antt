@@ -14,7 +14,7 @@ use Rattle.blockmachine.proofs.Places.{get_or-part, kept_elsewhere}
 use Rattle.facts.specs.Parts.{length-put_mid}
 use Rattle.blockmachine.proofs.addition.add_rows.Goals as goal
 
--- a shape without a fade adds samples as they are
+-- a flat shape adds samples unchanged
 as_it_is : (is_flat : Bool) (shape : Shape) (i : ℕ) (gain : ℕ × ℕ) → (IsTrue is_flat → shape ≡ Flat)
     → fraction_of shape i ≡ gain → fraction_of shape i ≡ (if is_flat then (1, 1) else gain)
 as_it_is true shape i gain flat is = ap (λ (s : Shape). fraction_of s i) (flat refl)

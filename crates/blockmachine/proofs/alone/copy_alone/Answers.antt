@@ -20,7 +20,7 @@ use Rattle.blockmachine.proofs.Ran.{between_ends}
 use Rattle.blockmachine.proofs.alone.copy_alone.Given.{Over}
 use Rattle.blockmachine.proofs.alone.copy_alone.Goals as goal
 
--- the stretch alone is the program, and the bytes that were read are what it plays
+-- the program is exactly this stretch, and the bytes read are its samples
 filled : (g : Over) (c : goal.After-none g) → IsTrue (g.S.Shelf.honest c.args.shelf.now)
     → IsFilled (reading_by (g.S.Shelf.stored c.args.shelf.now) c.args.sounds.now) c.in-Some.stretch c.in-Some.shape
     c.args.frames c.args.format.channels c.args.format.depth c.args.program.now.lines c.read_stored.new.bytes

@@ -9,14 +9,14 @@ use Rattle.blockmachine.specs.Alone.{filling}
 use Rattle.blockmachine.proofs.OneStretch.{by_addition}
 use Rattle.blockmachine.proofs.alone.fills_alone.Goals as goal
 
--- a list of one
+-- a list of one element
 alone : (lines : List Instruction) (line : Instruction) → length lines ≡ 1 → get_or lines 0 (Start 0) ≡ line
     → lines ≡ line ∷ []
 alone [] line one is = absurd (omega (arith, one))
 alone (first ∷ []) line one is = ap (λ (l : Instruction). l ∷ []) is
 alone (first ∷ (second ∷ lines)) line one is = absurd (omega (arith, one))
 
--- a stretch of these parts
+-- a stretch from its fields
 by_parts : (s : Stretch) (at length first dest width : ℕ) → s.at ≡ at → s.length ≡ length → s.first ≡ first
     → s.dest ≡ dest → s.width ≡ width
     → s ≡ record s { at = at; length = length; first = first; dest = dest; width = width }

@@ -7,7 +7,7 @@ use mir.Syntax.{w32}
 use mir.Val.{SFits}
 use Rattle.blockmachine.proofs.clipped.bounds_of.Goals as goal
 
--- what holds of the first n and of the next
+-- a property of the first n elements and of the next one
 more : (P : ℤ → Type 0) (xs : List ℤ) (n : ℕ) → n < length xs → ((k : ℕ) (d : ℤ) → k < n → P (get_or xs k d))
     → P (get_or xs n (pos 0)) → (k : ℕ) (d : ℤ) → k < n + 1 → P (get_or xs k d)
 more P xs n inside before here k d below = by_index (cases_lt k n) where

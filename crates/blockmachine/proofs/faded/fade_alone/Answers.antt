@@ -31,7 +31,7 @@ fade-requires g c =
       some_channels = formed.some_channels;
     }
 
--- the stretch alone is the program, and the bytes that were read are what it plays
+-- the program is exactly this stretch, and the bytes read are its samples
 filled : (g : Over) (c : goal.After-none g) → IsTrue (g.S.Shelf.honest c.args.shelf.now)
     → IsFilled (reading_by (g.S.Shelf.stored c.args.shelf.now) c.args.sounds.now) c.in-Some.stretch c.in-Some.shape
     c.args.frames c.args.format.channels c.args.format.depth c.args.program.now.lines c.read_stored.new.bytes
@@ -44,7 +44,7 @@ filled g c honest =
     (c.as_slice-instructions.ensures ∙ block.whole))
     (λ facts there. c.in_ok-read_stored.ensures.plays honest facts there)
 
--- they are unpacked
+-- the samples are the unpacked bytes
 unpacked : (g : Over) (c : goal.After-none g)
     → c.unpack.new.samples ≡ samples_in (bits_of c.args.format.depth) (c.args.frames * c.args.format.channels)
     c.read_stored.new.bytes

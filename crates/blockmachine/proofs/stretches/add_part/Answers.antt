@@ -30,7 +30,7 @@ returns-clause-held g c =
     subst (λ (files : Files). Holds (g.S.Shelf.honest c.hold.new.shelf) files sounds c.hold.new.held c.hold.new.bytes)
     (sym only.same) holds
 
--- the bytes that are added are the frames of the part
+-- the bytes added are the stored samples of the part
 read : (g : Over) (c : goal.After-samples-1 g) → IsTrue (g.S.Shelf.honest c.args.shelf.now)
     → AreRead (g.S.Shelf.stored c.args.shelf.now) c.args.sounds.now c.index-sounds-part.result c.args.part.now
     (take (c.args.part.now.length * c.channels-channels.result * c.from.result) c.hold.new.bytes)

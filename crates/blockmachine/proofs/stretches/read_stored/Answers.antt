@@ -19,7 +19,7 @@ read_bytes-requires g c =
     let whole : length c.args.bytes.now ≡ part.length * frame_length sound = c.requires.whole sound found ∙ omega arith in
     record { whole = (part.length, whole, (lies_in sounds part c.requires.lies sound found).1) }
 
--- what was read are the frames of the stretch
+-- the bytes read are the stored samples of the stretch
 read : (g : Over) (c : goal.In-Ok g) → IsTrue (g.S.Shelf.honest c.args.shelf.now)
     → AreRead (g.S.Shelf.stored c.args.shelf.now) c.args.sounds.now c.index-sounds-part.result c.args.part.now
     c.read_bytes.new.bytes

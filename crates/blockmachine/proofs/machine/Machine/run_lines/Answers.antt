@@ -15,7 +15,7 @@ use Rattle.blockmachine.proofs.Ran.{added_formed}
 use Rattle.blockmachine.proofs.machine.Machine.run_lines.Given.{Over}
 use Rattle.blockmachine.proofs.machine.Machine.run_lines.Goals as goal
 
--- what was handed out, by the channels of the sums
+-- the emitted samples depend only on the number of channels
 same_channels : (depth : Depth) (n m : ℕ) (all : ℕ → ℕ → ℤ) (frames : ℕ) → n ≡ m
     → block_samples (bits_of depth) all n 0 frames ≡ block_samples (bits_of depth) all m 0 frames
 same_channels depth n m all frames same = ap (λ k. block_samples (bits_of depth) all k 0 frames) same
@@ -24,13 +24,13 @@ same_channels depth n m all frames same = ap (λ k. block_samples (bits_of depth
 as_wide : (g : Over) (c : goal.After-out-1 g) → c.sum_all.new.sums.extent.channels ≡ c.args.self.now.channels
 as_wide g c = ap (λ (e : Extent). e.channels) (c.sum_all.ensures.same_extent ∙ c.self.view_is)
 
--- what the lines play in a block of so many frames
+-- the state after the instructions in a block of `frames` sample frames
 abbrev added_to : (g : Over) (c : goal.After-out-1 g) → BlockState → BlockState
 added_to g c begun =
     executed_all (reading_by (g.S.Shelf.stored c.args.shelf.now) c.args.sounds.now) c.args.self.now.channels
     c.args.lines.now begun
 
--- and that it was summed
+-- the sums are the sums of that state
 summed : (g : Over) (c : goal.After-out-1 g) → IsTrue (g.S.Shelf.honest c.args.shelf.now)
     → (frames : ℕ) (start : BlockState)
     → AreSums c.sum_all.new.sums (added_to g c (silent (record start { frames = frames }))).sums

@@ -11,7 +11,7 @@ use Rattle.blockmachine.specs.Sums.{Extent}
 use Rattle.blockmachine.proofs.Ran.{added_between, between_ends}
 use Rattle.blockmachine.proofs.machine.Machine.run_packed.Goals as goal
 
--- a whole number of frames, by the channels of the machine
+-- the number of sample frames from the number of samples
 count_of : (samples frames n channels : ℕ) → samples ≡ frames * n → channels ≡ n → 1 ≤ channels → samples / channels ≡ frames
 count_of samples frames n channels long told some =
     ap (λ m. m / channels) (long ∙ ap (λ m. frames * m) (sym told)) ∙ mul-div_left frames some

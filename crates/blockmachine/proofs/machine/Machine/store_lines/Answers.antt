@@ -20,13 +20,13 @@ use Rattle.blockmachine.proofs.machine.Machine.store_lines.Goals as goal
 as_wide : (g : Over) (c : goal.After-slice_known-2-1 g) → c.sum_all.new.sums.extent.channels ≡ c.args.self.now.channels
 as_wide g c = ap (λ (e : Extent). e.channels) (c.sum_all.ensures.same_extent ∙ c.self.view_is)
 
--- what the lines play in a block of so many frames
+-- the state after the instructions in a block of `frames` sample frames
 abbrev added_to : (g : Over) (c : goal.After-slice_known-2-1 g) → BlockState → BlockState
 added_to g c begun =
     executed_all (reading_by (g.S.Shelf.stored c.args.shelf.now) c.args.sounds.now) c.args.self.now.channels
     c.args.lines.now begun
 
--- and that it was summed
+-- the sums are the sums of that state
 summed : (g : Over) (c : goal.After-slice_known-2-1 g) → IsTrue (g.S.Shelf.honest c.args.shelf.now)
     → (frames : ℕ) (start : BlockState)
     → AreSums c.sum_all.new.sums (added_to g c (silent (record start { frames = frames }))).sums

@@ -9,7 +9,7 @@ use Rattle.blockmachine.specs.Sums.{AreSums, BlockSums, kept_sums, widened}
 use Rattle.blockmachine.proofs.Emitted.{enough, near}
 use Rattle.blockmachine.proofs.sums.Sums.put.Goals as goal
 
--- the first sums are those of the first frames
+-- the first sums are the sums of the first sample frames
 first_sums : (all : ℕ → ℕ → ℤ) (kept : BlockSums) (few frames : ℕ) (out : List ℤ) → few ≤ kept.extent.frames
     → few * kept.extent.channels ≡ frames * kept.extent.channels → AreSums kept all
     → length out ≡ frames * kept.extent.channels → out ≡ take (length out) kept.values

@@ -12,7 +12,7 @@ use Rattle.blockmachine.specs.Sums.{AreSums, BlockSums, kept_sums, widened}
 use Rattle.blockmachine.proofs.Emitted.{block_mapped, block_taken, each_kept}
 use Rattle.blockmachine.proofs.sums.Sums.store.Goals as goal
 
--- a whole number of frames
+-- a whole number of sample frames
 whole_frames : (n taken frames channels : ℕ) → taken ≡ n → n ≡ frames * channels → 1 ≤ channels
     → taken / channels * channels ≡ taken
 whole_frames n taken frames channels same is some =
@@ -38,7 +38,7 @@ invariant_of-kept c =
           (length-take-le n c.deref.result.now (omega (arith, long, layers, row))) long inside.lanes.some_channels;
     }
 
--- where they are kept at the depth that is asked for, those that are handed out are the block's
+-- if the sums are kept at the requested depth, the emitted ones are the block's
 kept_block : (c : goal.After-slice_known-then-bits-1) (all : ℕ → ℕ → ℤ) → AreSums c.args.self.now all → (frames : ℕ)
     → length c.args.samples.now ≡ frames * c.args.self.now.extent.channels
     → at_full_scale (bits_of c.args.depth) (take (length c.args.samples.now) c.deref.result.now)
