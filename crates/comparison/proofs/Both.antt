@@ -1,4 +1,4 @@
--- Two sides by what a call leaves of them, and the sums of a block of both by their mixes.
+-- The effects of calls on both sides, and the sums of a block by their mixes.
 use Rattle.std.proofs.Common.{◌≡◌, ℕ, ◌+◌, IsTrue, subst, sym}
 use Rattle.std.specs.Prelude.{ℤ, Result}
 use Rattle.std.specs.List.{All}
@@ -16,7 +16,7 @@ use Rattle.comparison.specs.Both.{AreKept, AreMatched, AreSummed, AreSumsOfBlock
 use Rattle.comparison.specs.Matched.{AreSameFrames}
 use Rattle.comparison.specs.Side.{SideWork, first_sums, heard}
 
--- what holds of two sides held of them before
+-- a property of both sides after a call holds of the sides before it
 pub of_both : {S T : Type 0} (shelf : source.Ghosts S) (stock : source.Ghosts T) (first first' : S) (second second' : T)
     (old new : Sides) (P : (ℕ → ℕ → ℤ) → (ℕ → ℕ → ℤ) → Type 0) → new.first.work ≡ old.first.work
     → new.second.work ≡ old.second.work → shelf.stored first' ≡ shelf.stored first
@@ -32,7 +32,7 @@ of_both shelf stock first first' second second' old new P one two files honest o
     let read = subst (λ (f : Files). P (heard old.first.work f) (heard old.second.work (stock.stored second'))) files both in
     subst (λ (f : Files). P (heard old.first.work (shelf.stored first)) (heard old.second.work f)) others read
 
--- the sums of a block by the mixes that were summed
+-- the sums of a block by the mixes summed last
 block_summed : (sides : Sides) (k : ℕ) (block : BlockSums) (mix other : ℕ → ℕ → ℤ) → IsBlock sides k block
     → AreSummed sides k mix other → AreSumsOfBlock block mix other
 block_summed sides k block mix other is summed = record {
@@ -43,7 +43,7 @@ block_summed sides k block mix other is summed = record {
       (λ i channel. other channel (block_start r k + i))) sides.same summed.others);
 }
 
--- those of a block that is summed after a call that kept both sides
+-- the sums of a block that is summed after a call that kept both sides
 pub block_after : {S T X : Type 0} (shelf : source.Ghosts S) (stock : source.Ghosts T) (first first' : S)
     (second second' : T) (sides mid new : Sides) (k : ℕ) (block : BlockSums) (result : Result X CompareFault)
     → AreKept shelf stock first first' second second' sides mid result
@@ -55,7 +55,7 @@ block_after shelf stock first first' second second' sides mid new k block result
     kept.files.first_read.same kept.files.first_read.honest_same kept.files.second_read.same
     kept.files.second_read.honest_same summed honest sure)
 
--- sides with no match
+-- sides with an empty cache
 pub none_matched : {S T : Type 0} (shelf : source.Ghosts S) (stock : source.Ghosts T) (first : S) (second : T)
     (sides : Sides) → ((reading other : Reading) → All (AreSameFrames reading other) sides.stored.matches)
     → AreMatched shelf stock first second sides

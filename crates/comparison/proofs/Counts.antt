@@ -1,4 +1,4 @@
--- How many sums differ: where there is one more, in two stretches together, and where all are the same.
+-- Counts of differing sums: one more, two stretches together, and equal sums.
 use Rattle.std.proofs.Common.{◌≡◌, ◌⊎◌, inl, inr, ℕ, zero, suc, ◌+◌, ◌-◌, ◌*◌, ◌<◌, ◌≤◌, Bool, true, false, List, length, get_or, refl, ap, ◌∙◌, add-one, arith}
 use Rattle.std.specs.Prelude.{ℤ, pos}
 use Rattle.std.specs.Ordering.{int_eq}
@@ -18,7 +18,7 @@ is_apart x y apart = by_test (int_eq x y) refl where
   by_test true is = absurd (apart ((Decides-int_eq x y).0 is))
   by_test false is = is
 
--- one more
+-- one more sum
 pub same_more : (sums others : ℕ → ℤ) (n : ℕ) → sums n ≡ others n
     → differing sums others (n + 1) ≡ differing sums others n
 same_more sums others n same =
@@ -29,7 +29,7 @@ pub apart_more : (sums others : ℕ → ℤ) (n : ℕ) → (sums n ≡ others n 
 apart_more sums others n apart =
     ap (differing sums others) (add-one n) ∙ rw (is_apart (sums n) (others n) apart) refl
 
--- no more than there are
+-- the count is at most the number of sums
 pub differing_few : (sums others : ℕ → ℤ) (n : ℕ) → differing sums others n ≤ n
 differing_few sums others zero = omega arith
 differing_few sums others (suc n) =
@@ -39,7 +39,7 @@ differing_few sums others (suc n) =
       by_test true is rest = rw is (omega (arith, rest))
       by_test false is rest = rw is (omega (arith, rest))
 
--- of sums that are the same as others, one by one
+-- the count depends only on the sums
 pub differing_alike : (sums others sums' others' : ℕ → ℤ) (n : ℕ) → ((i : ℕ) → i < n → sums i ≡ sums' i)
     → ((i : ℕ) → i < n → others i ≡ others' i) → differing sums others n ≡ differing sums' others' n
 differing_alike sums others sums' others' zero same also = refl
@@ -48,14 +48,14 @@ differing_alike sums others sums' others' (suc n) same also =
     (λ i below. also i (omega (arith, below))) in
     rw (same n (omega arith), also n (omega arith), rest) refl
 
--- none where all are the same
+-- equal sums have no differences
 differing_none : (sums others : ℕ → ℤ) (n : ℕ) → ((i : ℕ) → i < n → sums i ≡ others i) → differing sums others n ≡ 0
 differing_none sums others zero same = refl
 differing_none sums others (suc n) same =
     let rest = differing_none sums others n (λ i below. same i (omega (arith, below))) in
     rw (is_same (sums n) (others n) (same n (omega arith)), rest) refl
 
--- those of two stretches
+-- the count over two stretches
 differing-append : (sums others : ℕ → ℤ) (n m : ℕ) → differing sums others (n + m)
     ≡ differing sums others n + differing (λ i. sums (n + i)) (λ i. others (n + i)) m
 differing-append sums others n zero =
@@ -65,7 +65,7 @@ differing-append sums others n (suc m) =
     let rest = differing-append sums others n m in
     ap (differing sums others) all ∙ omega (arith, rest)
 
--- where so many differ of each channel, no count grew by more than there are
+-- upper bound of the counts after a block
 pub few_more : (of : ℕ → List ℤ → ℕ → ℤ) (sums others : List ℤ) (n : ℕ) (old new : List ℕ) → ((k : ℕ) → k < length new
     → get_or new k 0 ≡ get_or old k 0 + differing (of k sums) (of k others) n) → (k : ℕ)
     → get_or new k 0 ≤ get_or old k 0 + n
@@ -74,7 +74,7 @@ few_more of sums others n old new more k = by_place (cases_lt k (length new)) wh
   by_place (inl below) = omega (arith, more k below, differing_few (of k sums) (of k others) n)
   by_place (inr past) = omega (arith, get_or_past new k 0 past)
 
--- a stretch more was counted
+-- one more stretch was counted
 pub counted_more : (mix other : ℕ → ℕ → ℤ) (from n start m : ℕ) (old new : List ℕ) → start ≡ from + n
     → length new ≡ length old → AreCounts mix other from n old → HasCounted mix other start m old new
     → AreCounts mix other from (n + m) new
@@ -88,7 +88,7 @@ counted_more mix other from n start m old new begins long are more k below =
     let had = are k (omega (arith, below, long)) in
     omega (arith, more k below, had, later, both)
 
--- none of a stretch that is alike
+-- an equal stretch adds nothing
 pub alike_counted : (mix other : ℕ → ℕ → ℤ) (from n channels : ℕ) (counts : List ℕ) → length counts ≡ channels
     → AreAlike from (from + n) channels mix other → HasCounted mix other from n counts counts
 alike_counted mix other from n channels counts wide alike k below =
@@ -97,7 +97,7 @@ alike_counted mix other from n channels counts wide alike k below =
     (omega (arith, inside))) in
     omega (arith, none)
 
--- those of sums that lie frame by frame
+-- the counts of interleaved sums
 pub sums_counted : (frames channels start : ℕ) (sums others : List ℤ) (mix mixed : ℕ → ℕ → ℤ) (old new : List ℕ)
     → length new ≡ channels → AreSumsOf frames channels sums (λ i channel. mix channel (start + i))
     → AreSumsOf frames channels others (λ i channel. mixed channel (start + i))
@@ -114,7 +114,7 @@ sums_counted frames channels start sums others mix mixed old new wide are also m
     (λ i. mix (k + 1) (start + i)) (λ i. mixed (k + 1) (start + i)) frames mine theirs in
     more k below ∙ ap (λ (n : ℕ). get_or old k 0 + n) same
 
--- those of mixes that are the same, sample for sample
+-- the counts depend only on the mixes
 pub counts_as : (mix mixed as_mix as_mixed : ℕ → ℕ → ℤ) (from n : ℕ) (counts : List ℕ)
     → ((channel time : ℕ) → mix channel time ≡ as_mix channel time)
     → ((channel time : ℕ) → mixed channel time ≡ as_mixed channel time) → AreCounts mix mixed from n counts

@@ -1,4 +1,4 @@
--- The least and the greatest of the events of two projects.
+-- Minimum and maximum over the events of two projects.
 use Rattle.std.proofs.Common.{◌≡◌, ℕ, true, false, List, [], ◌∷◌, ◌++◌, length, refl, sym, arith}
 use Rattle.std.specs.Prelude.{◌==◌, max, min}
 use Rattle.std.specs.List.{list_all}
@@ -7,7 +7,7 @@ use Rattle.sound_terms.specs.declared.Event.{Event}
 use Rattle.list_terms.specs.Accepted.{greatest_of, least_of}
 use Rattle.list_terms.specs.WholeProject.{is_event}
 
--- the least and the greatest of two lists
+-- minimum and maximum over two lists
 least_of-append : (f : Event → ℕ) (event : Event) (events : List Event) (other : Event) (others : List Event)
     → least_of f ((event ∷ events) ++ (other ∷ others))
     ≡ min (least_of f (event ∷ events)) (least_of f (other ∷ others))
@@ -15,7 +15,7 @@ least_of-append f event [] other others = refl
 least_of-append f event (next ∷ events) other others =
     let rest = least_of-append f next events other others in omega (arith, rest)
 
--- of two that aren't empty
+-- minimum over two non-empty lists
 pub least_of-both : (f : Event → ℕ) (events others : List Event) → (length events == 0) ≡ false
     → (length others == 0) ≡ false → least_of f (events ++ others) ≡ min (least_of f events) (least_of f others)
 least_of-both f [] others some more = let wrong : true ≡ false = some in cc
@@ -29,7 +29,7 @@ greatest_of-append f [] others =
 greatest_of-append f (event ∷ events) others =
     let rest = greatest_of-append f events others in omega (arith, rest)
 
--- all of two lists are whole
+-- all events of two lists are valid
 pub all_events : (events others : List Event) → list_all is_event events ≡ true → list_all is_event others ≡ true
     → list_all is_event (events ++ others) ≡ true
 all_events [] others whole others_whole = others_whole

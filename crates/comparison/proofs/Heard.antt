@@ -1,4 +1,4 @@
--- A comparison of mixes is one of mixes that are the same, sample for sample.
+-- Comparisons carry over to equal mixes.
 use Rattle.std.proofs.Common.{◌≡◌, ◌-◌, ℕ, List, sym, subst, ◌∙◌, Some, None}
 use Rattle.std.specs.Prelude.{ℤ, ⊤, Option, Result, Ok, Err, IfOk, OnOk}
 use Rattle.sound_terms.specs.Render.{Range}
@@ -44,12 +44,12 @@ module _ (from to channels : ℕ) (mix mixed as_mix as_mixed : ℕ → ℕ → �
   result_as (Ok found) told = compared_as found told
   result_as (Err fault) told = tt
 
--- what follows where it went well
+-- a consequence of a successful call
 well_gives : (P Q : Type 0) → (P → Q) → (result : Result ⊤ CompareFault) → OnOk result P → OnOk result Q
 well_gives P Q gives (Ok done) said = gives said
 well_gives P Q gives (Err fault) said = tt
 
--- what is said of two sides is so of the projects that they are sides of
+-- results about two sides hold for the projects they belong to
 module _ (files stored : Files) (project other : ListProject) (binding bound : Binding) (region : Region)
     (side next : SideState) (first : IsSideOf project binding region side) (second : IsSideOf other bound region next) where
   pub projects_compared : (result : Result (Option Difference) CompareFault)
@@ -78,7 +78,7 @@ module _ (files stored : Files) (project other : ListProject) (binding bound : B
       (subst (λ (r : Range). OnOk result
       (AreCounts (heard side.work files) (heard next.work stored) r.from (r.to - r.from) counts)) first.range said)
 
--- files that are read for two sides are those of their projects
+-- files read for two sides are the files of their projects
 pub read_as : {S T X : Type 0} (shelf : source.Ghosts S) (stock : source.Ghosts T) (old new : S) (before after : T)
     (sounds others own others_own : List SoundFacts) (result : Result X CompareFault) → sounds ≡ own → others ≡ others_own
     → ReadFiles shelf stock old new before after sounds others result

@@ -1,4 +1,4 @@
--- Frames that are the same in two files, and those that follow them.
+-- Merging equal ranges of two files.
 use Rattle.std.proofs.Common.{◌≡◌, ◌⊎◌, inl, inr, ℕ, ◌+◌, ◌-◌, ◌^◌, ◌<◌, ◌≤◌, List, arith, ap, subst, sym}
 use Rattle.std.specs.List.{All}
 use Rattle.std.specs.Prelude.{max, pos, neg_ℤ, ◌≤ℤ◌}
@@ -16,7 +16,7 @@ module _ (reading other : Reading) where
       (reading file channel frame ≡ other other_file channel other_frame)
       × (neg_ℤ (pos (2 ^ 47)) ≤ℤ reading file channel frame) × (reading file channel frame ≤ℤ pos (2 ^ 47))
 
-  -- of a match and one that follows it
+  -- a range and one that follows it
   pub continued_same : (earlier later : Match) → Follows earlier later → AreSameFrames reading other earlier
       → AreSameFrames reading other later
       → AreSameFrames reading other (record earlier { end = max earlier.end later.end })
@@ -39,7 +39,7 @@ module _ (reading other : Reading) where
             (subst (λ (n : ℕ). IsSameAt later.file n later.other_file (earlier.other_frame + i) channel) here
             (subst (λ (n : ℕ). IsSameAt later.file (later.frame + j) later.other_file n channel) other_here found)))
 
-  -- of a part of it
+  -- a part of a range
   pub covered_same : (whole part : Match) → Follows whole part → part.end ≤ whole.end
       → AreSameFrames reading other whole → AreSameFrames reading other part
   covered_same whole part follows ends same channel i from_one to_last below =
@@ -54,7 +54,7 @@ module _ (reading other : Reading) where
       (subst (λ (n : ℕ). IsSameAt whole.file n whole.other_file (part.other_frame + i) channel) here
       (subst (λ (n : ℕ). IsSameAt whole.file (whole.frame + j) whole.other_file n channel) other_here found)))
 
-  -- of matches that are others
+  -- the same for equal caches and ranges
   pub both_same : (new old : List Match) (changed whole : Match) → new ≡ old → changed ≡ whole
       → All (AreSameFrames reading other) old → AreSameFrames reading other whole
       → (All (AreSameFrames reading other) new) × AreSameFrames reading other changed
@@ -63,11 +63,11 @@ module _ (reading other : Reading) where
     subst (AreSameFrames reading other) (sym is) same,
   )
 
-  -- of none
+  -- an empty range
   pub none_same : (none : Match) → none.end ≡ 0 → AreSameFrames reading other none
   none_same none empty channel i from_one to_last below = absurd (omega (arith, empty, below))
 
-  -- what is known of the frames of two stretches says it of both
+  -- two stretches play equal samples in an equal range
   pub known_alike : (sounds others : List SoundFacts) (stretch part : Stretch) (found : Match)
       → IsMatchOf sounds others stretch part found → AreSameFrames reading other found
       → PlayAlike reading other stretch part

@@ -15,7 +15,7 @@ use Rattle.pcm.specs.Samples.{samples_in}
 use Rattle.pcm.specs.Laws.{sample_of-take, samples_in_more}
 use Rattle.comparison.specs.Stored.{full_samples}
 
--- samples of 16 bits, and of 24, in the upper bytes of 32
+-- 16-bit and 24-bit samples in the upper bytes of 32 bits
 low16 : (a b : ℕ) (rest : List ℕ) → a < 256 → b < 256
     → full_scale 32 (sample_of 32 (0 ∷ 0 ∷ a ∷ b ∷ rest)) ≡ full_scale 16 (sample_of 16 (a ∷ b ∷ []))
 low16 a b rest first second = grind (arith, ints, nat_tests)
@@ -52,7 +52,7 @@ four_alike : (a b c d e f g h : ℤ) → a ≡ e → b ≡ f → c ≡ g → d �
     → ◌≡◌ {A = List ℤ} (a ∷ b ∷ c ∷ d ∷ []) (e ∷ f ∷ g ∷ h ∷ [])
 four_alike a b c d e f g h one two three four = cc
 
--- four samples of a depth, w bytes each
+-- four samples of a depth, of w bytes each
 pub four_as : (depth w : ℕ) (bytes : List ℕ) (a b c d : ℤ) → a ≡ full_scale depth (sample_of depth bytes)
     → b ≡ full_scale depth (sample_of depth (drop w bytes)) → c ≡ full_scale depth (sample_of depth (drop (w + w) bytes))
     → d ≡ full_scale depth (sample_of depth (drop (w + w + w) bytes))
@@ -66,7 +66,7 @@ four_as depth w bytes a b c d one two three four =
     let last = ap (drop w) after ∙ drop-drop w (w + w) bytes in
     four_alike _ _ _ _ _ _ _ _ one two (three ∙ ap sample (sym after)) (four ∙ ap sample (sym last))
 
--- ---- vectors of bytes
+-- ---- byte vectors
 
 abbrev pub differs : ℕ → ℕ → ℕ
 differs a b = cond (not (eqb a b)) 255 0
@@ -77,7 +77,7 @@ flag x y = by_test (eqb x y) refl where
   by_test true e = λ _. eqb-true _ _ e
   by_test false e = λ q. absurd (omega arith)
 
--- where no bit is set, all lanes are the same
+-- if no bit of the mask is set, all lanes are equal
 pub same_by_mask : (xs ys : List ℕ) → length xs ≡ length ys → mask_l (map (top 7) (zip2 differs xs ys)) ≡ 0 → xs ≡ ys
 same_by_mask [] [] long none = refl
 same_by_mask [] (y ∷ ys) long none = absurd (omega (arith, long))
@@ -87,7 +87,7 @@ same_by_mask (x ∷ xs) (y ∷ ys) long none =
     let rest : xs ≡ ys = same_by_mask xs ys (omega (arith, long)) (omega (arith, none)) in
     rw (first, rest) refl
 
--- ---- samples after others
+-- ---- concatenation of samples
 
 samples_in-append : (depth n m : ℕ) (bytes : List ℕ)
     → samples_in depth (n + m) bytes ≡ samples_in depth n bytes ++ samples_in depth m (drop (n * (depth / 8)) bytes)
@@ -118,7 +118,7 @@ samples_in-take depth (suc m) k bytes room =
       samples_in-take depth m (k - w) (drop w bytes) (omega arith),
     ) refl
 
--- four more, of sixteen bytes
+-- four more samples, of sixteen bytes
 pub four_more : (depth n : ℕ) (bytes : List ℕ) → depth / 8 ≤ 4
     → full_samples depth (n + 4) bytes
     ≡ full_samples depth n bytes ++ full_samples depth 4 (take 16 (drop (n * (depth / 8)) bytes))
@@ -128,14 +128,14 @@ four_more depth n bytes narrow =
     ∙ ap (λ (l : List ℤ). full_samples depth n bytes ++ map (full_scale depth) l)
     (sym (samples_in-take depth 4 16 (drop (n * (depth / 8)) bytes) (omega arith)))
 
--- one more
+-- one more sample
 one_more : (depth n : ℕ) (bytes : List ℕ) → full_samples depth (n + 1) bytes
     ≡ full_samples depth n bytes ++ full_scale depth (sample_of depth (drop (n * (depth / 8)) bytes)) ∷ []
 one_more depth n bytes =
     ap (map (full_scale depth)) (samples_in_more depth n bytes)
     ∙ map-append (full_scale depth) (samples_in depth n bytes) (sample_of depth (drop (n * (depth / 8)) bytes) ∷ [])
 
--- one more that is the same at 32 bits
+-- one more sample that is equal at 32 bits
 pub one_same : (depth other n : ℕ) (bytes others : List ℕ) (sample counterpart : ℤ)
     → full_scale 32 sample ≡ full_scale depth (sample_of depth (drop (n * (depth / 8)) bytes))
     → full_scale 32 counterpart ≡ full_scale other (sample_of other (drop (n * (other / 8)) others))

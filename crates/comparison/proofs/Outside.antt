@@ -1,4 +1,4 @@
--- Outside of where events may be heard nothing is; so what is compared there is compared at every time that was chosen.
+-- Projects are silent outside of the range compared, so the result holds at every selected time.
 use Rattle.std.proofs.Common.{◌≡◌, ℕ, ◌<◌, ◌≤◌, Bool, true, false, List, [], ◌∷◌, ◌++◌, Some, None, refl, sym, ◌∙◌, subst, arith}
 use Rattle.std.specs.Prelude.{ℤ, pos, nat_le, Option, IfSome, ⊤}
 use Rattle.std.specs.List.{list_all}
@@ -19,7 +19,7 @@ use Rattle.comparison.specs.Alike.{AreAlike, DifferFirst, IsCompared}
 use Rattle.comparison.specs.Range.{Extent, IsChosen, compared_in, extent_of, is_inside}
 use Rattle.comparison.specs.Whole.{DifferAt, SoundAlike}
 
--- events that are heard only in an extent
+-- events that are audible only within an extent
 abbrev LieIn : Extent → List Event → Type 0
 LieIn e [] = ⊤
 LieIn e (event ∷ events) =
@@ -54,7 +54,7 @@ contribution_none : (reading : Reading) (index : Option BoundIndex) (event : Eve
 contribution_none reading None event channel time none = refl
 contribution_none reading (Some index) event channel time none = rw none refl
 
--- outside of it nothing is heard
+-- the mix is silent outside of the extent
 silent_mix : (reading : Reading) (indexes : List BoundIndex) (e : Extent) (events : List Event) (channel time : ℕ)
     → LieIn e events → is_inside e channel time ≡ false → mix_at reading indexes events channel time ≡ pos 0
 silent_mix reading indexes e [] channel time lie none = refl
@@ -75,7 +75,7 @@ rest_lies e (event ∷ events) others lie = rest_lies e events others lie.4
 both_lie : (events : List Event) → list_all is_event events ≡ true → LieIn (extent_of events) events
 both_lie events whole = events_lie (extent_of events) events whole (omega arith) (omega arith) (omega arith)
 
--- outside of where its events may be heard a project is silent
+-- a project is silent outside of the range of its events
 one_silent : (files : Files) (project : ListProject) (binding : Binding) (e : Extent) (events : List Event)
     → events ≡ project.events → LieIn e events → (channel time : ℕ) → is_inside e channel time ≡ false
     → project_mix files project binding channel time ≡ pos 0
@@ -83,7 +83,7 @@ one_silent files project binding e events same lie channel time none =
     subst (λ (es : List Event). mix_at (reading_of files binding) binding.indexes es channel time ≡ pos 0) same
     (silent_mix (reading_of files binding) binding.indexes e events channel time lie none)
 
--- what was chosen, or else a default, in both directions
+-- a selected bound or its default
 from_chosen : (choice : Option ℕ) (least time : ℕ) → IfSome choice (λ from. from ≤ time) → least ≤ time
     → chosen choice least ≤ time
 from_chosen None least time is below = below
@@ -119,7 +119,7 @@ lower_chosen : (choice : Option ℕ) (lower channel : ℕ) → lower < channel
 lower_chosen None lower channel less is = tt
 lower_chosen (Some channels) lower channel less is = omega (arith, less, is)
 
--- what was chosen and lies outside of what is compared lies outside of where events may be heard
+-- selected samples outside of the compared range are outside of the range of the events
 chosen_outside : (selection : Selection) (events others : List Event) (channel time : ℕ)
     → IsChosen selection channel time → is_inside (compared_in selection events others) channel time ≡ false
     → is_inside (extent_of (events ++ others)) channel time ≡ false
@@ -139,8 +139,7 @@ chosen_outside selection events others channel time is none =
           let wrong : true ≡ false = sym inside ∙ none in
           cc
 
--- What is found in what is compared is so at all that was chosen, where both are silent outside of where events may be
--- heard.
+-- a result for the compared range holds for the whole selection, if both mixes are silent elsewhere
 module _ (selection : Selection) (events others : List Event) (mix mixed : ℕ → ℕ → ℤ)
     (silent : (channel time : ℕ) → is_inside (extent_of (events ++ others)) channel time ≡ false
     → mix channel time ≡ pos 0)
@@ -235,7 +234,7 @@ module _ (selection : Selection) (events others : List Event) (mix mixed : ℕ �
   found_in_day found difference some told =
       (subst (λ (f : Option Difference). IsCompared from to channels mix mixed f) some told).before_end
 
--- The same of two projects.
+-- the result for two projects
 module _ (selection : Selection) (files stored : Files) (project other : ListProject) (binding bound : Binding)
     (events others : List Event) (own : events ≡ project.events) (others_own : others ≡ other.events)
     (whole : list_all is_event (events ++ others) ≡ true) (from to channels : ℕ)

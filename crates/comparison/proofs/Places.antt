@@ -1,11 +1,11 @@
--- The sums of two blocks, by sample and channel: where they are the same, and where they differ first.
+-- The sums of two blocks by sample and channel: equality and the first difference.
 use Rattle.std.proofs.Common.{◌≡◌, ◌≢◌, ℕ, suc, ◌+◌, ◌-◌, ◌*◌, ◌/◌, ◌%◌, ◌<◌, ◌≤◌, List, get_or, sym, ap, ◌∙◌, subst, arith}
 use Rattle.std.specs.Prelude.{ℤ, pos}
 use Rattle.std.proofs.Math.Nat.{div-add-mod, mul-le-mul_right}
 use Rattle.blockmachine.specs.Exact.{AreSumsOf}
 use Rattle.comparison.specs.Alike.{AreAlike, DifferFirst}
 
--- where the sum of a channel at a sample stands
+-- the index of the sum of a sample and channel
 pub index_inside : (frames channels i c : ℕ) → i < frames → 1 ≤ c → c ≤ channels
     → i * channels + (c - 1) < frames * channels
 index_inside frames channels i c below first last =
@@ -24,7 +24,7 @@ module _ (frames channels start : ℕ) (sums other : List ℤ) (mix mixed : ℕ 
       let here : start + i ≡ time = omega (arith, begun) in
       subst (λ (t : ℕ). mix c t ≡ mixed c t) here (sym (are i c below first last) ∙ same ∙ others i c below first last)
 
-  -- all are the same
+  -- all sums are equal
   pub all_alike : ((k : ℕ) → k < frames * channels → get_or sums k (pos 0) ≡ get_or other k (pos 0))
       → AreAlike start (start + frames) channels mix mixed
   all_alike same c time first last begun ends =
@@ -32,7 +32,7 @@ module _ (frames channels start : ℕ) (sums other : List ℤ) (mix mixed : ℕ 
       (same ((time - start) * channels + (c - 1))
       (index_inside frames channels (time - start) c (omega (arith, begun, ends)) first last))
 
-  -- the first that differs
+  -- the first sum that differs
   pub first_differs : (at : ℕ) → 1 ≤ channels → at < frames * channels
       → get_or sums at (pos 0) ≢ get_or other at (pos 0)
       → ((k : ℕ) → k < at → get_or sums k (pos 0) ≡ get_or other k (pos 0))

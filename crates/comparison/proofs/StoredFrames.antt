@@ -1,4 +1,4 @@
--- Samples of two files that are the same as they are stored play alike, and programs that add alike sum alike.
+-- Equal stored samples of two files play the same, and programs that add the same have equal sums.
 use Rattle.std.proofs.Common.{◌≡◌, ℕ, zero, suc, ◌+◌, ◌-◌, ◌*◌, ◌/◌, ◌^◌, ◌<◌, ◌≤◌, true, List, [], ◌∷◌, Some, length, map, take, drop, get_or, refl, sym, ap, ◌∙◌, subst, arith}
 use Rattle.std.specs.Prelude.{ℤ, pos, negsuc, neg_ℤ, ◌≤ℤ◌, nat_le, nat_lt, slice_get}
 use Rattle.std.specs.List.{All}
@@ -30,7 +30,7 @@ pub device_of : (fault : ShelfFault) → (fault ≡ shelf.NotFound → ⊥) → 
 device_of shelf.NotFound other = absurd (other refl)
 device_of shelf.Device other = refl
 
--- ---- what is read
+-- ---- samples read
 
 abbrev Within : ℤ → Type 0
 Within z = (neg_ℤ (pos (2 ^ 47)) ≤ℤ z) × (z ≤ℤ pos (2 ^ 47))
@@ -59,7 +59,7 @@ full_sample Sixteen z fits = full16 z fits
 full_sample TwentyFour z fits = full24 z fits
 full_sample ThirtyTwo z fits = full32 z fits
 
--- a sample of an opened file
+-- a sample of an open file
 heard_sample : (files : Files) (sounds : List SoundFacts) (facts : SoundFacts) (n channel frame : ℕ) (file : List ℕ)
     → slice_get sounds n ≡ Some facts → files facts.name ≡ Some file → frame < facts.frames → 1 ≤ channel
     → channel ≤ facts.channels
@@ -72,7 +72,7 @@ heard_sample files sounds facts n channel frame file there stored inside first l
     let high : nat_le channel facts.channels ≡ true = grind (arith, nat_tests) in
     rw (there, stored, frames, low, high) refl
 
--- the sample at a position at full scale
+-- the sample at an index, at full scale
 full_at : (depth : ℕ) (samples : List ℤ) (k : ℕ) (d : ℤ)
     → get_or (map (full_scale depth) samples) k (full_scale depth d) ≡ full_scale depth (get_or samples k d)
 full_at depth [] k d = refl
@@ -83,7 +83,7 @@ zero_full : (depth : ℕ) → full_scale depth (pos 0) ≡ pos 0
 zero_full depth =
     let none : 0 * 2 ^ (48 - depth) ≡ 0 = omega arith in pos-*ℤ-pos 0 (2 ^ (48 - depth)) ∙ ap pos none
 
--- the bytes that were read are these frames
+-- the bytes read are these sample frames
 pub read_held : (files : Files) (sounds : List SoundFacts) (facts : SoundFacts) (file from n : ℕ) (bytes : List ℕ)
     → slice_get sounds file ≡ Some facts
     → IsRange (files facts.name) (facts.offset + from * frame_length facts) bytes
@@ -113,7 +113,7 @@ read_held files sounds facts file from n bytes there range whole inside small ch
     (all_fit facts.depth total bytes small k (pos 0) (omega (arith, within, length-samples_in bits total bytes)))) in
     (heard ∙ sym at, full.0, full.1)
 
--- frames that are the same as they are stored are those of a match
+-- equal stored samples form a match
 same_frames : (reading other : Reading) (found : Match) (depth other_depth : ℕ) (bytes others : List ℕ)
     → full_samples depth ((found.end - found.frame) * found.channels) bytes
     ≡ full_samples other_depth ((found.end - found.frame) * found.channels) others
@@ -128,7 +128,7 @@ same_frames reading other found depth other_depth bytes others same mine theirs 
       held.2,
     )
 
--- so they are where the bytes that were read of both files are the same as they are stored
+-- so do the bytes read from both files if they are equal
 pub match_same : (reading other : Reading) (found : Match) (facts other_facts : SoundFacts) (channels : ℕ)
     (depth other_depth : Depth) (bytes others : List ℕ) → channels ≡ found.channels → facts.channels ≡ found.channels
     → other_facts.channels ≡ found.channels → depth ≡ facts.depth → other_depth ≡ other_facts.depth
@@ -172,7 +172,7 @@ programs_alike reading other channels (line ∷ lines) (counterpart ∷ counterp
     programs_alike reading other channels lines counterparts rest (executed reading channels line before)
     (executed other channels counterpart after) (first.sums channels before after same) i channel
 
--- a block that two programs sum alike
+-- a block in which two programs have equal sums
 module _ (range : Range) (k : ℕ) (reading other : Reading) (lines counterparts : List Instruction)
     (alike : SumAlike reading other lines counterparts) (mix mixed : ℕ → ℕ → ℤ)
     (sums : All (PlaysFull reading) lines → (start : BlockState) (i channel : ℕ) → i < block_frames range k

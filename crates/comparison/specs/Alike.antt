@@ -1,13 +1,13 @@
--- Whether two mixes sound the same in a range, and where they differ first.
+-- Equality of two mixes in a range, and their first difference.
 use Rattle.std.specs.Prelude.{◌≡◌, ◌≢◌, ℕ, ◌<◌, ◌≤◌, ℤ, pos, List, slice_index_or, Option, None, Some}
 use Rattle.comparison.specs.declared.difference.Difference.{Difference}
 
--- the same exact sum on each of so many channels at each time from one up to, and without, another
+-- the exact sums are equal on channels 1 to `channels` at each time of the range
 abbrev pub AreAlike : (from to channels : ℕ) → (mix other : ℕ → ℕ → ℤ) → Type 0
 AreAlike from to channels mix other = (channel time : ℕ) → 1 ≤ channel → channel ≤ channels → from ≤ time → time < to
     → mix channel time ≡ other channel time
 
--- on this channel at this time the sums are these, and differ; at no earlier time, and then on no lower channel
+-- the first difference: sums that differ, at the earliest time and there on the lowest channel
 pub record DifferFirst (from to channels : ℕ) (mix other : ℕ → ℕ → ℤ) (found : Difference) : Type 0 where
   pub begun : from ≤ found.at
   pub before_end : found.at < to
@@ -19,12 +19,12 @@ pub record DifferFirst (from to channels : ℕ) (mix other : ℕ → ℕ → ℤ
   pub before : AreAlike from found.at channels mix other
   pub below : (lower : ℕ) → 1 ≤ lower → lower < found.channel → mix lower found.at ≡ other lower found.at
 
--- they are alike there, or this is where they differ first
+-- the result of a comparison: equal mixes, or their first difference
 abbrev pub IsCompared : (from to channels : ℕ) → (mix other : ℕ → ℕ → ℤ) → Option Difference → Type 0
 IsCompared from to channels mix other None = AreAlike from to channels mix other
 IsCompared from to channels mix other (Some difference) = DifferFirst from to channels mix other difference
 
--- the position at which two lists of numbers differ first
+-- the first index below n at which two lists of numbers differ, if any
 abbrev pub IsFirstDiffering : (numbers others : List ℤ) → ℕ → Option ℕ → Type 0
 IsFirstDiffering numbers others n None =
     (k : ℕ) → k < n → slice_index_or numbers k (pos 0) ≡ slice_index_or others k (pos 0)

@@ -1,4 +1,4 @@
--- Two sides of a comparison over two shelves: what is heard of both, and what a call leaves of them.
+-- Both sides of a comparison over two shelves: their sound, and the effects of calls on them.
 use Rattle.std.specs.Prelude.{◌≡◌, ℕ, ◌+◌, ℤ, List, IsTrue, Result, IfErr, OnOk, length}
 use Rattle.sound_terms.specs.Blocks.{block_frames, block_start}
 use Rattle.devices.specs.declared.source.Shelf as source
@@ -11,19 +11,19 @@ use Rattle.comparison.specs.Fault.{IsSource, OfEither}
 use Rattle.comparison.specs.Matched.{AreMatches, ReadFiles}
 use Rattle.comparison.specs.Side.{AreBlockSums, first_sums, heard}
 
--- where both shelves are honest, this holds of what the two sides sound like
+-- a property of the sound of both sides holds if both shelves are honest
 abbrev pub OfBoth : {S T : Type 0} → source.Ghosts S → source.Ghosts T → S → T → Sides
     → ((ℕ → ℕ → ℤ) → (ℕ → ℕ → ℤ) → Type 0) → Type 0
 OfBoth shelf stock first second sides P =
     IsTrue (shelf.honest first) → IsTrue (stock.honest second)
     → P (heard sides.first.work (shelf.stored first)) (heard sides.second.work (stock.stored second))
 
--- each match that is kept is of the same frames of their files
+-- each cached match is of equal ranges of the files
 abbrev pub AreMatched : {S T : Type 0} → source.Ghosts S → source.Ghosts T → S → T → Sides → Type 0
 AreMatched shelf stock first second sides =
     AreMatches shelf stock first second sides.first.work.sounds sides.second.work.sounds sides.stored.matches
 
--- a call kept the plans and the files, its matches are of the same frames, and it only read files of either side
+-- a call kept the plans and the files, the cache stays correct, and files of both sides were only read
 pub record AreKept {S T X : Type 0} (shelf : source.Ghosts S) (stock : source.Ghosts T) (first first' : S)
     (second second' : T) (old new : Sides) (result : Result X CompareFault) : Type 0 where
   pub first_work : new.first.work ≡ old.first.work
@@ -32,7 +32,7 @@ pub record AreKept {S T X : Type 0} (shelf : source.Ghosts S) (stock : source.Gh
   pub source : IfErr result (OfEither IsSource)
   pub files : ReadFiles shelf stock first first' second second' old.first.work.sounds old.second.work.sounds result
 
--- calls so far kept the plans and the files, the matches are of the same frames, and nothing has failed
+-- the calls so far kept the plans and the files, the cache is correct, and nothing has failed
 pub record AreGoneOver {S T : Type 0} (shelf : source.Ghosts S) (stock : source.Ghosts T) (first first' : S)
     (second second' : T) (old new : Sides) : Type 0 where
   pub first_work : new.first.work ≡ old.first.work
@@ -41,18 +41,18 @@ pub record AreGoneOver {S T : Type 0} (shelf : source.Ghosts S) (stock : source.
   pub second_quiet : IsQuiet stock second second'
   pub matched : AreMatched shelf stock first' second' new
 
--- there is a count for each of the channels
+-- one count per channel
 abbrev pub HasCounts : Sides → List ℕ → Type 0
 HasCounts sides counts = length counts ≡ sides.first.work.planned.range.channels
 
--- the sums of block k that were written last are those of two mixes
+-- the current sums are those that two mixes have in block k
 pub record AreSummed (sides : Sides) (k : ℕ) (mix other : ℕ → ℕ → ℤ) : Type 0 where
   pub sums : AreBlockSums sides.first.work.planned.range mix k
       (first_sums sides.first.work.planned.range k sides.first.sums)
   pub others : AreBlockSums sides.second.work.planned.range other k
       (first_sums sides.second.work.planned.range k sides.second.sums)
 
--- this is block k of both sides
+-- `block` is block k of both sides
 pub record IsBlock (sides : Sides) (k : ℕ) (block : BlockSums) : Type 0 where
   pub sums : block.sums.now ≡ first_sums sides.first.work.planned.range k sides.first.sums
   pub others : block.others.now ≡ first_sums sides.second.work.planned.range k sides.second.sums
@@ -60,7 +60,7 @@ pub record IsBlock (sides : Sides) (k : ℕ) (block : BlockSums) : Type 0 where
   pub channels : block.channels ≡ sides.first.work.planned.range.channels
   pub start : block.start ≡ block_start sides.first.work.planned.range k
 
--- the sums of a block are those of two mixes
+-- the sums of a block are the sums of two mixes
 pub record AreSumsOfBlock (block : BlockSums) (mix other : ℕ → ℕ → ℤ) : Type 0 where
   pub sums : AreSumsOf block.frames block.channels block.sums.now (λ i channel. mix channel (block.start + i))
   pub others : AreSumsOf block.frames block.channels block.others.now (λ i channel. other channel (block.start + i))

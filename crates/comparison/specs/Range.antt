@@ -1,16 +1,16 @@
--- What of two projects is compared.
+-- The range in which two projects are compared.
 use Rattle.std.specs.Prelude.{ℕ, ◌≤◌, ◌<◌, ◌&&◌, ◌++◌, nat_le, nat_lt, max, Bool, List, IfSome}
 use Rattle.sound_terms.specs.declared.Event.{Event}
 use Rattle.list_terms.specs.Accepted.{chosen, greatest_of, least_of}
 use Rattle.comparison.specs.declared.range.Selection.{Selection}
 
--- the samples from one time up to, and without, another, on channels from 1
+-- samples from `from` to `to` (exclusive), on channels 1 to `channels`
 pub record Extent : Type 0 where
   pub from : ℕ
   pub to : ℕ
   pub channels : ℕ
 
--- where these events may be heard
+-- the range in which events may be audible
 abbrev pub extent_of : List Event → Extent
 extent_of events = record {
   from = least_of (λ event. event.dest_in) events;
@@ -18,7 +18,7 @@ extent_of events = record {
   channels = max 1 (greatest_of (λ event. event.dest.last) events);
 }
 
--- what is compared: what would be rendered of one list with the events of both
+-- the range compared: the range that would be rendered of one list with the events of both projects
 abbrev pub compared_in : Selection → (events others : List Event) → Extent
 compared_in selection events others = record {
   from = chosen selection.from (extent_of (events ++ others)).from;
@@ -26,17 +26,17 @@ compared_in selection events others = record {
   channels = chosen selection.channels (extent_of (events ++ others)).channels;
 }
 
--- a number of channels that was chosen is 1 to 64
+-- a selected number of channels is 1 to 64
 abbrev pub HasChannels : Selection → Type 0
 HasChannels selection = IfSome selection.channels (λ channels. (1 ≤ channels) × (channels ≤ 64))
 
--- nothing that was chosen leaves out this time of this channel
+-- the selection includes this time on this channel
 pub record IsChosen (selection : Selection) (channel time : ℕ) : Type 0 where
   pub begun : IfSome selection.from (λ from. from ≤ time)
   pub before_end : IfSome selection.to (λ to. time < to)
   pub to_last : IfSome selection.channels (λ channels. channel ≤ channels)
 
--- this time of this channel lies in an extent
+-- this time on this channel is in the extent
 abbrev pub is_inside : Extent → (channel time : ℕ) → Bool
 is_inside e channel time =
     nat_le 1 channel && (nat_le channel e.channels && (nat_le e.from time && nat_lt time e.to))

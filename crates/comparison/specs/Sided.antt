@@ -1,4 +1,4 @@
--- Which side of a comparison is that of a project.
+-- The sides of a comparison as regions of projects.
 use Rattle.std.specs.Prelude.{◌≡◌, ℕ}
 use Rattle.sound_terms.specs.declared.Depth.TheVariants.{TwentyFour}
 use Rattle.sound_terms.specs.Render.{Range}
@@ -9,11 +9,11 @@ use Rattle.work_terms.specs.Disk.{Files}
 use Rattle.comparison.specs.declared.range.Region.{Region}
 use Rattle.comparison.specs.Side.{SideState, heard}
 
--- the range of its plan
+-- the plan's range for a region
 abbrev pub range_of : Region → Range
 range_of region = record { from = region.from; to = region.to; channels = region.channels; depth = TwentyFour }
 
--- it has this region of the project, over its files, and sounds like it
+-- the side has this region of the project, its files and its mix
 pub record IsSideOf (project : ListProject) (binding : Binding) (region : Region) (side : SideState) : Type 0 where
   pub range : side.work.planned.range ≡ range_of region
   pub sounds : side.work.sounds ≡ sounds_of binding

@@ -1,4 +1,4 @@
--- What two blocks add to their sums from samples that are the same as they are stored.
+-- Equality of stored samples, and its effect on the sums of two blocks.
 use Rattle.std.specs.Prelude.{◌≡◌, ℕ, ◌+◌, ◌-◌, ◌*◌, ◌/◌, ◌^◌, ◌<◌, ◌≤◌, ℤ, pos, neg_ℤ, ◌≤ℤ◌, List, Some, length, map, slice_get, slice_index_or}
 use Rattle.sound_terms.specs.declared.block.Stretch.{Stretch}
 use Rattle.sound_terms.specs.declared.block.Instruction.{Instruction}
@@ -11,16 +11,16 @@ use Rattle.comparison.specs.declared.counterparts.Counterparts.{Counterparts}
 use Rattle.comparison.specs.declared.matches.Match.{Match}
 use Rattle.comparison.specs.Matched.{LieInBoth}
 
--- the first n samples of bytes of this depth, at full scale
+-- the first n stored samples of this depth, at full scale
 abbrev pub full_samples : (depth n : ℕ) → List ℕ → List ℤ
 full_samples depth n bytes = map (full_scale depth) (samples_in depth n bytes)
 
--- the samples of both depths sound the same at full scale
+-- the samples of both depths are equal at full scale
 abbrev pub SoundSame : Counterparts → Type 0
 SoundSame pair =
     full_samples (bits_of pair.depth) pair.count pair.bytes.now ≡ full_samples (bits_of pair.other) pair.count pair.others.now
 
--- so many bytes as whole frames of an opened file have, from this one on
+-- the bytes have the length of whole sample frames of an open file, from this one on
 pub record AreFrames (sounds : List SoundFacts) (file from : ℕ) (bytes : List ℕ) : Type 0 where
   pub facts : SoundFacts
   pub there : slice_get sounds file ≡ Some facts
@@ -28,7 +28,7 @@ pub record AreFrames (sounds : List SoundFacts) (file from : ℕ) (bytes : List 
   pub whole : length bytes ≡ n * facts.channels * (bits_of facts.depth / 8)
   pub inside : from + n ≤ facts.frames
 
--- these bytes are the n frames of a file from this one on, and no sample of them lies outside full scale
+-- the bytes are the n sample frames of a file from this one on, and all samples are within full scale
 abbrev pub HoldFrames : Reading → (channels depth file from n : ℕ) → List ℕ → Type 0
 HoldFrames reading channels depth file from n bytes = (channel i : ℕ) → 1 ≤ channel → channel ≤ channels → i < n
     → (reading file channel (from + i)
@@ -36,7 +36,7 @@ HoldFrames reading channels depth file from n bytes = (channel i : ℕ) → 1 �
     × (neg_ℤ (pos (2 ^ 47)) ≤ℤ reading file channel (from + i))
     × (reading file channel (from + i) ≤ℤ pos (2 ^ 47))
 
--- these are the frames of two stretches of the same samples and channels of a block, with all channels of their files
+-- the ranges of two stretches that cover the same samples and channels of a block, with all channels of their files
 pub record IsMatchOf (sounds others : List SoundFacts) (stretch part : Stretch) (found : Match) : Type 0 where
   pub layout : part ≡ record stretch { file = part.file; frame = part.frame }
   pub from_one : 1 ≤ stretch.first
@@ -48,7 +48,7 @@ pub record IsMatchOf (sounds others : List SoundFacts) (stretch part : Stretch) 
   pub wide : stretch.first + stretch.width ≤ found.channels + 1
   pub lies : LieInBoth sounds others found
 
--- two stretches of the same samples and channels of a block play the same, and no sample outside full scale
+-- two stretches of the same samples and channels of a block play equal samples, all within full scale
 pub record PlayAlike (reading other : Reading) (stretch part : Stretch) : Type 0 where
   pub layout : part ≡ record stretch { file = part.file; frame = part.frame }
   pub samples : (j i : ℕ) → j < stretch.width → i < stretch.length
@@ -57,7 +57,7 @@ pub record PlayAlike (reading other : Reading) (stretch part : Stretch) : Type 0
   pub full : IsFull reading stretch
   pub other_full : IsFull other part
 
--- two instructions leave the same sums where they find the same, and play no sample outside full scale
+-- two instructions turn equal sums into equal sums, and play only samples within full scale
 pub record AddAlike (reading other : Reading) (line counterpart : Instruction) : Type 0 where
   pub sums : (channels : ℕ) (before after : BlockState)
       → ((i channel : ℕ) → before.sums i channel ≡ after.sums i channel) → (i channel : ℕ)
@@ -66,7 +66,7 @@ pub record AddAlike (reading other : Reading) (line counterpart : Instruction) :
   pub full : PlaysFull reading line
   pub other_full : PlaysFull other counterpart
 
--- as many instructions on both sides, each of which does so with its counterpart
+-- two programs of equal length in which each instruction adds the same as its counterpart
 pub record SumAlike (reading other : Reading) (lines counterparts : List Instruction) : Type 0 where
   pub alike_many : length lines ≡ length counterparts
   pub each : (k : ℕ) (d : Instruction) → k < length lines

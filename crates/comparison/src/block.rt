@@ -1,8 +1,8 @@
-// The sums of a block of two sides.
+// The sums of one block on both sides.
 ghost use Rattle.std.specs.Prelude.{◌≡◌, ◌*◌, ◌≤◌, length};
 ghost use Rattle.sampletime.specs.TimeCode.{day};
 
-/// The sums of a block of two sides, which begins at this time: one for each of its frames and channels, frame by frame.
+/// The sums of one block on both sides, interleaved, and the start time of the block in samples.
 #[derive(Clone, Copy)]
 pub struct BlockSums<'a> {
     pub sums: &'a [i64],

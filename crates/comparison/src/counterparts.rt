@@ -1,10 +1,11 @@
-// Samples of two depths, as they are stored.
+// Stored samples at two bit depths, the input of `are_same_at`; equal to the unpacked samples at
+// full scale.
 ghost use Rattle.std.specs.Prelude.{◌≡◌, ◌*◌, ◌/◌, length};
 ghost use Rattle.sound_terms.specs.Depth.{bits_of};
 
 use sound_terms::Depth;
 
-/// As many samples of two depths, as they are stored.
+/// The same number of stored samples from either side, each side at its own bit depth.
 #[derive(Clone, Copy)]
 pub struct Counterparts<'a> {
     pub depth: Depth,

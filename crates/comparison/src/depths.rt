@@ -1,4 +1,5 @@
-// Samples of two depths, compared as they are stored.
+// Fast comparison of stored samples at two bit depths; equal to comparing the unpacked samples at
+// full scale.
 ghost use Rattle.std.specs.Prelude.{◌≡◌, ◌+◌, ◌*◌, ◌/◌, ◌≤◌, IsTrue, drop, length};
 ghost use Rattle.sound_terms.specs.Depth.{bits_of};
 ghost use Rattle.sound_terms.specs.Mix.{full_scale};
@@ -10,15 +11,16 @@ use pcm::unpack;
 use sound_terms::Depth;
 use std::simd::prelude::*;
 
-/// Where the bytes of four samples of 16 bits go: to the upper ends of those of 32 bits, with zeros (128) below them.
+/// Byte positions that spread four 16-bit samples over four 32-bit lanes: into the upper bytes,
+/// above zeros (128).
 const SIXTEEN: [u8; 16] = [
     128, 128, 0, 1, 128, 128, 2, 3, 128, 128, 4, 5, 128, 128, 6, 7,
 ];
 
-/// The same at 24 bits.
+/// Byte positions that spread four 24-bit samples over four 32-bit lanes.
 const TWENTY_FOUR: [u8; 16] = [128, 0, 1, 2, 128, 3, 4, 5, 128, 6, 7, 8, 128, 9, 10, 11];
 
-/// The four samples of 16 bits that sixteen bytes begin with, as they are stored at 32 bits.
+/// Widens the first four 16-bit samples of a vector to 32 bits.
 #[inline(always)]
 fn four_sixteen(bytes: u8x16) -> u8x16
     ensures { full_samples 32 4 result ≡ full_samples 16 4 bytes }
@@ -26,7 +28,7 @@ fn four_sixteen(bytes: u8x16) -> u8x16
     bytes.swizzle_dyn(u8x16::from_array(SIXTEEN))
 }
 
-/// The same at 24 bits.
+/// Widens the first four 24-bit samples of a vector to 32 bits.
 #[inline(always)]
 fn four_twenty_four(bytes: u8x16) -> u8x16
     ensures { full_samples 32 4 result ≡ full_samples 24 4 bytes }
@@ -34,7 +36,7 @@ fn four_twenty_four(bytes: u8x16) -> u8x16
     bytes.swizzle_dyn(u8x16::from_array(TWENTY_FOUR))
 }
 
-/// The same at any depth.
+/// Widens the first four samples of any depth to 32 bits.
 #[inline(always)]
 fn four_samples(depth: Depth, bytes: u8x16) -> u8x16
     ensures { full_samples 32 4 result ≡ full_samples (bits_of depth) 4 bytes }
@@ -46,7 +48,6 @@ fn four_samples(depth: Depth, bytes: u8x16) -> u8x16
     }
 }
 
-/// Whether sixteen bytes are the same as others.
 #[inline(always)]
 fn are_equal(bytes: u8x16, others: u8x16) -> bool
     ensures { IsTrue result → bytes ≡ others }
@@ -54,7 +55,8 @@ fn are_equal(bytes: u8x16, others: u8x16) -> bool
     bytes.simd_ne(others).to_bitmask() == 0
 }
 
-/// How many samples from the front on are the same at full scale, four at a time, as long as eight remain.
+/// The number of leading samples known to be equal at full scale. Compares four at a time while
+/// eight remain.
 #[inline(always)]
 fn same_lanes(pair: &Counterparts) -> usize
     ensures some { result ≤ pair.now.count }
@@ -79,7 +81,7 @@ fn same_lanes(pair: &Counterparts) -> usize
     done
 }
 
-/// Sample i of these, as it is at 32 bits.
+/// Sample `i`, unpacked and scaled to 32 bits.
 fn sample_at(depth: Depth, bytes: &[u8], i: usize) -> i32
     requires { (i + 1) * (bits_of depth / 8) ≤ length bytes.now }
     ensures { full_scale 32 result
@@ -95,7 +97,7 @@ fn sample_at(depth: Depth, bytes: &[u8], i: usize) -> i32
     }
 }
 
-/// Whether the samples of a pair are the same at full scale: four at a time as far as that goes, and then one by one.
+/// Whether all samples are equal at full scale: compares four at a time, then one by one.
 #[inline(always)]
 fn are_same_in(pair: &Counterparts) -> bool
     ensures { IsTrue result → SoundSame pair.now }
@@ -109,7 +111,7 @@ fn are_same_in(pair: &Counterparts) -> bool
     true
 }
 
-/// The same where the depths are these, which the loop over it then knows.
+/// Specialised for the given depths; otherwise like `are_same_in`.
 #[inline(always)]
 fn are_same_of(pair: &Counterparts, depth: Depth, other: Depth) -> bool
     ensures { IsTrue result → SoundSame pair.now }
@@ -127,7 +129,7 @@ fn are_same_of(pair: &Counterparts, depth: Depth, other: Depth) -> bool
     }
 }
 
-/// The same of a depth and a deeper one. Each pair of them has a separate loop.
+/// Specialised for each pair of depths, the second of which must be at least the first.
 fn are_same_deeper(pair: &Counterparts) -> bool
     ensures { IsTrue result → SoundSame pair.now }
 {
@@ -143,8 +145,8 @@ fn are_same_deeper(pair: &Counterparts) -> bool
     }
 }
 
-/// Whether the samples of a pair are the same at full scale. Nothing is unpacked: the bytes of a sample are the upper ones
-/// of the deeper, above zeros.
+/// Returns whether all samples are equal at full scale. Unpacks nothing: the bytes of the lower
+/// depth are compared with the upper bytes of the greater depth, and its lower bytes with zero.
 pub fn are_same_at(pair: &Counterparts) -> bool
     ensures { IsTrue result → SoundSame pair.now }
 {

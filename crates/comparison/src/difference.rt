@@ -1,12 +1,12 @@
-// The sums of two blocks, one by one.
+// The first difference between the sums of two blocks.
 ghost use Rattle.std.specs.Prelude.{◌≡◌, ◌+◌, ◌<◌, ℕ, ℤ, pos, IsTrue, length, slice_index_or};
 ghost use Rattle.comparison.specs.Alike.{IsCompared, IsFirstDiffering};
 ghost use Rattle.comparison.specs.Both.{AreSumsOfBlock};
 
 use crate::block::BlockSums;
 
-/// A sample of a channel, counted from 1 on, at a time of the day, and the exact sums of two projects for it. Full scale
-/// is 2^47.
+/// A sample at which two projects differ: its time of day in samples, its channel from 1, and the
+/// exact sums of both projects. Full scale is 2^47.
 #[derive(Clone, Copy, Debug, PartialEq, Eq)]
 pub struct Difference {
     pub at: u64,
@@ -15,7 +15,7 @@ pub struct Difference {
     pub second: i64,
 }
 
-/// Whether no two of these sums differ. A loop that never ends early is made wide.
+/// Whether all sums are equal. The loop has no early exit, so that it is vectorised.
 #[inline(always)]
 fn are_same(block: &BlockSums) -> bool
     ensures { IsTrue result → (k : ℕ) → k < length block.now.sums.now
@@ -29,7 +29,7 @@ fn are_same(block: &BlockSums) -> bool
     same
 }
 
-/// The position of the first sum that differs; `None` where none does.
+/// The index of the first sum that differs.
 fn first_differing(block: &BlockSums) -> Option<usize>
     ensures { IsFirstDiffering block.now.sums.now block.now.others.now (length block.now.sums.now) result }
 {
@@ -42,7 +42,8 @@ fn first_differing(block: &BlockSums) -> Option<usize>
     None
 }
 
-/// Where the sums of a block differ first.
+/// Returns the first difference between the sums of both sides of a block, or `None` if there is
+/// none.
 pub fn first_difference(block: &BlockSums) -> Option<Difference>
     ensures { (mix other : ℕ → ℕ → ℤ) → AreSumsOfBlock block.now mix other
         → IsCompared block.now.start (block.now.start + block.now.frames) block.now.channels mix other result }

@@ -1,39 +1,39 @@
-// Why two projects aren't compared.
+// Errors of comparing two projects.
 ghost use Rattle.std.specs.Prelude.{◌≡◌};
 ghost use Rattle.comparison.specs.Fault.{number_of};
 
 use thiserror::Error;
 
-/// Why the sums of a project aren't found.
+/// Error of summing one project.
 #[derive(Clone, Copy, Debug, PartialEq, Eq, Error)]
 pub enum SideFault {
-    /// 47: no memory was left for the pieces of the entries.
+    /// Out of memory for the pieces of the entries (refusal 47).
     #[error("out of memory")]
     Intervals,
-    /// 57: no memory was left for the plan or its sums.
+    /// Out of memory for the plan or its sums (refusal 57).
     #[error("out of memory")]
     Memory,
-    /// 22: a sound can't be read, that at this position among those opened.
+    /// The open sound at index `file` can't be read (refusal 22).
     #[error("sound {file} can't be read")]
     Source { file: u32 },
 }
 
-/// Why two projects aren't compared.
+/// Error of comparing two projects.
 #[derive(Clone, Copy, Debug, PartialEq, Eq, Error)]
 pub enum CompareFault {
-    /// 58: the range ends where it begins, or before.
+    /// The range is empty or ends before it begins (refusal 58).
     #[error("the range is empty")]
     EmptyRange,
-    /// A fault of the first project.
+    /// Error of the first project.
     #[error("first: {0}")]
     First(SideFault),
-    /// A fault of the second project.
+    /// Error of the second project.
     #[error("second: {0}")]
     Second(SideFault),
 }
 
 impl SideFault {
-    /// The number of the refusal.
+    /// Returns the refusal number.
     pub fn number(&self) -> u8
         ensures { result ≡ number_of self.now }
     {

@@ -1,4 +1,4 @@
-// Where two sides differ first.
+// The search for the first difference between two sides.
 ghost use Rattle.std.specs.Prelude.{◌+◌, IfOk};
 ghost use Rattle.sound_terms.specs.Blocks.{block_frames, block_start};
 ghost use Rattle.comparison.specs.Alike.{IsCompared};
@@ -10,7 +10,7 @@ use crate::difference::{Difference, first_difference};
 use crate::sides::Sides;
 use devices::{Shelf, Watch};
 
-/// Where the sums of two sides differ first in block k. Nothing is summed where that shows before.
+/// The first difference in block `k`. Sums nothing if the sides are seen to be equal without.
 fn compare_block<S: Shelf, T: Shelf>(
     k: u64,
     sides: &mut Sides,
@@ -36,9 +36,10 @@ fn compare_block<S: Shelf, T: Shelf>(
     Ok(first_difference(&block))
 }
 
-/// Where two sides differ first, on the channels and in the samples that both plans have; `None` where they sound
-/// alike. Blocks are compared in turn, and none after the one that differs; after each that doesn't the watch sees how
-/// many frames are compared.
+/// Returns the first difference between two sides, on the channels and samples of their common
+/// range, or `None` if they sound the same. Compares block by block and stops after the first that
+/// differs; reports progress to `watch` after each equal block. Returns `CompareFault::First` or
+/// `Second` if a file of that side can't be read.
 pub fn compare_sides<S: Shelf, T: Shelf, W: Watch>(
     sides: &mut Sides,
     first_shelf: &mut S,

@@ -1,13 +1,14 @@
-//! Whether two projects without a fault sound the same, sample for sample before any rounding, and where they differ
-//! first.
+//! Comparison of two valid projects, sample by sample before any rounding.
 //!
-//! `compare_projects` compares the exact sums of both, block by block; where neither plays nothing is read, and where
-//! both add the same samples, at whatever depths they are stored, nothing is summed. Frames of two files that were found
-//! to be the same are mostly not read again. It answers `Same` exactly where the sums are equal on every chosen channel
-//! at every chosen time, and else the first time at which they differ, with the lowest channel that differs there and
-//! both sums (`compared`). Files are only read (`first_read`, `second_read`).
+//! `compare_projects` compares exact sums block by block. It reads nothing if neither project plays
+//! in a block, and sums nothing if both add the same samples, at whatever bit depths they are
+//! stored. Equal ranges of two files are remembered and mostly not read again. The result is `Same`
+//! exactly if the sums are equal on every selected channel at every selected time; otherwise it is
+//! the first time at which they differ, with the lowest channel that differs there and both sums
+//! (clause `compared`). Files are only read (`first_read`, `second_read`).
 //!
-//! `differing_in` counts, channel by channel, at how many samples of a stretch they differ (`counted`).
+//! `differing_in` counts, channel by channel, the samples of a stretch at which they differ
+//! (`counted`).
 #![tactic(auto)]
 
 mod block;

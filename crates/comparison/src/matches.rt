@@ -1,4 +1,5 @@
-// Frames of files of both sides that were found to be the same.
+// A cache of equal sample ranges of two files; a hit is equal to reading both ranges and comparing
+// them.
 ghost use Rattle.std.specs.Prelude.{◌≡◌, ◌+◌, ◌-◌, ◌<◌, ◌≤◌, ℕ, IfSome, IsTrue};
 ghost use Rattle.std.specs.List.{All};
 ghost use Rattle.sound_terms.specs.Mix.{Reading};
@@ -6,11 +7,12 @@ ghost use Rattle.comparison.specs.Matched.{AreSameFrames, Follows};
 
 use std::marker::Model;
 
-/// How many matches are kept.
+/// Number of ranges in the cache.
 const KEPT: usize = 32;
 
-/// Frames of a file of the first side from one up to, and without, another, and as many of a file of the second one,
-/// on so many channels from the first on.
+/// Equal ranges of two files: samples `frame` to `end` (exclusive) of a file of the first side, and
+/// the same number of samples of a file of the second side from `other_frame` on, on channels 1 to
+/// `channels`.
 #[derive(Clone, Copy)]
 pub struct Match {
     pub file: u32,
@@ -21,7 +23,6 @@ pub struct Match {
     pub channels: u8,
 }
 
-/// No frames.
 const NONE: Match = Match {
     file: 0,
     frame: 0,
@@ -31,7 +32,8 @@ const NONE: Match = Match {
     channels: 0,
 };
 
-/// Whether one of two matches of the same files begins inside of the other, or at its end, with its frames as far apart.
+/// Whether the later range begins within the earlier one or at its end, at the same distance in
+/// both files.
 fn follows(earlier: &Match, later: &Match) -> bool
     ensures { IsTrue result → Follows earlier.now later.now }
 {
@@ -46,7 +48,7 @@ fn follows(earlier: &Match, later: &Match) -> bool
         && later.frame - earlier.frame == later.other_frame - earlier.other_frame
 }
 
-/// A match with what follows it.
+/// Extends a range by one that follows it.
 fn continued(earlier: &Match, later: &Match) -> Match
     requires { Follows earlier.now later.now }
     ensures { (reading other : Reading) → AreSameFrames reading other earlier.now
@@ -58,7 +60,7 @@ fn continued(earlier: &Match, later: &Match) -> Match
     }
 }
 
-/// Two matches as one, where one follows the other.
+/// Merges two ranges if one follows the other.
 fn joined(one: &Match, two: &Match) -> Option<Match>
     ensures { IfSome result (λ both. (reading other : Reading) → AreSameFrames reading other one.now
         → AreSameFrames reading other two.now → AreSameFrames reading other both) }
@@ -72,7 +74,7 @@ fn joined(one: &Match, two: &Match) -> Option<Match>
     None
 }
 
-/// The last matches that were found. A clause sees the list of them.
+/// The most recently found equal ranges. Contracts see the list of them.
 #[derive(Drop)]
 pub struct Matches {
     kept: [Match; KEPT],
@@ -90,7 +92,7 @@ impl Model for Matches {
 }
 
 impl Matches {
-    /// None yet.
+    /// Creates an empty cache.
     pub fn new() -> Self
         ensures { (reading other : Reading) → All (AreSameFrames reading other) result }
     {
@@ -100,7 +102,7 @@ impl Matches {
         }
     }
 
-    /// Whether one that was found has all frames of another.
+    /// Returns whether a cached range covers `wanted`.
     pub fn cover(&self, wanted: &Match) -> bool
         ensures { IsTrue result → (reading other : Reading) → All (AreSameFrames reading other) self.now
             → AreSameFrames reading other wanted.now }
@@ -114,7 +116,7 @@ impl Matches {
         false
     }
 
-    /// One more, joined with those that it follows or that follow it, instead of the oldest.
+    /// Adds a range, merged with the cached ranges that adjoin it. Replaces the oldest one.
     pub fn add(&mut self, more: Match)
         ensures { (reading other : Reading) → All (AreSameFrames reading other) self.old
             → AreSameFrames reading other more → All (AreSameFrames reading other) self.new }

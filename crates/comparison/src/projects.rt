@@ -1,4 +1,4 @@
-// Two projects without a fault, compared.
+// Comparison of two valid projects.
 ghost use Rattle.std.specs.Prelude.{◌≡◌, ◌*◌, ◌<◌, ◌≤◌, ◌↔◌, ℕ, IfErr, IfOk, IsErrOf, IsTrue, length};
 ghost use Rattle.std.specs.List.{All};
 ghost use Rattle.sampletime.specs.TimeCode.{day};
@@ -32,9 +32,9 @@ use sampletime::SampleTime;
 use sound_terms::Depth;
 use std::alloc::Global;
 
-/// How two projects compare: so many frames of so many channels are the same, or they differ first at this time, on
-/// this channel and on no lower one. `first` and `second` are the exact sums of either project for it, neither rounded
-/// nor clipped: full scale is 2^47.
+/// Result of a comparison: `frames` samples of `channels` channels are equal, or the projects first
+/// differ at time `at` on `channel`, the lowest that differs there. `first` and `second` are the
+/// exact sums of both projects at that sample, neither rounded nor clipped. Full scale is 2^47.
 #[derive(Clone, Copy, Debug, PartialEq, Eq)]
 pub enum Comparison {
     Same {
@@ -76,7 +76,7 @@ fn plan_of(alloc: Global, checked: &Checked, region: &Region) -> Result<Plan, Si
     }
 }
 
-/// A side of a region of a project, and bytes for what of its files is read as it is stored.
+/// One side of a comparison, and a buffer for the stored samples of its files.
 fn side_of<'a>(
     alloc: Global,
     checked: &'a Checked,
@@ -91,7 +91,8 @@ fn side_of<'a>(
     Ok((side, bytes))
 }
 
-/// Both sides of a region of two projects.
+/// Creates both sides of a comparison of a region. Returns `CompareFault::First` or `Second` if out
+/// of memory.
 pub fn sides_of<'a, 'b>(
     alloc: Global,
     first: &'a Checked,
@@ -124,7 +125,7 @@ pub fn sides_of<'a, 'b>(
     })
 }
 
-/// Where two projects differ first in a region.
+/// The first difference of two projects in a region.
 fn compare_in<S: Shelf, T: Shelf, W: Watch>(
     alloc: Global,
     first: &Checked,
@@ -147,16 +148,18 @@ fn compare_in<S: Shelf, T: Shelf, W: Watch>(
     compare_sides(&mut sides, first_shelf, second_shelf, watch)
 }
 
-/// So many samples as a time of the day.
+/// Converts a number of samples to a time of day; numbers beyond a day become `SampleTime::DAY`.
 pub fn time_of(samples: u64) -> SampleTime
     ensures { samples ≤ day → result ≡ samples }
 {
     SampleTime::new(samples).unwrap_or(SampleTime::DAY)
 }
 
-/// Whether two projects sound the same, on every channel at every time that was chosen, and where they differ first: by
-/// their exact sums, before any rounding. Nothing is read or summed where neither plays. `EmptyRange` comes before any
-/// memory is taken. The watch sees after each block that is the same how many frames are compared.
+/// Compares two projects by their exact sums, before any rounding, on every selected channel at
+/// every selected time. Reads and sums nothing if neither plays. Reports the number of samples
+/// compared to `watch` after each equal block. Returns `CompareFault::EmptyRange`, before any
+/// allocation, if the selected range is empty, and `CompareFault::First` or `Second` if that
+/// project's files can't be read or memory runs out.
 pub fn compare_projects<S: Shelf, T: Shelf, W: Watch>(
     alloc: Global,
     first: &Checked,

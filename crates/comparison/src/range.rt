@@ -1,4 +1,4 @@
-// Which samples of two projects are compared, on which channels.
+// Selection of the samples and channels to compare.
 ghost use Rattle.std.specs.Prelude.{◌≡◌, ◌<◌, ◌≤◌, ◌++◌, max, min, IsTrue};
 ghost use Rattle.std.specs.List.{list_all};
 ghost use Rattle.list_terms.specs.Accepted.{greatest_of, least_of};
@@ -8,9 +8,9 @@ ghost use Rattle.comparison.specs.Range.{HasChannels, compared_in};
 use adlmodel::Project;
 use sampletime::SampleTime;
 
-/// What may be chosen of a comparison: the samples from the time `from` up to, and without, `to`, on this many channels
-/// from 1 on (1 to 64). By default it goes from the earliest start of an entry to the latest end, of both projects, on
-/// the channels from 1 up to the highest that an entry names.
+/// The part of two projects to compare: samples from time `from` to time `to` (exclusive), on
+/// channels 1 to `channels` (1 to 64). By default it runs from the earliest start of an entry to the
+/// latest end, of both projects, on channels 1 up to the highest that an entry names.
 #[derive(Clone, Copy, Debug, PartialEq, Eq)]
 pub struct Selection {
     pub from: Option<SampleTime>,
@@ -23,7 +23,7 @@ impl Default for Selection {
 
     ghost is_default = { λ selection. selection ≡ record { from = None; to = None; channels = None } };
 
-    /// All that sounds, on all channels.
+    /// Selects everything audible, on all channels.
     fn default() -> Self {
         Selection {
             from: None,
@@ -33,7 +33,7 @@ impl Default for Selection {
     }
 }
 
-/// The samples from one time up to, and without, another, on channels from 1.
+/// A possibly empty range of samples, `from` to `to` (exclusive), on channels from 1 on.
 #[derive(Clone, Copy)]
 pub struct Extent {
     pub from: SampleTime,
@@ -43,7 +43,7 @@ pub struct Extent {
     ghost few_channels: { channels ≤ 64 },
 }
 
-/// Some samples: those of an extent that doesn't end where it begins, or before.
+/// A non-empty range of samples, `from` to `to` (exclusive), on channels from 1 on.
 #[derive(Clone, Copy)]
 pub struct Region {
     pub from: SampleTime,
@@ -54,7 +54,7 @@ pub struct Region {
     ghost few_channels: { channels ≤ 64 },
 }
 
-/// The time at which the first entry of two projects begins; 0 without an entry.
+/// The start of the first entry of either project, or 0 if there are no entries.
 fn first_in_both(first: &Project, second: &Project) -> SampleTime
     ensures { result ≡ least_of (λ event. event.dest_in) (first.now.events ++ second.now.events) }
 {
@@ -69,7 +69,7 @@ fn first_in_both(first: &Project, second: &Project) -> SampleTime
     }
 }
 
-/// What is compared of two projects.
+/// Returns the range that a selection denotes for two projects.
 pub fn compared_in(selection: &Selection, first: &Project, second: &Project) -> Extent
     requires { HasChannels selection.now }
     ensures from { result.from ≡ (compared_in selection.now first.now.events second.now.events).from }

@@ -1,4 +1,4 @@
-// One of two sides of a comparison.
+// One of the two sides of a comparison.
 ghost use Rattle.std.specs.Prelude.{◌≡◌, ◌+◌, ◌*◌, ◌<◌, ◌≤◌, ℕ, pos, IfErr, IfOk, IsTrue, OnOk, is_some, length, not};
 ghost use Rattle.std.specs.List.{All};
 ghost use Rattle.sampletime.specs.TimeCode.{day};
@@ -20,15 +20,15 @@ use std::alloc::{AllocError, Global};
 use std::marker::Model;
 use wavread::Sound;
 
-/// The frames of a block, of which the last one may have fewer.
+/// Sample frames per block; the last block may be shorter.
 const BLOCK_LENGTH: u32 = 4096;
 
-/// How many bytes of its files are read of a block for each channel, at most: as many samples of 32 bits as two channels
-/// have.
+/// Maximum number of bytes read from files per block and channel: a block of 32-bit samples on two
+/// channels.
 const STORED_LENGTH: usize = 8 * 4096;
 
-/// The blocks of a plan over opened files, a machine that sums them, and room for the program and the sums of any. A
-/// clause sees the plan and the files, and the program and the sums that were written last.
+/// A plan over open files, a machine to sum its blocks, and buffers for the program and the sums of
+/// any block. Contracts see the plan, the files, and the current program and sums.
 pub struct Side<'a> {
     plan: Plan,
     sounds: &'a [Sound],
@@ -37,7 +37,7 @@ pub struct Side<'a> {
     sums: Vec<i64>,
 }
 
-// Written out, so that it is one call where a side is dropped.
+// Written out so that dropping a side is a single call.
 impl Drop for Side<'_> {
     fn drop(self) {
         let Side {
@@ -69,7 +69,7 @@ impl<'a> Model for Side<'a> {
         s.sums.items };
 }
 
-/// Sums block k of a plan over opened files, over the first of `sums`. There is room for the program and the sums of any
+/// Sums block `k` of a plan over open files into the start of `sums`. The buffers have room for any
 /// block.
 fn sum_block<S: Shelf>(
     plan: &Plan,
@@ -107,7 +107,7 @@ fn sum_block<S: Shelf>(
 impl<'a> Side<'a> {
     ghost use Rattle.comparison.specs.Side.{IsSide};
 
-    /// A plan over these files.
+    /// Creates a side for a plan over open files. Returns `SideFault::Memory` if out of memory.
     pub fn new(alloc: Global, plan: Plan, sounds: &'a [Sound]) -> Result<Self, SideFault>
         requires { All (IsPieceOf sounds.now) plan.pieces }
         ensures made { IfOk result (λ side. side.work ≡ record { planned = plan; sounds = sounds.now }) }
@@ -129,7 +129,8 @@ impl<'a> Side<'a> {
         })
     }
 
-    /// Room for what is read of its files as it is stored.
+    /// Allocates a buffer for the stored samples of its files. Returns `SideFault::Memory` if out
+    /// of memory.
     pub fn bytes(&self, alloc: Global) -> Result<Vec<u8>, SideFault>
         ensures { IfErr result WantsMemory }
     {
@@ -138,14 +139,14 @@ impl<'a> Side<'a> {
         Ok(bytes)
     }
 
-    /// The files.
+    /// Returns the open files.
     pub fn sounds(&self) -> &'a [Sound]
         ensures { result.now ≡ self.now.work.sounds }
     {
         self.sounds
     }
 
-    /// How many blocks there are.
+    /// Returns the number of blocks.
     pub fn blocks(&self) -> u64
         ensures count { result ≡ block_count self.now.work.planned.range }
         ensures in_day { self.now.work.planned.range.to ≤ day }
@@ -153,7 +154,7 @@ impl<'a> Side<'a> {
         self.plan.blocks()
     }
 
-    /// How many channels there are, 1 to 64.
+    /// Returns the number of channels, 1 to 64.
     pub fn channels(&self) -> u8
         ensures channels { result ≡ self.now.work.planned.range.channels }
         ensures within { (1 ≤ result) × (result ≤ 64) }
@@ -161,7 +162,7 @@ impl<'a> Side<'a> {
         self.plan.format().channels
     }
 
-    /// How many sums block k has: one for each of its frames and channels.
+    /// The number of sums of block `k`: one per sample frame and channel.
     fn sums_of(&self, k: u64) -> usize
         requires { HasBlock self.now.work k }
         ensures sums { result ≡ block_frames self.now.work.planned.range k * self.now.work.planned.range.channels }
@@ -170,7 +171,7 @@ impl<'a> Side<'a> {
         self.plan.frames_of(k) as usize * usize::from(self.channels())
     }
 
-    /// The frames of block k, 4096 at most.
+    /// Returns the number of sample frames of block `k`, at most 4096.
     pub fn frames_of(&self, k: u64) -> usize
         ensures frames { result ≡ block_frames self.now.work.planned.range k }
         ensures few { result ≤ 4096 }
@@ -178,19 +179,19 @@ impl<'a> Side<'a> {
         self.plan.frames_of(k) as usize
     }
 
-    /// How many frames have been gone over with block k, and how many there are in all.
+    /// Returns the progress after block `k`, in sample frames: the number processed and the total.
     pub fn progress_of(&self, k: u64) -> (u64, u64) {
         let last = self.blocks().saturating_sub(1);
         (self.frames_up_to(k), self.frames_up_to(last))
     }
 
-    /// The frames of all blocks up to block k, with it.
+    /// The number of sample frames up to and including block `k`.
     fn frames_up_to(&self, k: u64) -> u64 {
         k.saturating_mul(u64::from(BLOCK_LENGTH))
             .saturating_add(self.frames_of(k) as u64)
     }
 
-    /// The time at which block k begins.
+    /// Returns the start time of block `k` in samples.
     pub fn start_of(&self, k: u64) -> u64
         requires { HasBlock self.now.work k }
         ensures start { result ≡ block_start self.now.work.planned.range k }
@@ -199,7 +200,7 @@ impl<'a> Side<'a> {
         self.plan.start_of(k)
     }
 
-    /// Whether nothing sounds in block k.
+    /// Returns whether block `k` is silent.
     pub fn is_silent(&self, k: u64) -> bool
         requires { HasBlock self.now.work k }
         ensures found { is_some (source_of self.now.work.planned.pieces self.now.work.planned.range k) ≡ not result }
@@ -210,7 +211,7 @@ impl<'a> Side<'a> {
         self.plan.is_silent(k)
     }
 
-    /// Writes the program of block k.
+    /// Makes the program of block `k` the current one.
     pub fn fill(&mut self, k: u64)
         requires { HasBlock self.old.work k }
         ensures program { IsBlockOf self.old.work k self.new.lines }
@@ -220,14 +221,14 @@ impl<'a> Side<'a> {
         self.plan.fill(k, &mut self.program);
     }
 
-    /// The program that was written last.
+    /// Returns the current program.
     pub fn lines(&self) -> &[Instruction]
         ensures { result.now ≡ self.now.lines }
     {
         self.program.as_slice()
     }
 
-    /// Sums block k, as its program does its instructions. A file that can't be read fails it.
+    /// Sums block `k` by running its program. Returns `SideFault::Source` if a file can't be read.
     pub fn sum<S: Shelf>(&mut self, k: u64, shelf: &mut S) -> Result<(), SideFault>
         requires { HasBlock self.old.work k }
         ensures summed { IsTrue (S.honest shelf.old) → OnOk result
@@ -244,7 +245,7 @@ impl<'a> Side<'a> {
         sum_block(&self.plan, k, self.sounds, shelf, machine, program, sums)
     }
 
-    /// The first sums that were written last, as many as block k has.
+    /// Returns the current sums of block `k`.
     pub fn sums(&self, k: u64) -> &[i64]
         requires { HasBlock self.now.work k }
         ensures value { result.now ≡ first_sums self.now.work.planned.range k self.now.sums }

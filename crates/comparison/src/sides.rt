@@ -1,4 +1,4 @@
-// Two sides, block by block.
+// Both sides of a comparison, block by block.
 ghost use Rattle.std.specs.Prelude.{◌≡◌};
 
 use crate::CompareFault;
@@ -7,7 +7,7 @@ use crate::side::Side;
 use crate::stored::{Files, Stored, sum_alike};
 use devices::{Shelf, Watch};
 
-/// Two sides of one range, and what of their files was read as it is stored.
+/// Two sides with the same range, and the stored samples that were last read from their files.
 #[derive(Drop)]
 pub struct Sides<'a, 'b> {
     pub first: Side<'a>,
@@ -23,7 +23,8 @@ impl<'a, 'b> Sides<'a, 'b> {
     ghost use Rattle.comparison.specs.Both.{AreKept, AreMatched, AreSummed, IsBlock, OfBoth};
     ghost use Rattle.comparison.specs.Side.{HasBlock};
 
-    /// Sums block k of both sides.
+    /// Sums block `k` of both sides. Returns `CompareFault::First` or `Second` if a file can't be
+    /// read.
     pub fn sum<S: Shelf, T: Shelf>(
         &mut self,
         k: u64,
@@ -47,8 +48,8 @@ impl<'a, 'b> Sides<'a, 'b> {
         }
     }
 
-    /// Whether both sides sum alike in block k, as far as that shows before anything is summed: neither plays, or both
-    /// add the same samples. `false` where it isn't to be looked for.
+    /// Returns whether block `k` is known to be equal without summing: neither side plays, or both
+    /// add the same stored samples. Always false if `look` is false.
     pub fn are_alike<S: Shelf, T: Shelf>(
         &mut self,
         k: u64,
@@ -89,7 +90,7 @@ impl<'a, 'b> Sides<'a, 'b> {
         )
     }
 
-    /// The sums of block k of both sides, which were summed last.
+    /// Returns the sums of block `k` of both sides, which must have been summed last.
     pub fn sums(&self, k: u64) -> BlockSums<'_>
         requires { HasBlock self.now.first.work k }
         ensures { IsBlock self.now k result }
@@ -103,7 +104,7 @@ impl<'a, 'b> Sides<'a, 'b> {
         }
     }
 
-    /// Shows a watch how many frames have been gone over with block k.
+    /// Reports the progress after block `k` to a watch.
     pub fn show_progress<W: Watch>(&self, k: u64, watch: &mut W) {
         let (done, whole) = self.first.progress_of(k);
         watch.reached(done, whole);

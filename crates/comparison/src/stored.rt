@@ -1,4 +1,5 @@
-// What two blocks play of their files, compared as it is stored.
+// Fast comparison of two blocks by their stored samples; a positive result is equal to comparing
+// their sums.
 ghost use Rattle.std.specs.Prelude.{◌≡◌, ◌+◌, ◌*◌, ◌/◌, ◌≤◌, ℕ, IfErr, IfOk, IfSome, IsTrue, OnOk, Some, length, slice_get};
 ghost use Rattle.std.specs.List.{All};
 ghost use Rattle.sound_terms.specs.Blocks.{LiesInFiles, addition_of};
@@ -19,14 +20,14 @@ use devices::Shelf;
 use sound_terms::{Depth, Instruction, Shape, Stretch};
 use wavread::Sound;
 
-/// The opened files of two sides.
+/// The open files of both sides.
 #[derive(Clone, Copy)]
 pub struct Files<'a, 'b> {
     pub sounds: &'a [Sound],
     pub others: &'b [Sound],
 }
 
-/// What of the files of two sides was read last, as it is stored, and which of their frames were found to be the same.
+/// Buffers for stored samples of both sides, and the cache of equal ranges.
 #[derive(Drop)]
 pub struct Stored {
     pub bytes: Vec<u8>,
@@ -34,7 +35,7 @@ pub struct Stored {
     pub matches: Matches,
 }
 
-/// Whether these bytes are the same. A loop that never ends early is made wide.
+/// Whether the bytes are equal. The loop has no early exit, so that it is vectorised.
 #[inline(always)]
 fn are_same(bytes: &[u8], others: &[u8]) -> bool
     ensures { IsTrue result → bytes.now ≡ others.now }
@@ -49,7 +50,7 @@ fn are_same(bytes: &[u8], others: &[u8]) -> bool
     same
 }
 
-/// Reads frames of an opened file from this one on, as they are stored and with all channels, over bytes for just these.
+/// Reads stored samples of an open file from sample `from` on, with all channels, filling `bytes`.
 fn read_frames<S: Shelf>(
     sounds: &[Sound],
     file: u32,
@@ -74,14 +75,13 @@ fn read_frames<S: Shelf>(
     }
 }
 
-/// How many bytes a sample has.
 fn width_of(depth: Depth) -> usize
     ensures { result ≡ bits_of depth / 8 }
 {
     usize::from(depth.bits() / 8)
 }
 
-/// Whether the samples of a pair are the same at full scale.
+/// Whether all samples of a pair are equal at full scale.
 fn are_counterparts(pair: &Counterparts) -> bool
     ensures { IsTrue result → SoundSame pair.now }
 {
@@ -92,8 +92,8 @@ fn are_counterparts(pair: &Counterparts) -> bool
     }
 }
 
-/// Reads frames of two files, and says whether they are the same as they are stored. Where they don't fit into the bytes
-/// the answer is no.
+/// Reads a range of both files and compares the stored samples. False if the range doesn't fit in
+/// the buffers.
 fn read_match<S: Shelf, T: Shelf>(
     wanted: &Match,
     files: &Files,
@@ -144,8 +144,8 @@ fn read_match<S: Shelf, T: Shelf>(
     }))
 }
 
-/// Whether two stretches lie at the same samples of a block and on the same channels, and play channels from the same
-/// one on.
+/// Whether two stretches cover the same samples and channels of a block and read the same channels
+/// of their files.
 fn are_laid_alike(stretch: &Stretch, part: &Stretch) -> bool
     ensures laid { IsTrue result → part.now
         ≡ record stretch.now { file = part.now.file; frame = part.now.frame } }
@@ -159,8 +159,8 @@ fn are_laid_alike(stretch: &Stretch, part: &Stretch) -> bool
     stretch.first >= 1 && *part == moved
 }
 
-/// The frames of two stretches that lie alike and play files of as many channels, with all of these; `None` where they
-/// don't.
+/// The range of both files that two such stretches read, if the files have the same number of
+/// channels.
 fn match_of(stretch: &Stretch, part: &Stretch, files: &Files) -> Option<Match>
     requires lies { LiesInFile files.now.sounds.now stretch.now.file stretch.now.first stretch.now.width
         stretch.now.frame stretch.now.length }
@@ -187,8 +187,8 @@ fn match_of(stretch: &Stretch, part: &Stretch, files: &Files) -> Option<Match>
     })
 }
 
-/// Whether two stretches play the same: they lie alike, and their samples are the same as they are stored. What was
-/// found to be the same isn't read again.
+/// Whether two stretches add the same samples, by their stored form. Ranges in the cache aren't
+/// read again.
 fn play_alike<S: Shelf, T: Shelf>(
     stretch: &Stretch,
     part: &Stretch,
@@ -243,7 +243,7 @@ fn addition(line: &Instruction) -> Option<(Stretch, Shape)>
     }
 }
 
-/// Whether both instructions begin a block, or both end one.
+/// Whether both instructions start a block, or both end one.
 fn are_ends(line: &Instruction, counterpart: &Instruction) -> bool
     ensures { IsTrue result → (reading other : Reading) → AddAlike reading other line.now counterpart.now }
 {
@@ -254,7 +254,8 @@ fn are_ends(line: &Instruction, counterpart: &Instruction) -> bool
     }
 }
 
-/// Whether an instruction does the same to sums as its counterpart: it adds the same samples, under one shape.
+/// Whether two instructions have the same effect on sums: they add the same samples under the same
+/// shape.
 fn add_alike<S: Shelf, T: Shelf>(
     line: &Instruction,
     counterpart: &Instruction,
@@ -285,8 +286,8 @@ fn add_alike<S: Shelf, T: Shelf>(
     play_alike(&stretch, &part, files, first_shelf, second_shelf, stored)
 }
 
-/// Whether two programs sum alike since they add the same samples, instruction by instruction: nothing is summed.
-/// Programs of which it says no may sum alike still.
+/// Returns whether two programs have equal sums because they add the same samples, instruction by
+/// instruction. Sums nothing. Programs may still have equal sums if the result is false.
 pub fn sum_alike<S: Shelf, T: Shelf>(
     lines: &[Instruction],
     counterparts: &[Instruction],

@@ -1,4 +1,4 @@
-// At how many samples of a stretch two projects differ, channel by channel.
+// The number of differing samples in a stretch of two projects, channel by channel.
 ghost use Rattle.std.specs.Prelude.{◌≡◌, ◌+◌, ◌-◌, ◌≤◌, ℕ, max, min, IfErr, IfOk, IsTrue, OnOk, length, slice_index_or};
 ghost use Rattle.list_terms.specs.Heard.{project_mix, sounds_of};
 ghost use Rattle.devices.specs.Frame.{OnlyReads};
@@ -19,7 +19,7 @@ use sampletime::SampleTime;
 use std::alloc::{AllocError, Global};
 use std::marker::Model;
 
-/// At how many samples two projects differ on each channel, on channel 1 first.
+/// Number of differing samples per channel, from channel 1 on.
 #[derive(Drop)]
 pub struct DifferingCounts {
     counts: Vec<u32>,
@@ -34,7 +34,7 @@ impl Model for DifferingCounts {
 }
 
 impl DifferingCounts {
-    /// The counts, one a channel.
+    /// Returns the counts, one per channel.
     pub fn as_slice(&self) -> &[u32]
         ensures { result.now ≡ self.now }
     {
@@ -42,7 +42,7 @@ impl DifferingCounts {
     }
 }
 
-/// So many frames of an extent, at most, from a time on.
+/// The part of an extent of at most `frames` samples from a time on.
 fn stretch_in(extent: &Extent, from: SampleTime, frames: u64) -> Extent
     ensures from { result.from ≡ max extent.now.from from }
     ensures to { result.to ≡ min extent.now.to (from + frames) }
@@ -66,8 +66,8 @@ fn zeros_for(alloc: Global, channels: u8) -> Result<Vec<u32>, AllocError>
     Ok(counts)
 }
 
-/// Writes over the count of each channel, which is zero, at how many samples of an extent two projects differ. Nothing is
-/// read where it is empty.
+/// Adds the number of differing samples in an extent to each channel's count, which must be zero.
+/// Reads nothing if the extent is empty.
 fn count_in<S: Shelf, T: Shelf, W: Watch>(
     alloc: Global,
     first: &Checked,
@@ -100,9 +100,11 @@ fn count_in<S: Shelf, T: Shelf, W: Watch>(
     count_sides(&mut sides, first_shelf, second_shelf, counts, watch)
 }
 
-/// At how many samples two projects differ on each channel, by their exact sums, in a stretch of what
-/// `compare_projects` compares: so many frames at most, from a time on. No block is read that has none of them. Counts of
-/// an empty stretch are zero. The watch sees after each block how many frames of the stretch have been gone over.
+/// Counts the samples at which two projects differ, per channel, by their exact sums: within the
+/// range that `compare_projects` compares, at most `frames` samples from time `from` on. Reads only
+/// blocks in that stretch; the counts of an empty stretch are zero. Reports progress to `watch`
+/// after each block. Returns `CompareFault::First` or `Second` if that project's files can't be
+/// read or memory runs out.
 pub fn differing_in<S: Shelf, T: Shelf, W: Watch>(
     alloc: Global,
     first: &Checked,

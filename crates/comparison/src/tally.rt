@@ -1,4 +1,4 @@
-// At how many samples of each channel the sums of two sides differ.
+// The number of samples at which two sides differ, channel by channel.
 ghost use Rattle.std.specs.Prelude.{◌≡◌, ◌+◌, ◌-◌, ◌<◌, ◌≤◌, ℕ, OnOk, length, slice_index_or};
 ghost use Rattle.sound_terms.specs.Blocks.{block_frames, block_start};
 ghost use Rattle.comparison.specs.Both.{AreKept, AreMatched, HasCounts, OfBoth};
@@ -10,7 +10,7 @@ use crate::block::BlockSums;
 use crate::sides::Sides;
 use devices::{Shelf, Watch};
 
-/// At how many frames of a block the sums of a channel differ. The channel is counted from 0.
+/// The number of differing samples of a channel (from 0) in a block.
 #[tactic(auto, using(crate::proofs::Counts::same_more, crate::proofs::Counts::apart_more))]
 fn count_channel(block: &BlockSums, channel: usize) -> u32
     requires { channel < block.now.channels }
@@ -30,7 +30,8 @@ fn count_channel(block: &BlockSums, channel: usize) -> u32
     count
 }
 
-/// Adds to the count of each channel at how many frames of a block its sums differ, and says whether any do.
+/// Adds the number of differing samples in a block to each channel's count; returns whether there
+/// are any.
 fn count_apart(block: &BlockSums, counts: &mut [u32]) -> bool
     requires wide { length counts.old ≡ block.now.channels }
     requires in_day { AreInDay counts.old }
@@ -47,9 +48,9 @@ fn count_apart(block: &BlockSums, counts: &mut [u32]) -> bool
     apart
 }
 
-/// Adds to the count of each channel at how many samples of block k the sums of two sides differ, and says whether any
-/// do. Nothing is summed of a block that is seen to be alike before; where the block before differs that isn't looked
-/// for, since this one is hardly alike.
+/// Adds the number of differing samples in block `k` to each channel's count; returns whether there
+/// are any. Tries to avoid summing, except after a block that differed, since the next one then
+/// usually differs too.
 fn count_block<S: Shelf, T: Shelf>(
     k: u64,
     was_apart: bool,
@@ -79,8 +80,9 @@ fn count_block<S: Shelf, T: Shelf>(
     Ok(count_apart(&block, counts))
 }
 
-/// Writes over the count of each channel at how many samples the sums of two sides differ, in all that both plans have.
-/// The counts are zero before. The watch sees after each block how many frames have been gone over.
+/// Counts the differing samples of two sides per channel, over their common range. `counts` must be
+/// zero. Reports progress to `watch` after each block. Returns `CompareFault::First` or `Second` if
+/// a file of that side can't be read.
 pub fn count_sides<S: Shelf, T: Shelf, W: Watch>(
     sides: &mut Sides,
     first_shelf: &mut S,

@@ -3,7 +3,7 @@ use Rattle.sound_terms.specs.Depth.{bits_of}
 use Rattle.comparison.specs.Stored.{full_samples}
 use Rattle.comparison.proofs.depths.are_same_in.Given as goal
 
--- the samples so far are the same
+-- the samples before the index are equal
 abbrev pub invariant-loop-i : goal.invariant-loop-i
 invariant-loop-i l =
     full_samples (bits_of l.pair.depth) l.i l.pair.bytes.now

@@ -3,7 +3,7 @@ use Rattle.sound_terms.specs.Depth.{bits_of}
 use Rattle.comparison.specs.Stored.{full_samples}
 use Rattle.comparison.proofs.depths.same_lanes.Given as goal
 
--- the samples so far are the same
+-- the samples before the index are equal
 abbrev pub invariant-loop-done : goal.invariant-loop-done
 invariant-loop-done l = record {
   within : l.done ≤ l.pair.count;

@@ -12,7 +12,7 @@ use Rattle.blockmachine.specs.Exact.{AreSumsOf}
 use Rattle.blockmachine.specs.Sums.{Extent}
 use Rattle.comparison.proofs.side.sum_block.Goals as goal
 
--- the sums of the block are as many as it has, of those of any
+-- the number of sums of a block at the start of the buffer
 few_sums : (range : Range) (k : ℕ) (sums : List ℤ) → length sums ≡ 4096 * range.channels
     → length (take (block_frames range k * range.channels) sums) ≡ block_frames range k * range.channels
 few_sums range k sums room =

@@ -6,7 +6,7 @@ use Rattle.comparison.specs.Matched.{AreMatches}
 use Rattle.comparison.specs.Stored.{AddAlike}
 use Rattle.comparison.proofs.stored.sum_alike.Given as goal
 
--- the instructions before k add alike
+-- the instructions before k add the same as their counterparts
 abbrev pub invariant-loop-k : goal.invariant-loop-k
 invariant-loop-k g l = record {
   first_quiet : IsQuiet g.S.Shelf l.fn.first_shelf l.first_shelf;

@@ -2,7 +2,7 @@ use Rattle.std.proofs.Common.{◌≡◌, ◌≤◌}
 use Rattle.comparison.specs.Counted.{differing, of_channel}
 use Rattle.comparison.proofs.tally.count_channel.Given as goal
 
--- the frames before i are counted
+-- the samples before i are counted
 abbrev pub invariant-loop-i : goal.invariant-loop-i
 invariant-loop-i l = record {
   counted : l.count

@@ -7,7 +7,7 @@ use Rattle.comparison.proofs.Both.{of_both}
 use Rattle.comparison.proofs.Counts.{counted_more}
 use Rattle.comparison.proofs.tally.count_sides.Goals as goal
 
--- what is reached before a block, and after it
+-- the time reached before and after a block
 reached_start : (range : Range) (k : ℕ) → k < block_count range
     → block_start range k ≡ range.from + (reached range k - range.from)
 reached_start range k below = omega (arith, below)

@@ -15,7 +15,7 @@ use Rattle.comparison.proofs.SilentSides.{silent_alike}
 use Rattle.comparison.proofs.StoredFrames.{block_alike}
 use Rattle.comparison.proofs.sides.Sides.are_alike.Goals as goal
 
--- two sides whose programs of a block sum alike
+-- two sides are equal in a block if their programs have equal sums
 sides_alike : (one two : SideWork) (k : ℕ) (files others : Files) (lines counterparts : List Instruction)
     → two.planned.range ≡ one.planned.range → IsBlockOf one k lines → IsBlockOf two k counterparts
     → SumAlike (reading_by files one.sounds) (reading_by others two.sounds) lines counterparts
@@ -30,7 +30,7 @@ sides_alike one two k files others lines counterparts same mine theirs alike =
     block_alike one.planned.range k (reading_by files one.sounds) other lines counterparts alike (heard one files)
     (heard two others) (mine.sums files) sums
 
--- what follows where the answer is yes
+-- a consequence of a positive result
 answer_gives : (P Q : Type 0) → (P → Q) → (result : Result Bool CompareFault)
     → IfOk result (λ alike. IsTrue alike → P) → IfOk result (λ alike. IsTrue alike → Q)
 answer_gives P Q gives (Ok alike) said = λ yes. gives (said yes)
