@@ -1,4 +1,4 @@
--- The number and the place of each fault of comparing two lists, and which list it is of.
+-- Refusals of comparing two lists, with their locations and the list that each is about.
 use Rattle.std.specs.Prelude.{◌≡◌, ℕ, ⊤, false, IsSome, List, Some, slice_get, string_bytes}
 use Rattle.sound_terms.specs.Sounds.{SoundFacts}
 use Rattle.work_terms.specs.Disk.{Files}
@@ -25,62 +25,62 @@ refusal_of Intervals = early 47 Nowhere
 refusal_of Memory = early 57 Nowhere
 refusal_of (Source name) = early 22 (File (string_bytes name))
 
--- 22: the device of a source failed
+-- the device of a source failed (refusal 22)
 abbrev pub IsDevice : ListFault → Type 0
 IsDevice fault = (refusal_of fault).number ≡ 22
 
--- this holds of the name of the source whose device failed
+-- a property holds of the name of the source whose device failed
 abbrev pub HoldsOfDevice : ListFault → (List ℕ → Type 0) → Type 0
 HoldsOfDevice fault P = opening.HoldsOfFile P (refusal_of fault).location
 
--- a fault of the sums of a list, which comes when both lists are open
+-- an error of a list's sums, which can occur only after both lists are open
 abbrev pub IsOfSums : ListFault → Type 0
 IsOfSums (Project fault) = ⊥
 IsOfSums Intervals = ⊤
 IsOfSums Memory = ⊤
 IsOfSums (Source name) = ⊤
 
--- a fault of the list of this text, of its files or of its entries, or one of its sums
+-- an error of the list of this text, of its files or entries, or of its sums
 abbrev pub IsOwn : List ℕ → ListFault → Type 0
 IsOwn text (Project fault) = IsOfOpening text fault
 IsOwn text fault = ⊤
 
--- no index before the one whose file is named is at fault
+-- if the error names the file of an index, no earlier index is faulty
 abbrev pub IsFirst : List ℕ → Files → ListFault → Type 0
 IsFirst text files (Project fault) = opening_own.IsFirst text files fault
 IsFirst text files fault = ⊤
 
--- a fault of the first list of which this holds
+-- an error of the first list with this property
 abbrev pub OfFirst : (ListFault → Type 0) → CompareFault → Type 0
 OfFirst P (First fault) = P fault
 OfFirst P (Second fault) = ⊥
 OfFirst P EmptyRange = ⊥
 
--- of the second one
+-- an error of the second list with this property
 abbrev pub OfSecond : (ListFault → Type 0) → CompareFault → Type 0
 OfSecond P (First fault) = ⊥
 OfSecond P (Second fault) = P fault
 OfSecond P EmptyRange = ⊥
 
--- this holds of a fault of the first list, and anything of every other
+-- if this is an error of the first list, it has this property
 abbrev pub ForFirst : (ListFault → Type 0) → CompareFault → Type 0
 ForFirst P (First fault) = P fault
 ForFirst P (Second fault) = ⊤
 ForFirst P EmptyRange = ⊤
 
--- of the second one
+-- if this is an error of the second list, it has this property
 abbrev pub ForSecond : (ListFault → Type 0) → CompareFault → Type 0
 ForSecond P (First fault) = ⊤
 ForSecond P (Second fault) = P fault
 ForSecond P EmptyRange = ⊤
 
--- a file that a fault of sums names is one of those opened
+-- the file that an error of sums names is open
 abbrev pub IsOpened : List SoundFacts → SideFault → Type 0
 IsOpened sounds side.Intervals = ⊤
 IsOpened sounds side.Memory = ⊤
 IsOpened sounds (side.Source file) = IsSome (slice_get sounds file)
 
--- the fault of a list that a fault of its sums is reported as: a file by its name
+-- the error of a list that reports an error of its sums, with the file's name instead of its index
 abbrev pub IsReportedAs : List SoundFacts → SideFault → ListFault → Type 0
 IsReportedAs sounds side.Intervals reported = reported ≡ Intervals
 IsReportedAs sounds side.Memory reported = reported ≡ Memory

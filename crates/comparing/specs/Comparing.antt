@@ -1,4 +1,4 @@
--- What comparing two lists answers, and what it leaves of their sources.
+-- Results of comparing two lists, and effects on their sources.
 use Rattle.std.specs.Prelude.{◌≡◌, ℕ, ◌<◌, ◌≤◌, IsTrue, List, Option, None, Some, Result, Ok, Err, IfOk, IfErr, IsErrAnd}
 use Rattle.sampletime.specs.FrameRate.{frames_per_second}
 use Rattle.devices.specs.declared.source.Shelf as source
@@ -19,8 +19,8 @@ use Rattle.comparing.specs.declared.compare_fault.CompareFault.{CompareFault}
 use Rattle.comparing.specs.declared.compare_fault.CompareFault.TheVariants.{EmptyRange, First, Second}
 use Rattle.comparing.specs.declared.compare_call.Compared.{Compared}
 
--- Both lists are accepted, and what is reported of their exact sums, at all that was chosen, is so. Times are written
--- as in the first one.
+-- Both lists are accepted, and the reported result is true of their exact sums within the selection. Times have the
+-- format of the first list.
 pub record Compares (text other : List ℕ) (selection : Selection) (files stored : Files) (reported : Compared) : Type 0
   where
     pub project : ListProject
@@ -39,34 +39,34 @@ pub record Compares (text other : List ℕ) (selection : Selection) (files store
     pub notices : reported.first_notices.items ≡ all_notices project binding
     pub other_notices : reported.second_notices.items ≡ all_notices other_project other_binding
 
--- by the first fault of the first list: it is reported, and every other answer comes only where there is none
+-- the result agrees with the first list's first error: it is reported, and other results require that there is none
 abbrev pub AnswersFirst : {X : Type 0} → Option Refusal → Result X CompareFault → Type 0
 AnswersFirst due (Ok x) = due ≡ None
 AnswersFirst due (Err (First fault)) = IsDue (refusal_of fault) due
 AnswersFirst due (Err (Second fault)) = due ≡ None
 AnswersFirst due (Err EmptyRange) = due ≡ None
 
--- by that of the second list: only faults of opening the first one come before
+-- the same for the second list, except that errors of opening the first list take precedence
 abbrev pub AnswersSecond : {X : Type 0} → Option Refusal → Result X CompareFault → Type 0
 AnswersSecond due (Ok x) = due ≡ None
 AnswersSecond due (Err (First fault)) = IsOfSums fault → due ≡ None
 AnswersSecond due (Err (Second fault)) = IsDue (refusal_of fault) due
 AnswersSecond due (Err EmptyRange) = due ≡ None
 
--- by the range: where it is empty there are no sums
+-- the result agrees with the range: there are sums exactly if it isn't empty
 abbrev pub AnswersRange : {X : Type 0} → Extent → Result X CompareFault → Type 0
 AnswersRange extent (Ok x) = extent.from < extent.to
 AnswersRange extent (Err (First fault)) = IsOfSums fault → extent.from < extent.to
 AnswersRange extent (Err (Second fault)) = IsOfSums fault → extent.from < extent.to
 AnswersRange extent (Err EmptyRange) = extent.to ≤ extent.from
 
--- a fault of opening the first list, or this refusal of the second one, or what may come in its place
+-- the error is an error of opening the first list, or this refusal of the second, or one that may replace it
 abbrev pub RefusesSecond : Refusal → CompareFault → Type 0
 RefusesSecond refusal (First fault) = ¬ IsOfSums fault
 RefusesSecond refusal (Second fault) = IsDue (refusal_of fault) (Some refusal)
 RefusesSecond refusal EmptyRange = ⊥
 
--- two lists were compared over these sources, which were only read, with this outcome
+-- two lists were compared with this result, and the sources were only read
 pub record IsComparing {S T : Type 0} (shelf : source.Ghosts S) (stock : source.Ghosts T) (list other : List ℕ)
     (selection : Selection) (old new : S) (other_old other_new : T) (result : Result Compared CompareFault) : Type 0
   where
@@ -77,7 +77,7 @@ pub record IsComparing {S T : Type 0} (shelf : source.Ghosts S) (stock : source.
         → AnswersSecond (project_fault other (stock.stored other_old)) result
     pub range : (project next : ListProject) → text_value list ≡ Ok project → text_value other ≡ Ok next
         → AnswersRange (compared_in selection project.events next.events) result
-    -- a text with a fault is refused, whatever the files are
+    -- a faulty text is refused, whatever the files are
     pub bad_first_text : (refusal : Refusal) → text_value list ≡ Err refusal
         → IsErrAnd result (OfFirst (λ fault. IsDue (refusal_of fault) (Some refusal)))
     pub bad_second_text : (refusal : Refusal) → text_value other ≡ Err refusal

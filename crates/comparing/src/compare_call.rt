@@ -1,4 +1,4 @@
-// Compares two lists.
+// The comparison of two lists.
 ghost use Rattle.std.specs.Prelude.{◌≡◌};
 ghost use Rattle.comparison.specs.Range.{HasChannels};
 ghost use Rattle.comparing.specs.Comparing.{IsComparing};
@@ -11,26 +11,28 @@ use opening::open_list;
 use sampletime::{Rate, Separators};
 use std::alloc::Global;
 
-/// How two lists compare, the form of the first one's times, and what the user of each should know of.
+/// Result of comparing two lists, with the time format of the first list and the notices of each.
 #[derive(Debug, Drop)]
 pub struct Compared {
     pub comparison: Comparison,
-    /// The rate of frames at which the first list's times are written.
+    /// Frame rate of the times of the first list.
     pub rate: Rate,
-    /// The separators of its times.
+    /// Separators of the times of the first list.
     pub separators: Separators,
     pub first_notices: Vec<Notice>,
     pub second_notices: Vec<Notice>,
 }
 
-/// Compares two lists, each over the sources of a shelf of its own: whether their exact sums, before any rounding, are
-/// the same on every channel at every time that was chosen, or where they differ first. Where the entries of one have
-/// ended the other has to be silent. A chosen number of channels has to be 1 to 64. Nothing is written.
+/// Compares two lists, each with its sources on a shelf of its own: whether their exact sums,
+/// before any rounding, are equal on every selected channel at every selected time, or where they
+/// first differ. After the last entry of one list the other must be silent. A selected number of
+/// channels must be 1 to 64. Writes nothing.
 ///
-/// The first list is refused first, then the second one, each as `check_project` refuses it; then an empty range, by
-/// default one in which neither list has a sample. Want of memory for the sums comes after all of these, and before
-/// any is made; a device that fails while they are made ends the call at once (22). The watch sees how many frames are
-/// compared, of all that are to be.
+/// Errors of the first list take precedence, then errors of the second, each in the order of
+/// `check_project`, then an empty range, which is the default range of two lists without samples.
+/// Out of memory for the sums is returned only after all of these. A device that fails while
+/// samples are read ends the call at once (refusal 22). Reports to `watch` the number of samples
+/// compared and the total.
 pub fn compare<S: Shelf, T: Shelf, W: Watch>(
     alloc: Global,
     first_list: &[u8],

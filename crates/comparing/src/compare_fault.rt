@@ -1,4 +1,4 @@
-// Why two lists aren't compared.
+// Errors of comparing two lists.
 ghost use Rattle.std.specs.Prelude.{◌≡◌, ◌↔◌, ◌≤◌, ℕ, List, None, Err, IsErrOf};
 ghost use Rattle.work_terms.specs.Disk.{Files};
 ghost use Rattle.work_terms.specs.Refusals.{IsDue};
@@ -15,39 +15,41 @@ use comparison::{CompareFault as SumsFault, SideFault};
 use projectcheck::Checked;
 use thiserror::Error;
 
-/// Why one of two lists isn't compared.
+/// Error of one of the two lists.
 #[derive(Debug, Drop, Error)]
 pub enum ListFault {
-    /// The list, a file that it names, or an entry: 1 to 18, 21 to 31, 41 to 46.
+    /// Error in the list, in a file that it names, or in an entry (refusals 1 to 18, 21 to 31 and
+    /// 41 to 46).
     #[error("{0}")]
     Project(opening::Fault),
-    /// 47: no memory was left for the pieces of the entries.
+    /// Out of memory for the pieces of the entries (refusal 47).
     #[error("out of memory")]
     Intervals,
-    /// 57: no memory was left for the sums.
+    /// Out of memory for the sums (refusal 57).
     #[error("out of memory")]
     Memory,
-    /// 22: the device of a source failed while it was played.
+    /// The device of a source failed while samples were read (refusal 22).
     #[error("file {name} can't be read")]
     Source { name: String },
 }
 
-/// Why two lists aren't compared: in the order in which they come, but for want of memory and a device's failure.
+/// Error of comparing two lists, in order of precedence, except for out of memory and failures of a
+/// device.
 #[derive(Debug, Drop, Error)]
 pub enum CompareFault {
-    /// A fault of the first list.
+    /// Error of the first list.
     #[error("first list: {0}")]
     First(ListFault),
-    /// A fault of the second list.
+    /// Error of the second list.
     #[error("second list: {0}")]
     Second(ListFault),
-    /// 58: no sample lies in what is to be compared.
+    /// The range to be compared has no samples (refusal 58).
     #[error("there is nothing to compare")]
     EmptyRange,
 }
 
 impl ListFault {
-    /// The number of the refusal.
+    /// Returns the refusal number.
     pub fn number(&self) -> u8
         ensures { result ≡ (refusal_of self.now).number }
     {
@@ -59,7 +61,7 @@ impl ListFault {
         }
     }
 
-    /// A fault of the sums of a list.
+    /// Converts an error of a list's sums.
     fn of_sums(checked: Checked, fault: SideFault) -> ListFault
         requires { IsOpened (sounds_of checked.bound) fault }
         ensures sums { IsOfSums result }
@@ -80,7 +82,7 @@ impl ListFault {
 }
 
 impl CompareFault {
-    /// A fault of the sums of two lists that were opened.
+    /// Converts an error of summing two open lists.
     pub(crate) fn of_sums(first: Checked, second: Checked, fault: SumsFault) -> CompareFault
         requires { IsOpenedOfTwo (sounds_of first.bound) (sounds_of second.bound) fault }
         ensures first_due { AnswersFirst {X = Compared} None (Err result) }

@@ -1,4 +1,4 @@
-//! Compares two lists, each over the sources of a shelf of its own.
+//! Comparison of two lists, each with its sources on a shelf of its own.
 #![tactic(auto)]
 
 mod compare_call;

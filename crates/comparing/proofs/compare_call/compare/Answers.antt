@@ -20,17 +20,17 @@ use Rattle.comparing.specs.declared.compare_fault.ListFault.{ListFault}
 use Rattle.comparing.specs.declared.compare_fault.ListFault.TheVariants.{Source}
 use Rattle.comparing.proofs.compare_call.compare.Goals as goal
 
--- a text that spells a project has no fault
+-- a text that spells a project isn't refused
 no_fault : {project : ListProject} {refusal : Refusal} {read : Result ListProject Refusal} → read ≡ Ok project
     → read ≡ Err refusal → ⊥
 no_fault good bad = let wrong = sym good ∙ bad in cc
 
--- where an empty range isn't told there was something to compare
+-- if no empty range is reported, the range has samples
 some_sums : {Empty : Type 0} {from to : ℕ} → Empty ↔ (to ≤ from) → ¬ Empty → from < to
 some_sums {from = from} {to = to} empty told =
     let some : ¬ (to ≤ from) = λ below. told (empty.1 below) in omega (arith, some)
 
--- the fault that is reported names the file where the device failed
+-- the reported error names the file on which the device failed
 holds_there : (sounds : List SoundFacts) (failed : List ℕ → Type 0) (fault : SideFault) (reported : ListFault)
     → IsReportedAs sounds fault reported → FailsAt sounds fault failed → HoldsOfDevice reported failed
 holds_there sounds failed (side.Source file) (Source name) is fails = subst failed (sym (is fails.0 fails.1)) fails.2
