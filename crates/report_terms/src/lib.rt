@@ -1,2 +1,2 @@
-//! Words that contracts on reports are written in. It has no code.
+//! Definitions shared by the contracts of reports. Contains no code.
 #![tactic(auto)]
