@@ -1,4 +1,4 @@
--- The parts of a medium that are hashed in turn.
+-- The parts of a medium, hashed one after the other.
 use Rattle.std.proofs.Common.{◌≡◌, ◌∙◌, ◌+◌, ◌*◌, ◌++◌, ◌%◌, ◌<◌, ◌≤◌, ◌⊎◌, inl, inr, [], ◌∷◌, ℕ, List, length, take, drop, replicate, ap, arith, subst, sym}
 use Rattle.std.proofs.lemmas.Bool.{cases_lt}
 use Rattle.std.proofs.Math.Seq.{take-add}
@@ -12,7 +12,7 @@ use Rattle.work_terms.specs.Disk.{Files}
 use Rattle.mediacopy.specs.Pieces.{content}
 use Rattle.digests.specs.Media.{IsHashed}
 
--- of the bytes of a file, with frames of this width: frames, and those behind them
+-- consecutive sample frames of a file
 in_turn : (bytes : List ℕ) (place width from n m : ℕ)
     → take ((n + m) * width) (drop (place + from * width) bytes)
     ≡ take (n * width) (drop (place + from * width) bytes) ++ take (m * width) (drop (place + (from + n) * width) bytes)
@@ -24,7 +24,7 @@ in_turn bytes place width from n m =
     ∙ ap (λ (rest : List ℕ). take (n * width) (drop (place + from * width) bytes) ++ take (m * width) rest)
     (drop-drop (n * width) (place + from * width) bytes ∙ ap (λ (k : ℕ). drop k bytes) behind)
 
--- no frame
+-- an empty run of sample frames
 no_frames : (facts : SoundFacts) (bytes : List ℕ) (from : ℕ) → frames_in facts bytes from 0 ≡ []
 no_frames facts bytes from =
     let none : 0 * frame_length facts ≡ 0 = omega arith in
@@ -55,7 +55,7 @@ module _ (facts : SoundFacts) (sources : Files) (from : ℕ) (before : List ℕ)
             ∙ omega (arith, first.whole, more.whole);
       }
 
--- the pad behind samples of odd length
+-- the padding after data of odd length
 pub pad_is : (n : ℕ) → n < 2 → take {A = ℕ} n (0 ∷ []) ≡ zeros n
 unfolding zeros
 pad_is n few = by_size (cases_lt n 1) where
@@ -67,7 +67,7 @@ pad_is n few = by_size (cases_lt n 1) where
       let is : n ≡ 1 = omega (arith, few, one) in
       ap (λ (k : ℕ). take {A = ℕ} k (0 ∷ [])) is ∙ sym (ap (λ (k : ℕ). replicate k 0) is)
 
--- header, samples and pad are the whole file
+-- header, samples and padding make up the file
 pub whole_file : (info : SoundInfo) (samples pad : List ℕ) (size : ℕ) → length samples ≡ size → pad ≡ zeros (size % 2)
     → (header_of info ++ samples) ++ pad ≡ file_of info samples
 unfolding file_of

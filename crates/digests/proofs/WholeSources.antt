@@ -1,4 +1,4 @@
--- Whole sources, piece by piece.
+-- Whole sources, hashed piece by piece.
 use Rattle.std.proofs.Common.{◌≡◌, ◌∙◌, ◌+◌, ◌<◌, ◌++◌, ◌∷◌, [], ℕ, All, Bool, List, Option, Some, ap, drop, get_or, length, refl, slice_get, subst, sym, take}
 use Rattle.std.specs.Prelude.{unwrap_or}
 use Rattle.std.proofs.Math.Seq.{take-add}
@@ -16,12 +16,12 @@ use Rattle.digests.specs.declared.medium.Medium.{Medium}
 use Rattle.digests.specs.Media.{HasSource, medium_by, medium_bytes, source_digest}
 use Rattle.relink.specs.NumberingLaws.{numbered_step}
 
--- one of these has what all of them have
+-- an element has the property of all elements
 pub one_of_all : {X : Type 0} (P : X → Type 0) (xs : List X) (k : ℕ) (x : X) → slice_get xs k ≡ Some x → All P xs → P x
 one_of_all P xs k x is all =
     subst P (get_or_from_slice_get xs k x x is) (All-get_or P xs k x (slice_get_within xs k x is) all)
 
--- the bytes of a file up to a piece, and the piece
+-- the bytes of a file up to and including a piece
 pub one_more : (stored : Option (List ℕ)) (at count : ℕ) (bytes : List ℕ) (hasher : Sha256) → IsRange stored at bytes
     → length bytes ≡ count → Holds256 hasher (take at (unwrap_or stored []) ++ bytes)
     → Holds256 hasher (take (at + count) (unwrap_or stored []))
@@ -33,7 +33,7 @@ one_more stored at count bytes hasher range long held =
     subst (Holds256 hasher) (ap (λ (p : List ℕ). take at (unwrap_or stored []) ++ p) piece
     ∙ sym (take-add at count (unwrap_or stored []))) held
 
--- one more medium, which has the digest of its source, as those before it have
+-- one more medium has the digest of its source
 module _ (digests : Bool) (sounds : List SoundFacts) (homes : List Home) (sources mid later : Files)
     (same : mid ≡ sources) (still : later ≡ mid) where
   abbrev medium_with : Files → ℕ → Run → Option (List ℕ) → Medium

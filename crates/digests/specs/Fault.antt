@@ -1,4 +1,4 @@
--- Which faults of a report tell that a device failed.
+-- Errors of a report that are failures of a device.
 use Rattle.std.specs.Prelude.{◌≡◌, ℕ, ⊤, List, Some, slice_get}
 use Rattle.sound_terms.specs.Sounds.{SoundFacts}
 use Rattle.digests.specs.declared.fault.ReportFault.{ReportFault}
@@ -8,7 +8,7 @@ abbrev pub IsDevice : ReportFault → Type 0
 IsDevice (Device file) = ⊤
 IsDevice Memory = ⊥
 
--- it failed at the file of the sound that is told
+-- the device failed on the file of the sound that the error names
 abbrev pub FailsAt : List SoundFacts → ReportFault → (List ℕ → Type 0) → Type 0
 FailsAt sounds (Device file) failed = (facts : SoundFacts) × (slice_get sounds file ≡ Some facts) × failed facts.name
 FailsAt sounds Memory failed = ⊥

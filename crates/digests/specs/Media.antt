@@ -1,4 +1,4 @@
--- The media of a consolidation, with their checksums.
+-- The media of a consolidation, with their digests.
 use Rattle.std.specs.Prelude.{ℕ, ◌≡◌, ◌*◌, ◌++◌, Bool, List, length, Option, None, Some, if◌then◌else◌}
 use Rattle.sha2.specs.declared.Sha256.{Sha256}
 use Rattle.sha2.specs.Hashers.{Holds256}
@@ -19,12 +19,12 @@ abbrev pub medium_bytes : Files → List SoundFacts → List Home → Run → Li
 medium_bytes sources sounds homes run =
     medium_of (sound_at sounds run.file) (content sources (sound_at sounds run.file).name) (base_by homes run.file) run
 
--- the digest of the whole source of a run, where digests are asked for
+-- the digest of the whole source of a run, if requested
 abbrev pub source_digest : (digests : Bool) → Files → List SoundFacts → Run → Option (List ℕ)
 source_digest digests sources sounds run =
     if digests then Some (sha256 (content sources (sound_at sounds run.file).name)) else None
 
--- the medium of a run, under this number
+-- the medium of a run, with this number
 abbrev pub medium_by : (digests : Bool) → Files → List SoundFacts → List Home → ℕ → Run → Medium
 medium_by digests sources sounds homes number run = record {
   number = number;
@@ -33,21 +33,21 @@ medium_by digests sources sounds homes number run = record {
   source = source_digest digests sources sounds run;
 }
 
--- the media of runs, numbered from 1 on
+-- the media of the runs, numbered from 1 on
 abbrev pub media_of : (digests : Bool) → Files → List SoundFacts → List Home → List Run → List Medium
 media_of digests sources sounds homes runs = numbered (medium_by digests sources sounds homes) 1 runs
 
--- the medium has the digest of its source that is asked for
+-- the medium has the digest of its source exactly if requested
 abbrev pub HasSource : (digests : Bool) → Files → List SoundFacts → Medium → Type 0
 HasSource digests sources sounds medium = medium.source ≡ source_digest digests sources sounds medium.run
 
--- so many frames of a file, from this one on, are hashed behind these bytes, and none of them is missing
+-- the hasher has hashed `before` and then `count` sample frames of the file from `from` on, all of which exist
 pub record IsHashed (facts : SoundFacts) (sources : Files) (from count : ℕ) (before : List ℕ) (hasher : Sha256)
     : Type 0 where
   pub held : Holds256 hasher (before ++ frames_in facts (content sources facts.name) from count)
   pub whole : length (frames_in facts (content sources facts.name) from count) ≡ count * frame_length facts
 
--- the medium is of a run of an opened file, and ends before the day does
+-- the medium is a run of an open file, and ends within the day
 pub record IsTellable (sounds : List SoundFacts) (homes : List Home) (medium : Medium) : Type 0 where
   pub of_file : IsRunOf sounds medium.run
   pub in_day : EndsInDay homes medium.run

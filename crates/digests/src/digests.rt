@@ -1,4 +1,4 @@
-// Hashes media over their sources.
+// Digests of media, computed from their sources.
 ghost use Rattle.std.specs.Prelude.{◌≡◌, ◌++◌, ◌+◌, ◌*◌, ◌^◌, ◌<◌, ◌≤◌, ℕ, All, IfOk, IsTrue, List, OnOk, ⊤};
 ghost use Rattle.sha2.specs.Hashers.{Holds256};
 ghost use Rattle.sha2.specs.Sha256.{sha256};
@@ -20,10 +20,11 @@ use sound_terms::{Homes, Run};
 use std::alloc::Global;
 use wavread::Sound;
 
-/// The bytes of the longest header, that with 65,536 bytes of CodingHistory; no more are read at once.
+/// Size in bytes of the longest header (with 65,536 bytes of CodingHistory) and of each read.
 pub(crate) const ROOM: usize = 66_226;
 
-/// The bytes of a frame: 2 to 256. The frames have a number of 64 bits.
+/// The number of bytes of a sample frame, 2 to 256. Also shows that the number of sample frames
+/// fits in 64 bits.
 fn frame_of(sound: &Sound) -> usize
     ensures value { result ≡ frame_length sound.now }
     ensures bounded { sound.now.frames < 2 ^ 64 }
@@ -33,7 +34,7 @@ fn frame_of(sound: &Sound) -> usize
     usize::from(sound.channels()) * usize::from(sound.depth().bits() / 8)
 }
 
-/// Hashes so many frames of a sound, from this one on, through `room`.
+/// Hashes `count` sample frames of a sound from frame `from` on, by way of `room`.
 fn hash_frames<S: Shelf>(
     shelf: &mut S,
     sound: &Sound,
@@ -58,7 +59,7 @@ fn hash_frames<S: Shelf>(
     }
 }
 
-/// Hashes the frames of a run, through `room`.
+/// Hashes the sample frames of a run, by way of `room`.
 fn hash_run<S: Shelf>(
     shelf: &mut S,
     kept: &Kept,
@@ -82,7 +83,7 @@ fn hash_run<S: Shelf>(
     Ok(())
 }
 
-/// The SHA-256 of the medium of a run: of its header, its frames and a pad.
+/// The SHA-256 of the medium of a run: header, samples and padding.
 fn digest_of<S: Shelf>(
     shelf: &mut S,
     kept: &Kept,
@@ -94,7 +95,7 @@ fn digest_of<S: Shelf>(
     ensures only_reads { OnlyReads S.Shelf shelf.old shelf.new result (λ _. ⊤)
         (λ _ failed. failed kept.now.sound.now.name) }
 {
-    // Its length is known to be told by 64 bits from here on.
+    // Establishes that the length fits in 64 bits.
     reads_back(kept.sound, kept.base, &kept.run);
     let info = info_of(kept.sound, kept.base, &kept.run);
     let head = &mut room[..info.header_length()];
@@ -107,7 +108,7 @@ fn digest_of<S: Shelf>(
     Ok(hasher.finalize())
 }
 
-/// The medium of this number, whose source has this digest.
+/// The medium of the given number, with the digest of its source if given.
 fn hashed_medium<S: Shelf>(
     shelf: &mut S,
     sounds: &[Sound],
@@ -145,9 +146,10 @@ fn hashed_medium<S: Shelf>(
     }
 }
 
-/// The media of runs, which are numbered from 1 on, each with its SHA-256, by one reading of the frames that they have;
-/// where digests are asked for, each with that of its whole source, by one reading of each file, whose runs follow one
-/// another. `Device` where a source fails, `Memory` where no memory was left.
+/// Returns the media of the runs, numbered from 1 on, each with its SHA-256; reads each kept sample
+/// once. If `digests` is true, each medium also has the digest of its whole source; each file is
+/// then read once more, since the runs of a file are adjacent. Returns `ReportFault::Device` if a
+/// source can't be read, and `ReportFault::Memory` if out of memory.
 pub fn hashed_media<S: Shelf>(
     alloc: Global,
     sounds: &[Sound],

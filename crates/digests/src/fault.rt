@@ -1,17 +1,17 @@
-// Why there is no report.
+// Errors of creating a report.
 ghost use Rattle.std.specs.Prelude.{◌≡◌};
 ghost use Rattle.digests.specs.declared.fault.ReportFault.TheVariants.{Memory};
 
 use std::alloc::{AllocError, AllocFailed};
 use thiserror::Error;
 
-/// Why there is no report.
+/// Error of creating a report.
 #[derive(Clone, Copy, Debug, PartialEq, Eq, Error)]
 pub enum ReportFault {
-    /// No memory was left for it.
+    /// Out of memory.
     #[error("out of memory")]
     Memory,
-    /// The device of the file of this place failed while its frames were hashed.
+    /// The device of the open file at index `file` failed while the file was hashed.
     #[error("file {file} can't be read")]
     Device { file: u32 },
 }

@@ -1,11 +1,11 @@
-// A run of an opened file, as a medium has it.
+// Runs of open files that become media.
 ghost use Rattle.std.specs.Prelude.{◌+◌, ◌≤◌};
 ghost use Rattle.sampletime.specs.TimeCode.{day};
 
 use sound_terms::Run;
 use wavread::Sound;
 
-/// Frames of an opened file, whose first frame is at `base`.
+/// A run of sample frames of an open file; the file's first sample is at time `base`.
 #[derive(Clone, Copy)]
 pub struct Kept<'a> {
     pub sound: &'a Sound,

@@ -1,4 +1,5 @@
-//! The SHA-256 of media and of whole sources, by one reading of each, and the checksums of all files of a consolidation.
+//! SHA-256 digests of media and of whole sources, each computed in one pass, and the checksum file
+//! of a consolidation.
 #![tactic(auto)]
 
 mod digests;

@@ -1,8 +1,8 @@
-// A medium as a report tells it.
+// A medium as described in a report.
 use sound_terms::Run;
 
-/// A medium: its number, the run of kept frames that it is of, the SHA-256 of its bytes, and that of its whole source,
-/// where it is asked for.
+/// A medium: its number, its run of kept samples, the SHA-256 of its bytes, and the SHA-256 of its
+/// whole source if requested.
 #[derive(Clone, Copy, Debug, PartialEq, Eq)]
 pub struct Medium {
     pub number: u32,

@@ -1,4 +1,4 @@
-// Checksums as `sha256sum -c` reads them.
+// Checksum files in the format of `sha256sum -c`.
 ghost use Rattle.std.specs.Prelude.{◌≡◌, ◌++◌, IfOk, OnOk, codes};
 ghost use Rattle.sha2.specs.Sha256.{sha256};
 ghost use Rattle.digests.specs.Sums as spec;
@@ -9,7 +9,7 @@ use relink::media_name;
 use sha2::{Digest, Sha256};
 use std::alloc::{AllocError, Global};
 
-/// Adds the line of a file of this name.
+/// Adds the line of the named file.
 fn push_line(
     alloc: Global,
     sums: &mut Vec<u8>,
@@ -34,7 +34,7 @@ fn push_medium(alloc: Global, sums: &mut Vec<u8>, medium: &Medium) -> Result<(),
     push_line(alloc, sums, &medium.digest, name.as_str())
 }
 
-/// Adds the line of a file of these bytes.
+/// Adds the line of a file with the given content.
 fn push_file(alloc: Global, sums: &mut Vec<u8>, bytes: &[u8], name: &str) -> Result<(), AllocError>
     ensures { OnOk result (sums.new.items ≡ sums.old.items ++ sum_line (sha256 bytes.now) name.now) }
 {
@@ -42,7 +42,7 @@ fn push_file(alloc: Global, sums: &mut Vec<u8>, bytes: &[u8], name: &str) -> Res
     push_line(alloc, sums, &digest, name)
 }
 
-/// The checksums of media, of the list of this text, and of the report of this text.
+/// Returns the checksum file of media, list and report. Returns `AllocError` if out of memory.
 pub fn sums_text(
     alloc: Global,
     media: &[Medium],

@@ -1,4 +1,4 @@
-// Hashes whole sources.
+// Digests of whole sources.
 ghost use Rattle.std.specs.Prelude.{◌≡◌, ◌+◌, ◌≤◌, ℕ, IfOk, IsTrue, List, OnOk, Some, length, option_copied, take, ⊤};
 ghost use Rattle.sha2.specs.Hashers.{Holds256};
 ghost use Rattle.sha2.specs.Sha256.{sha256};
@@ -17,8 +17,9 @@ use sha2::{Digest, Sha256};
 use sound_terms::Run;
 use wavread::Sound;
 
-/// How many bytes the file of this name has. One that is gone is read, which its shelf counts as a failure; where that
-/// can be read after all, it is taken as longer than any file, so that a later read of it fails.
+/// The length of the named file in bytes. If the file is missing, reads it, so that its shelf
+/// counts a failure. If that read succeeds after all, the result is longer than any file, so that a
+/// later read fails.
 fn length_of<S: Shelf>(shelf: &mut S, name: &str) -> Result<u64, DeviceFault>
     ensures length { IsTrue (S.honest shelf.old)
         → IfOk result (λ n. length (content (S.stored shelf.old) name.now) ≡ n) }
@@ -34,7 +35,7 @@ fn length_of<S: Shelf>(shelf: &mut S, name: &str) -> Result<u64, DeviceFault>
     }
 }
 
-/// Hashes so many bytes of the file of this name, from `at` on, after those before them, through `room`.
+/// Hashes `count` bytes of the named file from offset `at` on, by way of `room`.
 fn hash_bytes<S: Shelf>(
     shelf: &mut S,
     name: &str,
@@ -58,7 +59,7 @@ fn hash_bytes<S: Shelf>(
     }
 }
 
-/// The SHA-256 of the whole file of this name, read through `room`.
+/// The SHA-256 of the whole named file, read by way of `room`.
 fn file_digest<S: Shelf>(
     shelf: &mut S,
     name: &str,
@@ -79,8 +80,8 @@ fn file_digest<S: Shelf>(
     Ok(hasher.finalize())
 }
 
-/// The digest of the whole source of a run, where digests are asked for: that of the medium before it, where it is of the
-/// same file.
+/// Returns the digest of the whole source of a run if `digests` is true. Reuses the digest of the
+/// medium before it if that is of the same file. Returns `DeviceFault` if the file can't be read.
 pub fn source_digest<S: Shelf>(
     shelf: &mut S,
     sounds: &[Sound],

@@ -4,7 +4,7 @@ use Rattle.devices.specs.Frame.{IsQuiet}
 use Rattle.digests.specs.Media.{IsHashed}
 use Rattle.digests.proofs.digests.hash_run.Given as goal
 
--- the frames so far are hashed, and nothing has failed
+-- the sample frames so far are hashed, and nothing has failed
 abbrev pub invariant-loop-done : goal.invariant-loop-done
 invariant-loop-done g l =
     (l.done ≤ l.run.length) × IsQuiet g.S.Shelf l.initial.shelf l.shelf

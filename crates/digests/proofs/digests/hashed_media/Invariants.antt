@@ -4,7 +4,7 @@ use Rattle.devices.specs.Frame.{IsQuiet}
 use Rattle.digests.specs.Media.{HasSource, IsTellable, medium_by}
 use Rattle.digests.proofs.digests.hashed_media.Given as goal
 
--- the media of the runs before the place are hashed, and nothing has failed
+-- the media of the runs before the index are hashed, and nothing has failed
 abbrev pub invariant-loop-position : goal.invariant-loop-position
 invariant-loop-position g l =
     IsQuiet g.S.Shelf l.initial.shelf l.shelf
