@@ -1,4 +1,4 @@
--- No report has a float.
+-- No report contains a floating-point number.
 use Rattle.std.proofs.Common.{◌≡◌, ◌∷◌, ◌++◌, [], Bool, true, false, List, Option, None, Some, ℕ, codes, map, nat_le, if◌then◌else◌, refl, subst, sym}
 use Rattle.std.specs.Str.{is_utf8}
 use Rattle.serde_json.specs.Data.{Data, member, no_members, null, object, string}
@@ -77,7 +77,7 @@ report_without t media =
       items_without notice_data notice_without (t.project.notices ++ t.binding.notices),
     ) refl
 
--- the text of a value that is a report's
+-- the text of a value that is a report
 pub text_of_report : (t : Told) (media : List Medium) (seen : Data) (text : List ℕ) → seen ≡ told_data t media
     → (has_float seen ≡ false → text ≡ compact_text seen) → text ≡ compact_text (told_data t media)
 text_of_report t media seen text same says =

@@ -1,9 +1,8 @@
--- What a report is asked with.
+-- Options of a report.
 use Rattle.std.specs.Prelude.{ℕ, Bool, List}
 use Rattle.provenance.specs.declared.asked.ReportOn.{ReportOn}
 
--- the name and the version of a program, the text of the given list, and whether the report has the digests of whole
--- sources
+-- name and version of the program, the text of the input list, and whether sources are also hashed as a whole
 pub record AskedReport : Type 0 where
   pub program : List ℕ
   pub version : List ℕ

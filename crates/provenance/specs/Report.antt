@@ -1,4 +1,4 @@
--- The report of a consolidation, as a value of JSON (RFC 8259).
+-- The report of a consolidation, as a JSON value (RFC 8259).
 use Rattle.std.specs.Prelude.{◌≡◌, ℕ, ◌+◌, List, [], ◌∷◌, ◌++◌, map, Option, option_and_then, option_map, slice_get, unwrap_or, if◌then◌else◌, codes}
 use Rattle.std.specs.Str.{is_utf8}
 use Rattle.hex.specs.Hex.{encode_lower}
@@ -31,7 +31,7 @@ use Rattle.lineage.specs.Groups.{Shown, grouped_in, groups_of}
 use Rattle.lineage.specs.Played.{given_entries, new_entries}
 use Rattle.digests.specs.Sums.{sums_of}
 
--- bytes as they stand where they are text (UTF-8); JSON has no others
+-- the bytes as a string if they are UTF-8, otherwise null
 abbrev pub text_data : List ℕ → Data
 text_data bytes = if is_utf8 bytes then string bytes else null
 
@@ -39,22 +39,22 @@ text_data bytes = if is_utf8 bytes then string bytes else null
 abbrev pub digest_data : List ℕ → Data
 digest_data digest = string (encode_lower digest)
 
--- where it is known
+-- an optional digest, or null
 abbrev pub known_digest : Option (List ℕ) → Data
 known_digest digest = unwrap_or (option_map digest_data digest) null
 
--- the line of the source index that the home index of a file is of
+-- the line of the source index for the home index of a file
 abbrev pub home_source : List Source → List BoundIndex → List Home → ℕ → Option Source
 home_source sources indexes homes file =
     option_and_then (λ index. source_of sources index.number)
     (slice_get indexes (place_by homes file))
 
--- what is told of a line of the source index, where there is one
+-- a value made from a line of the source index, or null if there is no line
 abbrev pub told : (Source → Data) → Option Source → Data
 told tell source = unwrap_or (option_map tell source) null
 
--- where a medium comes from: this file from its frame `first` on, by a line of the source index, and the digest of the
--- whole file
+-- the origin of a medium: a file, the first sample of it, the line of the source index, and the digest of the whole
+-- file
 abbrev pub origin_data : SoundFacts → ℕ → Option Source → Option (List ℕ) → Data
 origin_data facts first source digest =
     object (member (codes "file") (string facts.name)
@@ -64,7 +64,7 @@ origin_data facts first source digest =
     (member (codes "sha256") (known_digest digest)
     (member (codes "url") (told (λ s. text_data s.url) source) no_members))))))
 
--- a medium of an opened file, whose first frame stands at `base` in the day
+-- a medium of an open file; the first sample of the file is at time `base`
 abbrev pub medium_data : SoundFacts → (base : ℕ) → Data → Medium → Data
 medium_data facts base origin medium =
     object (member (codes "base") (count base)
@@ -81,7 +81,7 @@ medium_told sources indexes sounds homes medium =
     medium_data (sound_at sounds file) (base_by homes file + medium.run.first)
     (origin_data (sound_at sounds file) medium.run.first (home_source sources indexes homes file) medium.source) medium
 
--- a group of given entries
+-- a group of input entries
 abbrev pub group_data : Shown → Data
 group_data group =
     object (member (codes "given") (array (items_of (map count group.0)))
@@ -92,7 +92,7 @@ abbrev pub entry_data : GroupedEntry → Data
 entry_data entry =
     object (member (codes "entry") (count entry.number) (member (codes "group") (count entry.group) no_members))
 
--- a consolidation with this handle by the program that asks for the report, with these digests in hexadecimal digits
+-- the report from its parts, with the digests of both lists in hexadecimal
 abbrev pub consolidation_data : (handle : ℕ) (program version given new : List ℕ)
     (media groups entries notices : List Data) → Data
 consolidation_data handle program version given new media groups entries notices =
@@ -107,14 +107,13 @@ consolidation_data handle program version given new media groups entries notices
     (member (codes "program") (string program)
     (member (codes "version") (string version) no_members))))))))))
 
--- the same with the digests of the given list and of the new one, whose text this is
+-- the report from its parts, with the texts of both lists
 abbrev pub report_data : (handle : ℕ) (asked : AskedReport) (text : List ℕ)
     (media groups entries notices : List Data) → Data
 report_data handle asked text =
     consolidation_data handle asked.program asked.version (encode_lower (sha256 asked.list)) (encode_lower (sha256 text))
 
--- what a report is made of: the given project with what it is bound to; the runs that become media; the entries and the
--- text of the list over them; the handle, and with what the report is asked
+-- the inputs of a report: project and binding, the runs that become media, the new list, the handle and the options
 pub record Told : Type 0 where
   pub project : ListProject
   pub binding : Binding
@@ -124,14 +123,14 @@ pub record Told : Type 0 where
   pub handle : ℕ
   pub asked : AskedReport
 
--- the given entries and the new ones, by what they play
+-- the input entries and the new ones, each with the samples that it plays
 abbrev pub given_of : Told → List Played
 given_of t = given_entries t.binding.indexes t.project.events
 
 abbrev pub news_of : Told → List Played
 news_of t = new_entries t.kept.homes t.kept.runs t.events
 
--- the groups of given entries that new ones have
+-- the groups of input entries that make up the new entries
 abbrev pub groups_told : Told → List Shown
 groups_told t = groups_of (given_of t) (news_of t)
 
@@ -142,7 +141,7 @@ told_data t media = report_data t.handle t.asked t.text
     (map entry_data (map (grouped_in (groups_told t) (given_of t)) (news_of t)))
     (map notice_data (t.project.notices ++ t.binding.notices))
 
--- the value in a line
+-- the value as one line
 abbrev pub json_of : Told → List Medium → List ℕ
 json_of t media = compact_text (told_data t media) ++ 10 ∷ []
 
@@ -150,14 +149,14 @@ json_of t media = compact_text (told_data t media) ++ 10 ∷ []
 abbrev pub media_over : Files → Told → List Medium
 media_over sources t = media_of t.asked.digests sources (sounds_of t.binding) t.kept.homes t.kept.runs
 
--- the report over these sources, and the checksums of all that is written
+-- the report over these sources, and the checksums of all files written
 abbrev pub report_json : Files → Told → List ℕ
 report_json sources t = json_of t (media_over sources t)
 
 abbrev pub report_sums : Files → Told → List ℕ
 report_sums sources t = sums_of (media_over sources t) t.text (report_json sources t)
 
--- both are those of these sources
+-- both parts of the report are as specified for these sources
 pub record IsReportOf (sources : Files) (t : Told) (report : Report) : Type 0 where
   pub json : report.json.items ≡ report_json sources t
   pub sums : report.sums.items ≡ report_sums sources t

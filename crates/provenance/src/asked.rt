@@ -1,7 +1,7 @@
-// What a report is asked with.
+// Options of a report.
 
-/// What a report is asked with: the name and the version of the program that writes it, the text of the given list, and
-/// whether it has the digest of each source as a whole.
+/// Options of a report: name and version of the writing program, the text of the input list, and
+/// whether each source is also hashed as a whole.
 #[derive(Clone, Copy, Debug)]
 pub struct ReportOn<'a> {
     pub program: &'a str,

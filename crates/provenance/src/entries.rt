@@ -1,4 +1,4 @@
-// What is told of groups and of entries.
+// JSON values of groups and entries.
 ghost use Rattle.std.specs.Prelude.{◌≡◌, IfOk, map};
 ghost use Rattle.serde_json.specs.View.{view};
 ghost use Rattle.lineage.specs.Groups.{seen};
@@ -9,7 +9,6 @@ use lineage::{Group, GroupedEntry};
 use serde_json::{Value, json, push};
 use std::alloc::{AllocError, Global};
 
-/// Numbers as values.
 fn number_values(alloc: Global, numbers: &[u32]) -> Result<Vec<Value>, AllocError>
     ensures { IfOk result (λ values. map view values.items ≡ map count numbers.now) }
 {
@@ -20,7 +19,7 @@ fn number_values(alloc: Global, numbers: &[u32]) -> Result<Vec<Value>, AllocErro
     Ok(values)
 }
 
-/// What is told of a group: the first of some numbers, and how many more there are.
+/// The value of a group: some of its entry numbers, and the number of further ones.
 fn group_value(alloc: Global, group: &Group) -> Result<Value, AllocError>
     ensures { IfOk result (λ value. view value ≡ group_data (seen group.now)) }
 {
@@ -28,7 +27,7 @@ fn group_value(alloc: Global, group: &Group) -> Result<Value, AllocError>
     json!(in alloc; {"given": given, "more": (group.more)})
 }
 
-/// What is told of groups.
+/// Returns the values of groups. Returns `AllocError` if out of memory.
 pub fn group_values(alloc: Global, groups: &[Group]) -> Result<Vec<Value>, AllocError>
     ensures { IfOk result (λ values. map view values.items ≡ map group_data (map seen groups.now)) }
 {
@@ -40,14 +39,14 @@ pub fn group_values(alloc: Global, groups: &[Group]) -> Result<Vec<Value>, Alloc
     Ok(values)
 }
 
-/// What is told of a new entry: the number of its group.
+/// The value of a new entry: its number and the number of its group.
 fn entry_value(alloc: Global, entry: &GroupedEntry) -> Result<Value, AllocError>
     ensures { IfOk result (λ value. view value ≡ entry_data entry.now) }
 {
     json!(in alloc; {"entry": (entry.number), "group": (entry.group)})
 }
 
-/// What is told of new entries.
+/// Returns the values of new entries. Returns `AllocError` if out of memory.
 pub fn entry_values(alloc: Global, entries: &[GroupedEntry]) -> Result<Vec<Value>, AllocError>
     ensures { IfOk result (λ values. map view values.items ≡ map entry_data entries.now) }
 {

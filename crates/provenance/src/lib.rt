@@ -1,5 +1,5 @@
-//! Where the media of a consolidation come from, for an archive: its report as a value of JSON (RFC 8259), and the
-//! checksums of all that it writes.
+//! Provenance of the media of a consolidation, for archives: its report as a JSON value (RFC 8259),
+//! and the checksums of all files that it writes.
 #![tactic(auto)]
 
 mod asked;

@@ -1,4 +1,4 @@
-// What is told of media.
+// JSON values of media.
 ghost use Rattle.std.specs.Prelude.{◌≡◌, IfOk, map, option_copied};
 ghost use Rattle.std.specs.List.{All};
 ghost use Rattle.serde_json.specs.View.{view};
@@ -15,7 +15,7 @@ use std::alloc::{AllocError, Global};
 use std::str;
 use wavread::Sound;
 
-/// Bytes as they stand where they are text, and else null.
+/// The bytes as a string if they are UTF-8, otherwise null.
 fn text_value(alloc: Global, bytes: &[u8]) -> Result<Value, AllocError>
     ensures { IfOk result (λ value. view value ≡ text_data bytes.now) }
 {
@@ -25,7 +25,7 @@ fn text_value(alloc: Global, bytes: &[u8]) -> Result<Value, AllocError>
     }
 }
 
-/// A digest as 64 hexadecimal digits, and else null.
+/// The digest as 64 hexadecimal digits, or null.
 fn digest_value(alloc: Global, digest: &Option<[u8; 32]>) -> Result<Value, AllocError>
     ensures { IfOk result (λ value. view value ≡ known_digest digest.now) }
 {
@@ -38,7 +38,7 @@ fn digest_value(alloc: Global, digest: &Option<[u8; 32]>) -> Result<Value, Alloc
     }
 }
 
-/// The line of the source index that the home index of a file is of.
+/// The line of the source index for the home index of a file.
 fn home_source<'a>(
     sources: &'a Sources,
     indexes: &[BoundIndex],
@@ -51,7 +51,7 @@ fn home_source<'a>(
     sources.get(index.number)
 }
 
-/// Where a medium comes from.
+/// The origin of a medium.
 fn origin_value(
     alloc: Global,
     sound: &Sound,
@@ -87,7 +87,7 @@ fn origin_value(
     })
 }
 
-/// A medium of this sound, whose first frame stands at `base` in the day.
+/// The value of a medium; the first sample of its source is at time `base`.
 fn medium_value(
     alloc: Global,
     sound: &Sound,
@@ -110,7 +110,7 @@ fn medium_value(
     Ok(Value::Object(told))
 }
 
-/// What is told of a medium over these opened files.
+/// The value of a medium, with its origin.
 fn told_value(
     alloc: Global,
     sources: &Sources,
@@ -131,7 +131,7 @@ fn told_value(
     medium_value(alloc, sound, base, origin, medium)
 }
 
-/// What is told of media over these opened files.
+/// Returns the values of media over open files. Returns `AllocError` if out of memory.
 pub fn media_values(
     alloc: Global,
     sources: &Sources,

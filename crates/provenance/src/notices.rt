@@ -1,4 +1,4 @@
-// What is reported of notices.
+// JSON values of notices.
 ghost use Rattle.std.specs.Prelude.{◌≡◌, ◌++◌, IfOk, OnOk, map};
 ghost use Rattle.serde_json.specs.View.{view};
 ghost use Rattle.report_terms.specs.Report.{notice_data};
@@ -7,7 +7,7 @@ use list_terms::Notice;
 use serde_json::{Value, json, push};
 use std::alloc::{AllocError, Global};
 
-/// A notice: its number, and its line or index.
+/// The value of a notice: its number, and its line or index.
 fn notice_value(alloc: Global, notice: &Notice) -> Result<Value, AllocError>
     ensures { IfOk result (λ value. view value ≡ notice_data notice.now) }
 {
@@ -18,7 +18,7 @@ fn notice_value(alloc: Global, notice: &Notice) -> Result<Value, AllocError>
     }
 }
 
-/// Adds notices to values.
+/// Appends the values of notices.
 fn push_notices(
     alloc: Global,
     values: &mut Vec<Value>,
@@ -33,7 +33,8 @@ fn push_notices(
     Ok(())
 }
 
-/// The notices of a list, and then those of its files.
+/// Returns the values of a list's notices, followed by those about its files. Returns `AllocError`
+/// if out of memory.
 pub fn notice_values(
     alloc: Global,
     list: &[Notice],

@@ -25,18 +25,18 @@ use sound_terms::Event;
 use sourceindex::Bound;
 use std::alloc::{AllocError, Global};
 
-/// The version of the form of reports.
+/// Version of the report format.
 const FORM: u32 = 6;
 
-/// The report of a consolidation: where its media come from, a value of JSON (RFC 8259) in a line, and the checksums of
-/// all that it writes, as `sha256sum -c` reads them.
+/// The report of a consolidation: the provenance of its media as one line of JSON (RFC 8259), and
+/// the checksums of all files written, in the format of `sha256sum -c`.
 #[derive(Debug, Drop)]
 pub struct Report {
     pub json: Vec<u8>,
     pub sums: Vec<u8>,
 }
 
-/// What is reported of media, of the groups and the new entries that play them, and of notices.
+/// Values of the media, of the groups, of the new entries and of the notices.
 #[derive(Drop)]
 struct Parts {
     media: Vec<Value>,
@@ -45,7 +45,7 @@ struct Parts {
     notices: Vec<Value>,
 }
 
-/// A consolidation with this handle by the program that asks for the report, with these digests in hexadecimal digits.
+/// The JSON value of a report, from the digests of both lists in hexadecimal.
 fn consolidation_value(
     alloc: Global,
     handle: u64,
@@ -81,7 +81,7 @@ fn consolidation_value(
     Ok(Value::Object(told))
 }
 
-/// The same, with the digests of the given list and of the new one, whose text this is.
+/// The JSON value of a report, from the texts of both lists.
 fn report_value(
     alloc: Global,
     handle: u64,
@@ -98,7 +98,7 @@ fn report_value(
     consolidation_value(alloc, handle, asked, given, new, parts)
 }
 
-/// The text of the report with these media.
+/// The text of the report, with its final line feed.
 fn json_text(
     alloc: Global,
     project: &Project,
@@ -148,10 +148,11 @@ fn json_text(
     Ok(json)
 }
 
-/// The report of a consolidation of a project to these runs, with this handle, as it is asked for: `events` and `text`
-/// are the entries and the text of the list over their media. The kept frames of the sources are read once, as they are
-/// copied, and where digests are asked for, each source that has a medium once more from its first byte to its last.
-/// `Device` where one fails, `Memory` where no memory was left.
+/// Returns the report of a consolidation into the given runs and handle: `events` and `text` are
+/// the entries and the text of the new list. Reads the kept samples of the sources once, as they
+/// are copied. If whole digests are requested, also reads each source of a medium from start to
+/// end. Returns `ReportFault::Device` if a source can't be read, and `ReportFault::Memory` if out
+/// of memory.
 pub fn report_of<S: Shelf>(
     alloc: Global,
     project: &Project,

@@ -3,6 +3,6 @@ use Rattle.serde_json.specs.View.{view}
 use Rattle.report_terms.specs.Report.{count}
 use Rattle.provenance.proofs.entries.number_values.Given as goal
 
--- those so far
+-- the values of the numbers before the index
 abbrev pub invariant-loop-number : goal.invariant-loop-number
 invariant-loop-number l = map view l.values.items ≡ map count (take l.number-index l.numbers)

@@ -3,7 +3,7 @@ use Rattle.serde_json.specs.View.{view}
 use Rattle.provenance.specs.Report.{medium_told}
 use Rattle.provenance.proofs.media.media_values.Given as goal
 
--- those so far
+-- the values of the media before the index
 abbrev pub invariant-loop-medium : goal.invariant-loop-medium
 invariant-loop-medium l =
     map view l.values.items
