@@ -1,49 +1,49 @@
-// What of a rendering was clipped, in a line.
+// The line about clipped samples of a rendering.
 use clipping::Clips;
 use sampletime::{Rate, SampleTime, Separators, text_of};
 use std::fmt;
 use std::fmt::Display;
 
-/// Which part of a rendering the line speaks of: all of it, or what a resumed rendering rendered itself.
+/// The part of a rendering that the line is about: all of it, or only the part rendered by a
+/// resume.
 #[derive(Clone, Copy, Debug, PartialEq, Eq)]
 pub enum Rendering {
     Whole,
     Resumed,
 }
 
-/// How many samples were clipped, on which channels, the first one's time and channel, and by how much the loudest sum
-/// lies above full scale. Nothing where none was clipped.
+/// A line with the number of clipped samples, their channels, the time and channel of the first
+/// one, and the excess of the loudest sum over full scale in decibels. Empty if no sample was
+/// clipped.
 #[derive(Clone, Copy)]
 pub struct ClippedLine {
-    /// The tally of its exact sums, of which the first stands at the first frame on channel 1, then that on channel 2, and so
-    /// on.
+    /// Clipping statistics of the exact sums, which are interleaved, starting with channel 1.
     pub clips: Clips,
-    /// The time of that frame.
+    /// Time of the first sample.
     pub start: SampleTime,
     pub channels: u8,
     pub rendering: Rendering,
     pub rate: Rate,
 }
 
-/// A time of a list at this rate.
 fn time_text(time: SampleTime, rate: Rate) -> [u8; 16] {
     text_of(time, Separators::DEFAULT, rate)
 }
 
 impl ClippedLine {
-    /// The time of the frame that has this sample, counted from 0 channel by channel.
+    /// The time of a sample, by its index among the interleaved samples.
     fn time_of(&self, sample: u64) -> SampleTime {
         let frame = sample / u64::from(self.channels.max(1));
         let time = self.start.get().saturating_add(frame);
         SampleTime::new(time).unwrap_or(SampleTime::ZERO)
     }
 
-    /// Its channel, counted from 1.
+    /// The channel (from 1) of a sample, by its index among the interleaved samples.
     fn channel_of(&self, sample: u64) -> u64 {
         sample % u64::from(self.channels.max(1)) + 1
     }
 
-    /// The channels on which one was clipped: one by one, with commas between them and `and` before the last.
+    /// Writes the channels with clipped samples, separated by commas and a final `and`.
     fn fmt_channels<W: fmt::Write>(&self, f: &mut fmt::Formatter<W>) -> fmt::Result {
         let all = self.clips.channels;
         let mut left = all.count_ones();
@@ -95,12 +95,13 @@ impl fmt::Display for ClippedLine {
 /// Full scale of an exact sum.
 const FULL_SCALE: u128 = 1 << 47;
 
-/// The most tenths of a decibel by which a sum of 64 bits can lie above full scale: 16 bits.
+/// The maximum excess of a 64-bit sum over full scale, in tenths of a decibel: 16 bits.
 const MOST_TENTHS: u64 = 964;
 
-/// By how many tenths of a decibel a distance from zero lies above full scale, rounded; 0 where it doesn't.
+/// The excess of a magnitude over full scale in tenths of a decibel, rounded; 0 if there is none.
 fn tenths_above(peak: u64) -> u64 {
-    // Half a step of a tenth above full scale, and so on: 10 ^ (1 / 400) and 10 ^ (1 / 200), in units of 2 ^ -32.
+    // Half a step and then one step of a tenth of a decibel: 10 ^ (1 / 400) and 10 ^ (1 / 200), in
+    // units of 2 ^ -32.
     let mut limit = FULL_SCALE * 4_319_762_413 >> 32;
     for tenths in 0..MOST_TENTHS {
         if u128::from(peak) < limit {

@@ -1,4 +1,4 @@
-// What a comparison found, as JSON.
+// The JSON report of a comparison.
 use crate::difference::{SoundingEntries, fmt_time};
 use comparison::Comparison;
 use list_terms::Notice;
@@ -6,25 +6,25 @@ use sampletime::{Rate, SampleTime, Separators};
 use sound_terms::Event;
 use std::fmt;
 
-/// What a comparison of two lists found, as one value of JSON without the end of its line, in the form of
+/// Result of comparing two lists as one JSON value without a line feed, in the format of
 /// `docs/REPORT.md`.
 #[derive(Clone, Copy)]
 pub struct ComparisonReport<'a> {
     pub comparison: Comparison,
-    /// The rate of frames and the separators of the first list's times.
+    /// Frame rate and separators of the times of the first list.
     pub rate: Rate,
     pub separators: Separators,
     pub first_notices: &'a [Notice],
     pub second_notices: &'a [Notice],
-    /// The entries of the first list.
+    /// Entries of the first list.
     pub events: &'a [Event],
-    /// The entries of the second list.
+    /// Entries of the second list.
     pub other_events: &'a [Event],
-    /// The time from which on they were compared, where it is known.
+    /// Start of the comparison, if known.
     pub from: Option<SampleTime>,
-    /// At how many samples of each channel they differ; empty where these couldn't be counted.
+    /// Number of differing samples per channel; empty if they couldn't be counted.
     pub counts: &'a [u32],
-    /// The counts are of a part of what is compared.
+    /// Whether the counts cover only a part of the range compared.
     pub is_part: bool,
 }
 
@@ -55,7 +55,7 @@ impl fmt::Display for ComparisonReport<'_> {
 }
 
 impl ComparisonReport<'_> {
-    /// Writes that so many frames of so many channels are the same.
+    /// Writes the numbers of equal samples and channels.
     fn fmt_same<W: fmt::Write>(
         &self,
         frames: u64,
@@ -72,7 +72,7 @@ impl ComparisonReport<'_> {
         f.write_str("}}")
     }
 
-    /// Writes where both differ first, up to the name of the next member.
+    /// Writes the first difference, up to the name of the next member.
     fn fmt_first<W: fmt::Write>(
         &self,
         at: SampleTime,
@@ -88,7 +88,7 @@ impl ComparisonReport<'_> {
         f.write_str("\"},\"differing\":")
     }
 
-    /// Writes at how many samples of each channel they differ, and whether that is of all that is compared.
+    /// Writes the number of differing samples per channel, and whether all samples were counted.
     fn fmt_differing<W: fmt::Write>(&self, f: &mut fmt::Formatter<W>) -> fmt::Result {
         if self.counts.is_empty() {
             return f.write_str("null");
@@ -99,7 +99,7 @@ impl ComparisonReport<'_> {
         write!(f, "],\"complete\":{is_whole}}}")
     }
 
-    /// Writes how many samples are the same before this time.
+    /// Writes the number of equal samples before a time.
     fn fmt_same_before<W: fmt::Write>(
         &self,
         at: SampleTime,
@@ -115,7 +115,7 @@ impl ComparisonReport<'_> {
     }
 }
 
-/// Writes numbers with a comma between any two.
+/// Writes numbers, separated by commas.
 fn fmt_counts<W: fmt::Write>(counts: &[u32], f: &mut fmt::Formatter<W>) -> fmt::Result {
     let mut comma = "";
     for count in counts {
@@ -125,7 +125,6 @@ fn fmt_counts<W: fmt::Write>(counts: &[u32], f: &mut fmt::Formatter<W>) -> fmt::
     Ok(())
 }
 
-/// The entries of a list that sound at a time on a channel.
 fn sounding(events: &[Event], at: SampleTime, channel: u8) -> SoundingEntries<'_> {
     SoundingEntries {
         events,
@@ -134,7 +133,8 @@ fn sounding(events: &[Event], at: SampleTime, channel: u8) -> SoundingEntries<'_
     }
 }
 
-/// Writes the object of a list: its entries that sound where both differ first, its notices, and its sum there.
+/// Writes the object of a list: its entries that sound at the first difference, its notices, and
+/// its sum there.
 fn fmt_side<W: fmt::Write>(
     entries: &SoundingEntries<'_>,
     notices: &[Notice],
@@ -155,7 +155,7 @@ fn fmt_side<W: fmt::Write>(
     write!(f, ",\"sum\":{sum}}}")
 }
 
-/// Writes the member of notices.
+/// Writes the member with the notices.
 fn fmt_notices<W: fmt::Write>(notices: &[Notice], f: &mut fmt::Formatter<W>) -> fmt::Result {
     f.write_str("\"notices\":[")?;
     let mut comma = "";

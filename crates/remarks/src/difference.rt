@@ -1,20 +1,20 @@
-// What is reported of the first difference of two lists.
+// Text about the first difference of two lists.
 use console::ListOfTwo;
 use sampletime::{Rate, SampleTime, Separators, text_of};
 use sound_terms::Event;
 use std::fmt;
 use std::fmt::Display;
 
-/// How many entries are named.
+/// Maximum number of entries named.
 const MOST: usize = 20;
 
-/// How many digits a fraction of a sum has at most.
+/// Maximum number of digits after the point.
 const DIGITS: u32 = 24;
 
-/// The bits of an exact sum below a sample of 24 bits.
+/// The bits of an exact sum below a 24-bit sample.
 const FRACTION: u64 = 0xFF_FFFF;
 
-/// One of two lists by its number: `list 1` or `list 2`.
+/// The name of one of two lists: `list 1` or `list 2`.
 #[derive(Clone, Copy)]
 pub struct NamedList(pub ListOfTwo);
 
@@ -27,7 +27,7 @@ impl fmt::Display for NamedList {
     }
 }
 
-/// An exact sum, at full scale 2^47, as a sample of 24 bits: in decimals, with all digits of its fraction.
+/// An exact sum (full scale 2^47) as a 24-bit sample in decimal, with all digits of its fraction.
 #[derive(Clone, Copy)]
 pub struct ExactSample(pub i64);
 
@@ -43,7 +43,7 @@ impl fmt::Display for ExactSample {
     }
 }
 
-/// Writes a fraction, in units of 2^-24, as the digits after a point; nothing where it is zero.
+/// Writes a fraction, in units of 2^-24, as a point and digits; nothing if it is zero.
 fn fmt_fraction<W: fmt::Write>(fraction: u64, f: &mut fmt::Formatter<W>) -> fmt::Result {
     let mut rest = fraction;
     if rest == 0 {
@@ -62,7 +62,7 @@ fn fmt_fraction<W: fmt::Write>(fraction: u64, f: &mut fmt::Formatter<W>) -> fmt:
     Ok(())
 }
 
-/// Writes the number of an entry, if only a few entries are before it.
+/// Writes the number of an entry, unless the maximum number of entries has been named.
 fn fmt_entry<W: fmt::Write>(number: u32, before: usize, f: &mut fmt::Formatter<W>) -> fmt::Result {
     if before >= MOST {
         return Ok(());
@@ -71,8 +71,9 @@ fn fmt_entry<W: fmt::Write>(number: u32, before: usize, f: &mut fmt::Formatter<W
     write!(f, "{comma}entry {number}")
 }
 
-/// The entries of a list that may sound at a time on a channel, by their numbers: whose span holds the time, and whose
-/// channels hold the channel. At most 20 are named, and how many more there are.
+/// The entries of a list that may sound at a time on a channel, by number: their span includes the
+/// time, and their channels include the channel. Names at most 20 of them and the number of further
+/// ones.
 #[derive(Clone, Copy)]
 pub struct SoundingEntries<'a> {
     pub events: &'a [Event],
@@ -81,7 +82,7 @@ pub struct SoundingEntries<'a> {
 }
 
 impl SoundingEntries<'_> {
-    /// Whether an entry is one of them.
+    /// Returns whether an entry is one of them.
     pub fn has(&self, event: &Event) -> bool {
         event.dest_in <= self.at
             && self.at < event.dest_out
@@ -107,8 +108,8 @@ impl fmt::Display for SoundingEntries<'_> {
     }
 }
 
-/// At how many samples two lists differ, by channels, of which the first is 1: of all that is compared, or of a part of
-/// it, an hour from the first difference on. Channels on which none differs aren't named.
+/// The number of differing samples per channel, from channel 1 on, in the whole range compared or
+/// in the first hour after the first difference. Omits channels without differences.
 #[derive(Clone, Copy)]
 pub struct DifferingSamples<'a> {
     pub counts: &'a [u32],
@@ -135,7 +136,8 @@ impl fmt::Display for DifferingSamples<'_> {
     }
 }
 
-/// How long two lists are the same before they differ, and from when on, by the times of the first list.
+/// The length for which two lists are equal before they differ, and its start, by the times of the
+/// first list.
 #[derive(Clone, Copy)]
 pub struct Agreement {
     pub from: SampleTime,
@@ -162,7 +164,7 @@ impl fmt::Display for Agreement {
     }
 }
 
-/// Writes a time as a list of this rate, with these separators, does.
+/// Writes a time with the given frame rate and separators.
 pub fn fmt_time<W: fmt::Write>(
     time: SampleTime,
     rate: Rate,

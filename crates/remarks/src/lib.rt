@@ -1,5 +1,5 @@
-//! What is remarked of a work that is done: where two lists differ and in what, and what of a rendering was clipped: texts of
-//! which no clause speaks.
+//! Remarks on finished work, outside of any contract: the difference between two lists, and clipped
+//! samples of a rendering.
 #![tactic(auto)]
 
 mod clipped;
