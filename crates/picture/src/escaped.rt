@@ -1,7 +1,7 @@
-// Names in XML.
+// Escaping of names in XML.
 use std::fmt;
 
-/// A text as it stands in XML 1.0: markup is escaped, and what XML doesn't take is the replacement character.
+/// A text escaped for XML 1.0. Characters that XML doesn't allow become the replacement character.
 #[derive(Clone, Copy)]
 pub struct Escaped<'a>(pub &'a str);
 
@@ -14,7 +14,7 @@ impl fmt::Display for Escaped<'_> {
     }
 }
 
-/// Writes a character of a name.
+/// Writes an escaped character.
 fn put_character<W: fmt::Write>(f: &mut fmt::Formatter<W>, character: char) -> fmt::Result {
     match character {
         '&' => f.write_str("&amp;"),

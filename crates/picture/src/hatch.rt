@@ -1,10 +1,10 @@
-// What entries play that their files don't have.
+// Hatching of samples that entries play but their files lack.
 use crate::scale::Scale;
 use crate::shown::Missing;
 use sound_terms::Event;
 use std::fmt;
 
-/// Writes the lines that stand for what is missing.
+/// Writes the definition of the hatching pattern.
 pub fn put_pattern<W: fmt::Write>(f: &mut fmt::Formatter<W>) -> fmt::Result {
     write!(
         f,
@@ -17,7 +17,8 @@ pub fn put_pattern<W: fmt::Write>(f: &mut fmt::Formatter<W>) -> fmt::Result {
     )
 }
 
-/// Hatches in a lane that begins here and is so high what is missing of an entry between these samples.
+/// Hatches the missing samples of an entry within `span`, in a lane with the given top and height
+/// in pixels.
 pub fn put_missing<W: fmt::Write>(
     f: &mut fmt::Formatter<W>,
     span: (u64, u64),
@@ -32,7 +33,7 @@ pub fn put_missing<W: fmt::Write>(
     put_stretch(f, span, from, missing.after, top, high)
 }
 
-/// Hatches so many samples from one on, as far as they lie between these.
+/// Hatches `samples` samples from `start` on, clipped to `span`.
 fn put_stretch<W: fmt::Write>(
     f: &mut fmt::Formatter<W>,
     span: (u64, u64),

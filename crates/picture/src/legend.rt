@@ -1,7 +1,7 @@
-// The boxes that say what is drawn how.
+// Legend boxes.
 use std::fmt;
 
-/// Writes a box of a legend, from these pixels on, drawn with these attributes.
+/// Writes a legend box at a position in pixels, with the given SVG attributes.
 pub fn put_box<W: fmt::Write>(
     f: &mut fmt::Formatter<W>,
     left: u64,

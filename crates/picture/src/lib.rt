@@ -1,5 +1,5 @@
-//! A picture of a project: its entries in a lane for each channel, and below them what of each file is played and kept; and
-//! of what can be drawn of a list that is refused.
+//! Pictures of projects: the entries in a lane for each channel, and below them the played and kept
+//! parts of each file. Also pictures of refused lists, as far as they can be drawn.
 #![tactic(auto)]
 
 mod escaped;

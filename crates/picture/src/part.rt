@@ -1,8 +1,9 @@
-// Which part of the timeline is drawn.
+// Selection of the part of the timeline to draw.
 use sampletime::SampleTime;
 use sound_terms::Event;
 
-/// A part of the timeline: from one time up to another, by default from the first in and up to the last out.
+/// A part of the timeline, `from` to `to` (exclusive). By default it runs from the first In to the
+/// last Out.
 #[derive(Clone, Copy, Debug, PartialEq, Eq)]
 pub struct Part {
     pub from: Option<SampleTime>,
@@ -10,24 +11,24 @@ pub struct Part {
 }
 
 impl Part {
-    /// All of it.
+    /// The whole timeline.
     pub const ALL: Part = Part {
         from: None,
         to: None,
     };
 
-    /// Whether a time is chosen.
+    /// Returns whether a time was selected.
     pub fn is_chosen(&self) -> bool {
         self.from.is_some() || self.to.is_some()
     }
 
-    /// Whether a time is chosen so that nothing lies between both.
+    /// Returns whether a time was selected and the part is empty.
     pub fn is_empty(&self, events: &[Event]) -> bool {
         let (from, to) = self.span(events);
         self.is_chosen() && to <= from
     }
 
-    /// The samples from which and up to which it goes.
+    /// Returns start and end of the part in samples.
     pub fn span(&self, events: &[Event]) -> (u64, u64) {
         let (first, last) = whole_of(events);
         let from = match self.from {
@@ -42,7 +43,7 @@ impl Part {
     }
 }
 
-/// The samples from the first in to the last out; none where no entry has any.
+/// The samples from the first In to the last Out, or an empty span if there are no entries.
 fn whole_of(events: &[Event]) -> (u64, u64) {
     let mut span = (u64::MAX, 0);
     for event in events {

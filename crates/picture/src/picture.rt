@@ -17,7 +17,7 @@ use std::alloc::Global;
 use std::collections::BTreeMap;
 use std::fmt;
 
-/// What of the files is played, and what is kept by a handle of so many frames.
+/// The played runs of the files, and the runs kept with a handle of the given number of samples.
 #[derive(Drop)]
 struct FileRuns {
     played: Runs,
@@ -25,12 +25,12 @@ struct FileRuns {
     handle: u64,
 }
 
-/// A project, printed as a picture that is 1,200 pixels wide (SVG 1.1, black on white). A lane for each channel has the
-/// entries with their fades, under the time code of the list; those of a part of the timeline, where that is chosen, cut
-/// at its edges. Of a project without a fault a bar for each file stands
-/// below, with the frames that the entries play, those that a handle keeps, and what is dropped. Of one that is refused
-/// at its files or entries, an entry that can't be played has a broken line round it, and what its file doesn't have is
-/// hatched. A title and a description tell it in words. Names are escaped.
+/// A project as an SVG 1.1 picture, 1,200 pixels wide, black on white. Each channel has a lane with
+/// the entries and their fades, under the time code of the list; entries are cut at the edges of a
+/// selected part of the timeline. Below the lanes of a valid project is a bar for each file with
+/// its played, kept and dropped samples. In the picture of a project that is refused because of its
+/// files or entries, an entry that can't be played has a dashed outline, and samples missing from
+/// its file are hatched. Title and description contain the picture as text. Names are escaped.
 #[derive(Drop)]
 pub struct Picture<'a> {
     shown: Shown<'a>,
@@ -40,9 +40,11 @@ pub struct Picture<'a> {
 }
 
 impl<'a> Picture<'a> {
-    /// The picture of a project that is called so, with handles of so many frames. What is silent is as what sounds.
+    /// Creates the picture of a valid project with the given name and a handle in samples. Silent
+    /// samples count as played.
     ///
-    /// `TooManyRuns` where what is kept has more than 32,767 stretches, `Memory` where no memory was left.
+    /// Returns `RunFault::TooManyRuns` if there are more than 32,767 kept runs, and
+    /// `RunFault::Memory` if out of memory.
     pub fn of(
         alloc: Global,
         checked: &'a Checked,
@@ -71,7 +73,7 @@ impl<'a> Picture<'a> {
         })
     }
 
-    /// The picture of a project that is called so and has entries at fault.
+    /// Creates the picture of a project with faulty entries.
     pub fn of_bad_entries(project: &'a Project, bound: &'a Bound, name: &'a str) -> Self {
         Picture {
             shown: Shown {
@@ -85,8 +87,8 @@ impl<'a> Picture<'a> {
         }
     }
 
-    /// The picture of a project that is called so and has files at fault: those of these indexes, each with the number
-    /// of its refusal.
+    /// Creates the picture of a project with faulty files: `bad_files` maps their indexes to
+    /// refusal numbers.
     pub fn of_bad_files(
         project: &'a Project,
         bad_files: &'a BTreeMap<u32, u8>,
@@ -104,12 +106,12 @@ impl<'a> Picture<'a> {
         }
     }
 
-    /// The same of a part of the timeline.
+    /// Restricts the picture to a part of the timeline.
     pub fn of_part(self, part: Part) -> Self {
         Picture { part, ..self }
     }
 
-    /// Writes the title and the description.
+    /// Writes title and description.
     fn put_words<W: fmt::Write>(
         &self,
         f: &mut fmt::Formatter<W>,
@@ -146,7 +148,7 @@ impl<'a> Picture<'a> {
         writeln!(f, ".</desc>")
     }
 
-    /// Writes the bar of each file, or what the marks of entries at fault mean. They begin so many pixels from the top.
+    /// Writes the bars of the files, or the legend for faulty entries, at `top` pixels.
     fn put_below<W: fmt::Write>(&self, f: &mut fmt::Formatter<W>, top: u64) -> fmt::Result {
         match self.bars(top) {
             Some(bars) => bars.put(f),
@@ -154,7 +156,7 @@ impl<'a> Picture<'a> {
         }
     }
 
-    /// The bars of the files, so many pixels from the top, where there are some.
+    /// The bars of the files at `top` pixels, if there are any.
     fn bars(&self, top: u64) -> Option<SourceBars<'_>> {
         let bound = self.shown.bound?;
         let files = self.files.as_ref()?;
@@ -167,7 +169,7 @@ impl<'a> Picture<'a> {
         })
     }
 
-    /// Where what is drawn below the lanes ends, in pixels from the top.
+    /// The end of the part below the lanes, in pixels from the top.
     fn bottom(&self, top: u64) -> u64 {
         match self.bars(top) {
             Some(bars) => bars.bottom(),
@@ -176,10 +178,10 @@ impl<'a> Picture<'a> {
     }
 }
 
-/// How high the line is that says what the marks mean, in pixels.
+/// Height of the legend for faulty entries, in pixels.
 const MEANING: u64 = 36;
 
-/// Writes what the marks of entries at fault mean.
+/// Writes the legend for faulty entries.
 fn put_meaning<W: fmt::Write>(f: &mut fmt::Formatter<W>, top: u64) -> fmt::Result {
     let text = top.saturating_add(24);
     let box_top = top.saturating_add(13);

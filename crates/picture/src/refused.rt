@@ -1,4 +1,4 @@
-// A picture of a list that is refused.
+// Pictures of refused lists.
 use crate::part::Part;
 use crate::picture::Picture;
 use adlmodel::{Project, place_of};
@@ -10,8 +10,8 @@ use sourceindex::bind;
 use std::alloc::{AllocError, Global};
 use std::collections::BTreeMap;
 
-/// Draws this part of a list that is refused by this fault: its entries where its files can be bound, and else its files.
-/// Nothing is drawn of one whose text is at fault, or of which nothing lies in the part.
+/// Draws a part of a list that was refused with `fault`: its entries if its files can be bound,
+/// otherwise its files. Draws nothing if the text is faulty or the part is empty.
 pub fn draw_refused<S: Shelf, O: Console>(
     alloc: Global,
     name: &str,
@@ -42,7 +42,7 @@ pub fn draw_refused<S: Shelf, O: Console>(
     }
 }
 
-/// The indexes of a project whose files are at fault, each with the number of its refusal.
+/// The indexes of faulty files, with their refusal numbers.
 fn bad_files_of<S: Shelf>(
     alloc: Global,
     list: &[u8],
@@ -69,7 +69,7 @@ fn bad_files_of<S: Shelf>(
     Ok(bad_files)
 }
 
-/// Adds the index of a fault, and the name of its file where it has one.
+/// Records the index of a fault, and the name of its file if it has one.
 fn add_fault(
     alloc: Global,
     fault: &Fault,

@@ -1,16 +1,16 @@
-// The time code along the top.
+// The time code along the top of the picture.
 use crate::scale::{DRAWN, LEFT, Scale};
 use adlmodel::Project;
 use sampletime::{SampleTime, text_of};
 use std::{fmt, str};
 
-/// How many samples a second has.
+/// Samples per second.
 const SECOND: u64 = 48_000;
 
-/// At most so many steps are between the marks.
+/// Maximum number of intervals between marks.
 const MOST: u64 = 9;
 
-/// A time as the list writes it, without the samples behind its frame.
+/// A time as written in the list, without the samples after the frame.
 #[derive(Clone, Copy)]
 pub struct TimeCode<'a> {
     pub project: &'a Project,
@@ -25,7 +25,8 @@ impl fmt::Display for TimeCode<'_> {
     }
 }
 
-/// The step between the marks of so many samples: a number of frames, seconds, minutes or hours.
+/// The interval between marks for a span: a number of frames, seconds, minutes or hours, in
+/// samples.
 fn step_of(length: u64, frame: u64) -> u64 {
     let frames = [1, 2, 5, 10];
     let seconds = [
@@ -47,7 +48,7 @@ fn step_of(length: u64, frame: u64) -> u64 {
     SECOND * 14_400
 }
 
-/// Writes the marks from one sample up to another, with lines down to `bottom`.
+/// Writes the marks of a span, with lines down to `bottom` pixels.
 pub fn put_ruler<W: fmt::Write>(
     f: &mut fmt::Formatter<W>,
     project: &Project,
@@ -73,7 +74,7 @@ pub fn put_ruler<W: fmt::Write>(
     put_times(f, project, span, step)
 }
 
-/// The first multiple of the step from this sample on.
+/// The first multiple of `step` at or after `from`.
 fn first_of(from: u64, step: u64) -> u64 {
     let before = from.checked_div(step).unwrap_or(0).saturating_mul(step);
     if before < from {

@@ -1,14 +1,14 @@
-// Where times and frames stand across the picture.
+// Horizontal scale of the picture.
 use std::fmt;
 
-/// How wide the picture is, and where what is drawn begins and how wide that is, in pixels.
+/// Width of the picture, and left edge and width of the drawing area, in pixels.
 pub const WIDTH: u64 = 1200;
 
 pub const LEFT: u64 = 120;
 
 pub const DRAWN: u64 = 1030;
 
-/// A number of tenths, printed with its point.
+/// A number of tenths, printed with a decimal point.
 #[derive(Clone, Copy, Debug, PartialEq, Eq)]
 pub struct Tenths(pub u64);
 
@@ -20,7 +20,7 @@ impl fmt::Display for Tenths {
     }
 }
 
-/// A stretch of samples over the whole width.
+/// A span of samples, scaled to the width of the drawing area.
 #[derive(Clone, Copy, Debug, PartialEq, Eq)]
 pub struct Scale {
     from: u64,
@@ -28,7 +28,7 @@ pub struct Scale {
 }
 
 impl Scale {
-    /// The samples from one up to another.
+    /// Creates the scale of a span of samples.
     pub fn new(from: u64, to: u64) -> Scale {
         Scale {
             from,
@@ -36,13 +36,13 @@ impl Scale {
         }
     }
 
-    /// Where so many samples end behind the left edge, in tenths of a pixel.
+    /// Returns the width of `samples` samples, in tenths of a pixel.
     pub fn width(self, samples: u64) -> Tenths {
         let scaled = samples.min(self.length).saturating_mul(DRAWN * 10);
         Tenths(scaled.checked_div(self.length).unwrap_or(0))
     }
 
-    /// Where a sample stands, in tenths of a pixel.
+    /// Returns the horizontal position of a sample, in tenths of a pixel.
     pub fn position(self, sample: u64) -> Tenths {
         let Tenths(width) = self.width(sample.saturating_sub(self.from));
         Tenths(width.saturating_add(LEFT * 10))

@@ -1,12 +1,12 @@
-// The entries that are drawn, and what is at fault with them.
+// The entries to draw, and their faults.
 use adlmodel::Project;
 use projectcheck::fault_of;
 use sound_terms::{BoundIndex, Event};
 use sourceindex::Bound;
 use std::collections::BTreeMap;
 
-/// A project, what it is bound to where all its files are sound, and for each index whose file isn't, the number of the
-/// refusal.
+/// A project, its binding if all files are valid, and the refusal numbers of the indexes with
+/// faulty files.
 #[derive(Clone, Copy)]
 pub struct Shown<'a> {
     pub project: &'a Project,
@@ -14,7 +14,7 @@ pub struct Shown<'a> {
     pub bad_files: Option<&'a BTreeMap<u32, u8>>,
 }
 
-/// So many samples that an entry plays before its file begins, and after it ends.
+/// Number of samples that an entry plays before the start and after the end of its file.
 #[derive(Clone, Copy)]
 pub struct Missing {
     pub before: u64,
@@ -22,14 +22,14 @@ pub struct Missing {
 }
 
 impl Missing {
-    /// Whether anything is.
+    /// Returns whether any sample is missing.
     pub fn is_some(self) -> bool {
         self.before > 0 || self.after > 0
     }
 }
 
 impl<'a> Shown<'a> {
-    /// The number of the refusal of an entry, or of its file; `None` where neither is at fault.
+    /// Returns the refusal number of an entry or of its file, or `None` if both are valid.
     pub fn refusal_of(self, event: &Event) -> Option<u8> {
         let of_file = self
             .bad_files
@@ -43,7 +43,7 @@ impl<'a> Shown<'a> {
         }
     }
 
-    /// Which samples of an entry its file doesn't have: all of them where that is at fault.
+    /// Returns the samples of an entry that its file lacks: all of them if the file is faulty.
     pub fn missing(self, event: &Event) -> Missing {
         let length = event.dest_out.get().saturating_sub(event.dest_in.get());
         let is_bad = match self.bad_files {
@@ -65,7 +65,7 @@ impl<'a> Shown<'a> {
         }
     }
 
-    /// How many entries are at fault, or their files.
+    /// Returns the number of entries that are faulty or have a faulty file.
     pub fn refused(self) -> u64 {
         let mut count: u64 = 0;
         for event in self.project.events() {
@@ -77,7 +77,8 @@ impl<'a> Shown<'a> {
     }
 }
 
-/// Of so many frames from a time of an index on, those before its first frame and after its last.
+/// The samples before the first and after the last of an index, among `length` samples from `from`
+/// on.
 fn missing_in(index: BoundIndex, from: u64, length: u64) -> Missing {
     let before = index.base.saturating_sub(from).min(length);
     let first = from.saturating_sub(index.base);

@@ -1,4 +1,4 @@
-// What of each file is played, kept and dropped.
+// The played, kept and dropped parts of each file.
 use crate::escaped::Escaped;
 use crate::legend::put_box;
 use crate::scale::{DRAWN, LEFT, Scale, Tenths};
@@ -6,12 +6,13 @@ use sound_terms::Run;
 use std::fmt;
 use wavread::Sound;
 
-/// How high a file's words and its bar are together, and the bar alone, in pixels.
+/// Height of a file's row and of its bar, in pixels.
 const ROW: u64 = 40;
 
 const BAR: u64 = 16;
 
-/// The files, with the runs of frames that the entries play, and of those that a handle of so many frames keeps.
+/// The files, with their played runs and the runs kept with a handle of the given number of
+/// samples.
 #[derive(Clone, Copy)]
 pub struct SourceBars<'a> {
     pub sounds: &'a [Sound],
@@ -21,7 +22,7 @@ pub struct SourceBars<'a> {
     pub top: u64,
 }
 
-/// The frames of a file that lie in runs.
+/// The number of samples of a file in runs.
 fn frames_in(runs: &[Run], file: usize) -> u64 {
     let mut frames: u64 = 0;
     for run in runs {
@@ -32,13 +33,13 @@ fn frames_in(runs: &[Run], file: usize) -> u64 {
     frames
 }
 
-/// So many frames in seconds.
+/// A number of samples in seconds.
 fn seconds(frames: u64) -> Tenths {
     Tenths(frames / 4_800)
 }
 
 impl SourceBars<'_> {
-    /// Where the last of them ends.
+    /// Returns the end of the last row, in pixels from the top.
     pub fn bottom(&self) -> u64 {
         (self.sounds.len() as u64)
             .saturating_mul(ROW)
@@ -46,7 +47,7 @@ impl SourceBars<'_> {
             .saturating_add(ROW)
     }
 
-    /// Writes what the bars show, and each file with its bar.
+    /// Writes the legend, and a row for each file.
     pub fn put<W: fmt::Write>(&self, f: &mut fmt::Formatter<W>) -> fmt::Result {
         self.put_legend(f)?;
         let mut top = self.top.saturating_add(ROW);
@@ -57,7 +58,7 @@ impl SourceBars<'_> {
         Ok(())
     }
 
-    /// Writes what the bars show.
+    /// Writes the legend.
     fn put_legend<W: fmt::Write>(&self, f: &mut fmt::Formatter<W>) -> fmt::Result {
         let text = self.top.saturating_add(24);
         let box_top = self.top.saturating_add(13);
@@ -83,7 +84,7 @@ impl SourceBars<'_> {
         )
     }
 
-    /// Writes the words and the bar of a file.
+    /// Writes the text and the bar of a file.
     fn put_file<W: fmt::Write>(
         &self,
         f: &mut fmt::Formatter<W>,
@@ -97,7 +98,7 @@ impl SourceBars<'_> {
         let kept = frames_in(self.kept, file);
         let all = seconds(frames);
         let (played, kept) = (seconds(played), seconds(kept));
-        // As much as the two numbers beside it leave.
+        // The difference of the rounded numbers, so that the printed numbers add up.
         let dropped = Tenths(all.0.saturating_sub(kept.0));
         let text = top.saturating_add(12);
         let bar = top.saturating_add(17);

@@ -8,30 +8,30 @@ use crate::shown::Shown;
 use sound_terms::Event;
 use std::fmt;
 
-/// Where the lanes begin, how high one is, and how high an entry is in it, in pixels.
+/// Top of the lanes, height of a lane, and height of an entry within it, in pixels.
 const TOP: u64 = 58;
 
 const LANE: u64 = 48;
 
 const HIGH: u64 = 44;
 
-/// An entry at least so wide has its number in it, in tenths of a pixel, and one that has so many more for each byte of
-/// its file's name has that too.
+/// Minimum width of an entry to show its number, and additional width per byte to show its file
+/// name, in tenths of a pixel.
 const NUMBERED: u64 = 260;
 
 const LETTER: u64 = 75;
 
-/// In so many rows of a lane such words stand, one so many pixels below the other, so that those of entries which sound
-/// together don't lie over one another.
+/// Number of text rows per lane and their height in pixels, so that labels of simultaneous entries
+/// don't overlap.
 const ROWS: u64 = 3;
 
 const ROW: u64 = 12;
 
-/// So many entries before one are looked at for those that sound together with it.
+/// Number of preceding entries checked for overlap.
 const BEFORE: usize = 8;
 
-/// What the timeline shows: the samples from the first in to the last out, or of a part of these, and the channels from
-/// the first to the last that an entry names.
+/// The timeline: a span of samples, from the first In to the last Out or a part of that, and the
+/// range of channels used.
 #[derive(Clone, Copy)]
 pub struct Timeline<'a> {
     shown: Shown<'a>,
@@ -41,7 +41,7 @@ pub struct Timeline<'a> {
 }
 
 impl<'a> Timeline<'a> {
-    /// This part of the timeline of a project.
+    /// Creates the timeline for a part of a project.
     pub fn of(shown: Shown<'a>, part: Part) -> Timeline<'a> {
         let events = shown.project.events();
         let mut channels = (u8::MAX, 0);
@@ -60,13 +60,13 @@ impl<'a> Timeline<'a> {
         }
     }
 
-    /// Whether an entry is drawn: all of them are, or those that reach into the part.
+    /// Whether the entry is drawn: always, or if it reaches into the selected part.
     fn draws(self, event: &Event) -> bool {
         let (from, to) = self.span;
         !self.is_part || (event.dest_in.get() < to && from < event.dest_out.get())
     }
 
-    /// How many entries are drawn.
+    /// Returns the number of entries drawn.
     pub fn count(self) -> u64 {
         let mut count: u64 = 0;
         for event in self.shown.project.events() {
@@ -77,12 +77,12 @@ impl<'a> Timeline<'a> {
         count
     }
 
-    /// Where the lane of a channel begins, in pixels from the top.
+    /// The top of a channel's lane, in pixels.
     fn lane(self, channel: u8) -> u64 {
         TOP + u64::from(channel.saturating_sub(self.channels.0)) * LANE
     }
 
-    /// Where the last lane ends.
+    /// Returns the bottom of the last lane, in pixels.
     pub fn bottom(self) -> u64 {
         self.lane(self.channels.1).saturating_add(LANE)
     }
@@ -119,7 +119,8 @@ impl<'a> Timeline<'a> {
         Ok(())
     }
 
-    /// Writes an entry: in each lane a shape that rises and falls as its fades do. Its title tells what plays.
+    /// Writes an entry: in each lane a shape that follows its fades, with a title that names the
+    /// source.
     fn put_entry<W: fmt::Write>(self, f: &mut fmt::Formatter<W>, event: &Event) -> fmt::Result {
         let project = self.shown.project;
         let from = TimeCode {
@@ -146,7 +147,7 @@ impl<'a> Timeline<'a> {
         writeln!(f, "</g>")
     }
 
-    /// Hatches in each lane what the entries play that their files don't have.
+    /// Hatches the missing samples of all entries.
     fn put_all_missing<W: fmt::Write>(self, f: &mut fmt::Formatter<W>) -> fmt::Result {
         for event in self.shown.project.events() {
             if self.draws(event) {
@@ -156,7 +157,7 @@ impl<'a> Timeline<'a> {
         Ok(())
     }
 
-    /// Hatches what an entry plays that its file doesn't have.
+    /// Hatches the missing samples of an entry in each of its lanes.
     fn put_missing_of<W: fmt::Write>(
         self,
         f: &mut fmt::Formatter<W>,
@@ -169,7 +170,7 @@ impl<'a> Timeline<'a> {
         Ok(())
     }
 
-    /// Writes the shape of an entry in the lane that begins here.
+    /// Writes the shape of an entry in the lane at `top`.
     fn put_shape<W: fmt::Write>(
         self,
         f: &mut fmt::Formatter<W>,
@@ -192,7 +193,7 @@ impl<'a> Timeline<'a> {
         )
     }
 
-    /// Writes over all shapes what each entry is, with a white edge round the words.
+    /// Writes the labels of the entries over all shapes, with a white outline.
     fn put_names<W: fmt::Write>(self, f: &mut fmt::Formatter<W>) -> fmt::Result {
         writeln!(
             f,
@@ -210,7 +211,7 @@ impl<'a> Timeline<'a> {
         writeln!(f, "</g>")
     }
 
-    /// Writes the number of an entry and the name of its file in this row of its first lane, as far as they have room.
+    /// Writes the number of an entry and its file name, if they fit, in a row of its first lane.
     fn put_name<W: fmt::Write>(
         self,
         f: &mut fmt::Formatter<W>,
@@ -240,7 +241,6 @@ impl<'a> Timeline<'a> {
         writeln!(f, "</text>")
     }
 
-    /// The name of the file that an entry plays.
     fn name_of(self, event: &Event) -> &'a str {
         let Some(bound) = self.shown.bound else {
             return "";
@@ -255,7 +255,7 @@ impl<'a> Timeline<'a> {
     }
 }
 
-/// Writes the shape of an entry in the lane that begins here, cut at the edges of these samples.
+/// Writes the shape of an entry in the lane at `top`, cut at the edges of the span.
 fn put_cut<W: fmt::Write>(
     f: &mut fmt::Formatter<W>,
     span: (u64, u64),
@@ -285,7 +285,7 @@ fn put_cut<W: fmt::Write>(
     writeln!(f, " {right},{bottom}'/>")
 }
 
-/// How high the shape of an entry is at a sample of it, in tenths of a pixel.
+/// The height of an entry's shape at a sample, in tenths of a pixel.
 fn height_at(event: &Event, sample: u64) -> u64 {
     let whole = HIGH * 10;
     let risen = sample.saturating_sub(event.dest_in.get());
@@ -295,14 +295,13 @@ fn height_at(event: &Event, sample: u64) -> u64 {
     up.min(down)
 }
 
-/// So much of a height, so many samples into a fade of this length.
+/// The height after the given number of samples of a fade.
 fn share_of(whole: u64, samples: u64, length: u64) -> u64 {
     let share = samples.min(length).saturating_mul(whole);
     share.checked_div(length).unwrap_or(whole)
 }
 
-/// The row in which the words of an entry stand: the first one, or a next one for each of these entries that sounds
-/// together with it on its first channel.
+/// The text row of an entry: one further down for each of the preceding entries that overlaps it.
 fn row_of(event: &Event, before: &[Event]) -> u64 {
     let mut together: u64 = 0;
     for other in before {
@@ -313,7 +312,7 @@ fn row_of(event: &Event, before: &[Event]) -> u64 {
     together % ROWS
 }
 
-/// Whether another entry sounds on the first channel of an entry, at a time at which that does.
+/// Whether two entries sound at the same time on the first channel of the first one.
 fn sound_together(event: &Event, other: &Event) -> bool {
     let channel = event.dest.first;
     other.dest.first <= channel
