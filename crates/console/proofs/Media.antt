@@ -1,4 +1,4 @@
--- A medium's name has only characters that are seen, so it stands in a line as it is.
+-- The names of media have only visible characters, so they are printed unchanged.
 use Rattle.std.proofs.Common.{◌≡◌, ◌∙◌, ℕ, ◌-◌, ◌/◌, ◌<◌, ◌≤◌, ◌%◌, ◌==◌, cond, Bool, true, false, ◌&&◌, List, [], ◌∷◌, ◌++◌, length, zero, suc, refl, ap, arith, codes}
 use Rattle.std.specs.Prelude.{nat_le, decimal, replicate, encode_utf8}
 use Rattle.std.specs.List.{All, flat_map, list_all}
@@ -13,7 +13,7 @@ use Rattle.std.proofs.lemmas.Str.Ascii.{IsAscii-from_all}
 use Rattle.list_terms.specs.Renewed.{media_name}
 use Rattle.console.specs.Lines.{is_mark, printed_character, printed_name}
 
--- a printing ASCII character
+-- a printable ASCII character
 abbrev is_plain : ℕ → Bool
 is_plain b = nat_le 32 b && nat_le b 126
 
@@ -87,6 +87,6 @@ media-plain n =
     (append-plain zeros (decimal n ++ codes ".wav") (zeros-plain (5 - length (decimal n)))
     (append-plain (decimal n) (codes ".wav") (decimal-plain n) refl))
 
--- the name of a medium stands in a line as it is
+-- the name of a medium is printed unchanged
 pub printed_name-medium : (number : ℕ) → printed_name (media_name number) ≡ media_name number
 printed_name-medium number = name-plain (media_name number) (media-plain number)

@@ -1,10 +1,10 @@
--- Places as callers see them.
+-- Locations as callers see them.
 use Rattle.list_terms.specs.Renewed.{media_name}
 use Rattle.work_terms.specs.Refusals as refused
 use Rattle.console.specs.declared.place.Place.{Place}
 use Rattle.console.specs.declared.place.Place.TheVariants.{Nowhere, Line, LineEntry, LineIndex, IndexFile, Index, Entry, File, Medium, Job}
 
--- the place as it is told
+-- the location of a refusal
 abbrev pub where_of : Place → refused.Where
 where_of Nowhere = refused.Nowhere
 where_of (Line line) = refused.Line line

@@ -1,8 +1,8 @@
--- What a print does.
+-- Effects of a print.
 use Rattle.std.specs.Prelude.{◌≡◌, ℕ, ◌+◌, ◌^◌, ◌<◌, ◌≤◌, List, Option}
 use Rattle.std.specs.Io.KnownBytes.{Appends}
 
--- no print has failed: the count of failures stayed below its last value
+-- no print has failed, and the count of failures is below its maximum
 abbrev pub NoneFailed : ℕ → ℕ → Type 0
 NoneFailed before now = (before + 1 < 2 ^ 64) × (now ≡ before)
 

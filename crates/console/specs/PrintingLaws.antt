@@ -1,4 +1,4 @@
--- Prints, one behind the other.
+-- Sequences of prints.
 use Rattle.std.proofs.Common.{◌≡◌, ◌∙◌, ◌++◌, [], ℕ, List, Option, None, Some, ap, arith, sym, append_assoc}
 use Rattle.std.proofs.lemmas.List.{append-nil}
 use Rattle.std.specs.Io.KnownBytes.{Appends}
@@ -16,7 +16,7 @@ appends_nothing : (old : Option (List ℕ)) → Appends old old []
 appends_nothing None = tt
 appends_nothing (Some xs) = sym (append-nil xs)
 
--- one text, and then another
+-- one text after another
 pub prints_more : {O : Type 0} (contents : O → Option (List ℕ)) (failures : O → ℕ) {old between new : O}
     {text more : List ℕ} → Prints contents failures old between text → Prints contents failures between new more
     → Prints contents failures old new (text ++ more)
@@ -33,7 +33,7 @@ prints_more contents failures {old = old} {between = between} {new = new} {text 
       ));
 }
 
--- nothing
+-- the empty text
 pub prints_nothing : {O : Type 0} (contents : O → Option (List ℕ)) (failures : O → ℕ) (old : O)
     → Prints contents failures old old []
 prints_nothing contents failures old = record { later = omega arith; printed = λ none. appends_nothing (contents old) }

@@ -1,28 +1,29 @@
-// What the program prints on.
+// The output of the program.
 ghost use Rattle.std.specs.Prelude.{ℕ, Option, List, [], ◌∷◌};
 ghost use Rattle.console.specs.Printing.{Prints};
 
 use std::fmt::Display;
 
-/// What the program prints on. A print may fail by what takes the text, and by nothing else: that is counted.
+/// An output for text. A print can fail only because of the underlying writer, and failures are
+/// counted.
 pub trait Console {
-    /// What was printed, where it is known.
+    /// The text printed so far, if known.
     ghost contents: { Self → Option (List ℕ) };
 
-    /// How often a print has failed, in 64 bits: at the last value one may fail without a rise.
+    /// Number of failed prints, in 64 bits: at the maximum a failure isn't counted any more.
     ghost failures: { Self → ℕ };
 
-    /// Adds the bytes to the line that is being printed.
+    /// Appends bytes to the current line.
     fn put(&mut self, text: &[u8])
         ensures { Prints contents failures self.old self.new text.now };
 
-    /// Ends the line, and sends what was put so far.
+    /// Ends the current line and flushes the output.
     fn end_line(&mut self)
         ensures { Prints contents failures self.old self.new (10 ∷ []) };
 
-    /// Prints a text of which nothing is claimed, and sends it.
+    /// Prints a text outside of any contract and flushes the output.
     fn print<D: Display + Drop>(&mut self, text: D);
 
-    /// Prints such a text and the end of its line, together.
+    /// Prints a text outside of any contract, followed by a line feed, in one write.
     fn print_line<D: Display + Drop>(&mut self, text: D);
 }

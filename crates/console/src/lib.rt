@@ -1,4 +1,4 @@
-//! What the program prints on, and the lines that it prints there.
+//! The program's output, and the lines that it prints.
 #![tactic(auto)]
 
 mod console;

@@ -1,4 +1,4 @@
-// The lines of the output.
+// Lines of output.
 ghost use Rattle.std.specs.Prelude.{◌++◌, ◌∷◌, []};
 ghost use Rattle.console.specs.Lines.{counts_text, differ_text, in_list, notice_text, notices_of_list, notices_text, refusal_text, refused, two_digits};
 ghost use Rattle.console.specs.Places.{where_of};
@@ -8,7 +8,7 @@ use crate::console::Console;
 use crate::place::{Refusal, put_counted, put_number, put_place};
 use list_terms::Notice;
 
-/// Prints a refusal as a line, without the line's end.
+/// Prints a refusal without a line feed.
 pub fn put_refusal<C: Console>(console: &mut C, refusal: Refusal<'_>)
     ensures { Prints C.contents C.failures console.old console.new
         (refusal_text refusal.entry.number (where_of refusal.entry.location)) }
@@ -17,7 +17,7 @@ pub fn put_refusal<C: Console>(console: &mut C, refusal: Refusal<'_>)
     put_place(console, refusal.location);
 }
 
-/// Prints the number of a refusal, before its place.
+/// Prints the refusal number, without the location.
 pub fn put_refused<C: Console>(console: &mut C, number: u8)
     ensures { Prints C.contents C.failures console.old console.new (refused number) }
 {
@@ -25,7 +25,7 @@ pub fn put_refused<C: Console>(console: &mut C, number: u8)
     put_two_digits(console, number);
 }
 
-/// Prints a number in two digits at least.
+/// Prints a number with at least two digits.
 fn put_two_digits<C: Console>(console: &mut C, number: u8)
     ensures { Prints C.contents C.failures console.old console.new (two_digits number) }
 {
@@ -36,7 +36,7 @@ fn put_two_digits<C: Console>(console: &mut C, number: u8)
     }
 }
 
-/// Prints notices, each in a line of its own.
+/// Prints notices, one per line.
 pub fn put_notices<C: Console>(console: &mut C, notices: &[Notice])
     ensures { Prints C.contents C.failures console.old console.new (notices_text notices.now) }
 {
@@ -45,7 +45,7 @@ pub fn put_notices<C: Console>(console: &mut C, notices: &[Notice])
     }
 }
 
-/// Prints a notice, and the end of its line.
+/// Prints a notice and a line feed.
 fn put_notice<C: Console>(console: &mut C, notice: Notice)
     ensures { Prints C.contents C.failures console.old console.new (notice_text notice ++ 10 ∷ []) }
 {
@@ -53,14 +53,14 @@ fn put_notice<C: Console>(console: &mut C, notice: Notice)
     console.put(b"\n");
 }
 
-/// One of two lists that are compared.
+/// One of the two lists of a comparison.
 #[derive(Clone, Copy, Debug, PartialEq, Eq)]
 pub enum ListOfTwo {
     First,
     Second,
 }
 
-/// Prints the notices of one of two lists, each in a line of its own that says of which.
+/// Prints the notices of one of two lists, one per line, each with the list that it is about.
 pub fn put_notices_of_list<C: Console>(console: &mut C, list: ListOfTwo, notices: &[Notice])
     ensures { Prints C.contents C.failures console.old console.new (notices_of_list list notices.now) }
 {
@@ -69,7 +69,7 @@ pub fn put_notices_of_list<C: Console>(console: &mut C, list: ListOfTwo, notices
     }
 }
 
-/// Prints a notice of one of two lists, of which, and the end of the line.
+/// Prints a notice of one of two lists and a line feed.
 fn put_notice_of_list<C: Console>(console: &mut C, list: ListOfTwo, notice: Notice)
     ensures { Prints C.contents C.failures console.old console.new
         ((notice_text notice ++ in_list list) ++ 10 ∷ []) }
@@ -79,7 +79,7 @@ fn put_notice_of_list<C: Console>(console: &mut C, list: ListOfTwo, notice: Noti
     console.put(b"\n");
 }
 
-/// Prints of which of two lists a line is, at its end.
+/// Prints the list that a line is about, at the end of the line.
 pub fn put_in_list<C: Console>(console: &mut C, list: ListOfTwo)
     ensures { Prints C.contents C.failures console.old console.new (in_list list) }
 {
@@ -89,7 +89,7 @@ pub fn put_in_list<C: Console>(console: &mut C, list: ListOfTwo)
     });
 }
 
-/// Prints where two lists differ first, by the text of a time, without the line's end.
+/// Prints the time (as text) and the channel of the first difference, without a line feed.
 pub fn put_difference<C: Console>(console: &mut C, time: &[u8], channel: u8)
     ensures { Prints C.contents C.failures console.old console.new (differ_text time.now channel) }
 {
@@ -98,7 +98,7 @@ pub fn put_difference<C: Console>(console: &mut C, time: &[u8], channel: u8)
     put_counted(console, " channel ", u64::from(channel));
 }
 
-/// Prints a notice: one of the list stands at its line, one of a file at its index.
+/// Prints a notice with its line in the list, or with the index of its file.
 fn put_notice_text<C: Console>(console: &mut C, notice: Notice)
     ensures { Prints C.contents C.failures console.old console.new (notice_text notice) }
 {
@@ -111,7 +111,7 @@ fn put_notice_text<C: Console>(console: &mut C, notice: Notice)
     put_counted(console, words, notice.at);
 }
 
-/// Words round two counts.
+/// The text around two counts.
 #[derive(Clone, Copy)]
 pub struct Counts<'a> {
     pub before: &'a str,
@@ -119,7 +119,7 @@ pub struct Counts<'a> {
     pub after: &'a str,
 }
 
-/// Prints what was done as two counts between words, without the line's end.
+/// Prints two counts and the text around them, without a line feed.
 pub fn put_counts<C: Console>(console: &mut C, words: Counts<'_>, first: u64, second: u64)
     ensures { Prints C.contents C.failures console.old console.new
         (counts_text words.entry.before.now words.entry.between.now words.entry.after.now first second) }

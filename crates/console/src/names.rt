@@ -1,4 +1,4 @@
-// Names of files in a line.
+// Printing of file names.
 ghost use Rattle.std.specs.Prelude.{◌≡◌};
 ghost use Rattle.std.specs.List.{flat_map};
 ghost use Rattle.percent_encoding.specs.Percent as percent;
@@ -9,15 +9,15 @@ ghost use Rattle.console.specs.Printing.{Prints};
 use crate::console::Console;
 use percent_encoding::percent_encode_byte;
 
-/// Whether a character isn't seen in a line, and may change how the rest of it is shown: a control character, a mark of
-/// the direction of text, or a separator of lines or paragraphs.
+/// Returns whether a character is invisible and may change the display of its line: a control
+/// character, a bidirectional formatting character, or a line or paragraph separator.
 pub fn is_unseen(character: char) -> bool
     ensures { result ≡ lines.is_unseen character }
 {
     character.is_control() || is_mark(u32::from(character))
 }
 
-/// Whether a code point is a mark of direction, or a separator of lines or paragraphs.
+/// Whether a code point is a bidirectional formatting character, or a line or paragraph separator.
 fn is_mark(code: u32) -> bool
     ensures { result ≡ lines.is_mark code }
 {
@@ -27,7 +27,7 @@ fn is_mark(code: u32) -> bool
         || (0x2066 <= code && code <= 0x2069)
 }
 
-/// Prints a name: each character that isn't seen as the percent escapes of its UTF-8 bytes, all else as it stands.
+/// Prints a name, with invisible characters as percent escapes of their UTF-8 bytes.
 pub fn put_name<C: Console>(console: &mut C, name: &str)
     ensures { Prints C.contents C.failures console.old console.new (printed_name name.now) }
 {
@@ -49,7 +49,7 @@ fn put_character<C: Console>(console: &mut C, character: char)
     }
 }
 
-/// Prints the percent escape of each byte.
+/// Prints each byte as a percent escape.
 fn put_escapes<C: Console>(console: &mut C, bytes: &[u8])
     ensures { Prints C.contents C.failures console.old console.new (flat_map percent.percent_encode_byte bytes.now) }
 {

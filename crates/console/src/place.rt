@@ -1,4 +1,4 @@
-// A refusal and its place.
+// Refusals and their locations.
 ghost use Rattle.std.specs.Prelude.{◌≡◌, ◌-◌, ◌++◌, codes, decimal, length, replicate};
 ghost use Rattle.list_terms.specs.Renewed.{media_name};
 ghost use Rattle.console.specs.Lines.{counted, named, place_text};
@@ -10,7 +10,8 @@ use crate::console::Console;
 use crate::names::put_name;
 use itoa::Buffer;
 
-/// The place that a refusal names. Lines are counted from 1; entries, indexes and jobs go by their numbers.
+/// The location that a refusal names. Lines are counted from 1; entries, indexes and jobs have
+/// their own numbers.
 #[derive(Clone, Copy, Debug, PartialEq, Eq)]
 pub enum Place<'a> {
     Nowhere,
@@ -21,12 +22,12 @@ pub enum Place<'a> {
     Index(u32),
     Entry(u32),
     File(&'a str),
-    /// The medium of this number that a consolidation writes: `M00001.wav` and so on.
+    /// The medium with this number in the output of a consolidation: `M00001.wav` and so on.
     Medium(u32),
     Job(u32),
 }
 
-/// A refusal: its number, two digits at least, and its place.
+/// A refusal: its number, printed with at least two digits, and its location.
 #[derive(Clone, Copy, Debug, PartialEq, Eq)]
 pub struct Refusal<'a> {
     pub number: u8,
@@ -34,13 +35,13 @@ pub struct Refusal<'a> {
 }
 
 impl<'a> Refusal<'a> {
-    /// There was no memory before there was a list.
+    /// The refusal for running out of memory before there is a list.
     pub const MEMORY: Refusal<'static> = Refusal {
         number: 18,
         location: Place::Nowhere,
     };
 
-    /// A refusal that names a file or a folder.
+    /// Creates a refusal that names a file or a folder.
     pub fn of_file(number: u8, name: &'a str) -> Refusal<'a>
         ensures { result ≡ record { number = number; location = place.File name.entry } }
     {
@@ -51,7 +52,7 @@ impl<'a> Refusal<'a> {
     }
 }
 
-/// Prints a number in decimal digits.
+/// Prints a number in decimal.
 pub fn put_number<C: Console>(console: &mut C, number: u64)
     ensures { Prints C.contents C.failures console.old console.new (decimal number) }
 {
@@ -60,7 +61,7 @@ pub fn put_number<C: Console>(console: &mut C, number: u64)
     console.put(digits.as_bytes());
 }
 
-/// Prints words, and a number behind them.
+/// Prints a text, followed by a number.
 pub fn put_counted<C: Console>(console: &mut C, words: &str, number: u64)
     ensures { Prints C.contents C.failures console.old console.new (counted words.now number) }
 {
@@ -68,7 +69,7 @@ pub fn put_counted<C: Console>(console: &mut C, words: &str, number: u64)
     put_number(console, number);
 }
 
-/// Prints words, and a name behind them.
+/// Prints a text, followed by a name.
 fn put_named<C: Console>(console: &mut C, words: &str, name: &str)
     ensures { Prints C.contents C.failures console.old console.new (named words.now name.now) }
 {
@@ -76,7 +77,7 @@ fn put_named<C: Console>(console: &mut C, words: &str, name: &str)
     put_name(console, name);
 }
 
-/// Prints words with a number, and others with another.
+/// Prints two texts, each followed by a number.
 fn put_both<C: Console>(console: &mut C, words: &str, number: u64, others: &str, other: u64)
     ensures { Prints C.contents C.failures console.old console.new
         (counted words.now number ++ counted others.now other) }
@@ -85,7 +86,7 @@ fn put_both<C: Console>(console: &mut C, words: &str, number: u64, others: &str,
     put_counted(console, others, other);
 }
 
-/// Prints the medium of this number as a place.
+/// Prints a medium as a location.
 fn put_medium<C: Console>(console: &mut C, number: u64)
     ensures { Prints C.contents C.failures console.old console.new (named (codes " at file ") (media_name number)) }
 {
@@ -93,7 +94,7 @@ fn put_medium<C: Console>(console: &mut C, number: u64)
     put_digits(console, number);
 }
 
-/// Prints the name of a medium from its number on, which has five digits at least.
+/// Prints the number in the name of a medium with at least five digits, and the extension.
 fn put_digits<C: Console>(console: &mut C, number: u64)
     ensures { Prints C.contents C.failures console.old console.new
         (replicate (5 - length (decimal number)) 48 ++ (decimal number ++ codes ".wav")) }
@@ -105,7 +106,7 @@ fn put_digits<C: Console>(console: &mut C, number: u64)
     console.put(b".wav");
 }
 
-/// The zeros before so many digits, which make them five.
+/// The leading zeros that make up five digits.
 fn zeros_before(digits: usize) -> &'static [u8]
     ensures { result.now ≡ replicate (5 - digits) 48 }
 {
@@ -119,7 +120,7 @@ fn zeros_before(digits: usize) -> &'static [u8]
     }
 }
 
-/// Prints the place of a refusal, behind its number.
+/// Prints the location of a refusal.
 pub fn put_place<C: Console>(console: &mut C, location: Place<'_>)
     ensures { Prints C.contents C.failures console.old console.new (place_text (where_of location.entry)) }
 {

@@ -1,4 +1,4 @@
-// Where the program prints: a writer, in one write a line.
+// An output on a writer, with one write per line.
 ghost use Rattle.std.specs.Prelude.{◌≡◌, IfOk, IsOk, IsErr, nat_lt};
 ghost use Rattle.std.specs.Io.Buffered.{writer_contents, writer_inner};
 ghost use Rattle.work_terms.specs.Disk.{HasCause};
@@ -9,7 +9,7 @@ use std::fmt::Display;
 use std::io;
 use std::io::{BufWriter, Write};
 
-/// A writer that takes what is put in one write, where it has at most 8192 bytes, and counts what it didn't take.
+/// An output that passes up to 8192 bytes to its writer in one write, and counts failed writes.
 #[derive(Drop)]
 pub struct Printer<W: Write + Drop> {
     writer: BufWriter<W>,
@@ -17,7 +17,7 @@ pub struct Printer<W: Write + Drop> {
 }
 
 impl<W: Write + Drop> Printer<W> {
-    /// A printer that hasn't failed.
+    /// Creates an output without failures. Returns an error if out of memory.
     pub fn new(alloc: Global, writer: W) -> io::Result<Self>
         ensures fresh { IfOk result (λ printer. printer.failures ≡ 0) }
         ensures writer { IfOk result (λ printer. writer_inner printer.writer ≡ writer) }
@@ -28,14 +28,14 @@ impl<W: Write + Drop> Printer<W> {
         })
     }
 
-    /// Whether a print has failed.
+    /// Returns whether a print has failed.
     pub fn has_failed(&self) -> bool
         ensures { result ≡ nat_lt 0 self.now.failures }
     {
         self.failures > 0
     }
 
-    /// Counts a failure of the writer. The count stays at its last value.
+    /// Counts a failed write. The count stays at its maximum.
     fn count(&mut self, outcome: io::Result<()>)
         ensures writer { self.new.writer ≡ self.old.writer }
         ensures cause { HasCause self.old.failures self.new.failures (IsOk outcome) (IsErr outcome) }

@@ -7,7 +7,7 @@ use Rattle.console.proofs.Media.{printed_name-medium}
 use Rattle.console.specs.PrintingLaws.{prints_more}
 use Rattle.console.proofs.place.put_medium.Goals as goal
 
--- the parts of the name are the name
+-- the parts of the name, joined
 parts : (number : ℕ)
     → codes " at file M" ++ (replicate (5 - length (decimal number)) 48 ++ (decimal number ++ codes ".wav"))
     ≡ named (codes " at file ") (media_name number)
