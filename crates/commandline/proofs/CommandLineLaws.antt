@@ -1,4 +1,4 @@
--- How clap's words on a parse lead to what the words ask for.
+-- From clap's contract on parsing to the request of the arguments.
 use Rattle.std.proofs.Common.{◌≡◌, ◌∙◌, ◌⊎◌, ℕ, inl, inr, Bool, true, false, ◌||◌, List, [], ◌∷◌, Option, None, Some, refl, ap, sym, subst, codes}
 use Rattle.std.specs.Prelude.{option_and_then, option_map, if◌then◌else◌}
 use Rattle.std.specs.List.{list_all, list_any}
@@ -16,7 +16,7 @@ use Rattle.sound_terms.specs.declared.Depth.{Depth}
 use Rattle.job_terms.specs.declared.Order.{Order}
 use Rattle.commandline.specs.CommandLine.{Asked, Check, Compare, Report, Selected, Show, are_both_input, asked_compare, compare_by, selected_of, explained, adlcons_app, channels_in, chosen_of, depth_in, drawn_of, handle_of, number_in, order_in, ordered_by, asked, asked_over, asked_to, are_shown, asks_for_help, asks_for_help_alone, has_flag, is_flagged, is_set, is_shown, named_by, request_of, unless_faulty, words_fault}
 
--- one more rule over the command so far
+-- one more rule in a command
 pub one_more : (more app known : App) (rule : Rule) → more ≡ with_rule app rule → app ≡ known → more ≡ with_rule known rule
 one_more more app known rule adds is = adds ∙ ap (λ (a : App). with_rule a rule) is
 
@@ -48,7 +48,7 @@ pub has_flag-adlcons : (id : Text) (app : App) (words : List Text) → app ≡ a
 unfolding has_flag
 has_flag-adlcons id app words same = ap (λ (a : App). option_map_or (is_flagged id) (subcommand_of a words) false) same
 
--- a value by its name, among the rows of a parse
+-- a value by name among the rows of a parse
 pub row_of_value : (found : Found) (id : Text) (value : Option Text) → value ≡ first_value found id
     → first_of id (rows_of found) ≡ value
 row_of_value found id value e = sym (first_value-rows found id) ∙ sym e
@@ -112,7 +112,7 @@ compared-without_media list media other found one missing =
       row_of_value found (codes "MEDIA2") None missing,
     ) refl
 
--- what is asked of a comparison, where both of the other places are among the words
+-- the request to compare, if both further paths are among the arguments
 pub compared-all : (list media other other_media : Text) (found : Found)
     → Some other ≡ first_value found (codes "LIST2") → Some other_media ≡ first_value found (codes "MEDIA2")
     → asked_compare list media (rows_of found) ≡ compare_by list media other other_media (rows_of found)
@@ -218,7 +218,7 @@ chosen-bad_channels found text depth channels given deep named bad =
       ← bad,
     ) refl
 
--- what is chosen of a rendering, where its depth and its channels can be read
+-- the options of a rendering, if depth and channels are valid
 pub chosen-ordered : (found : Found) (text : Text) (depth : Depth) (channels : Option Text) (count : Option ℕ)
     → Some text ≡ first_value found (codes "depth")
     → Some depth ≡ depth_in text → channels ≡ first_value found (codes "channels") → Some count ≡ channels_in channels
@@ -258,7 +258,7 @@ ordered-all found depth count text order from to report given named first last a
       asks,
     ) refl
 
--- ---- what clap says of an error
+-- ---- clap's contract on errors
 
 among-refused : (kinds : Kinds) (kind : ErrorKind) (named : Option Asked) → IsAmong kind kinds
     → unless_faulty kinds named ≡ None
@@ -289,11 +289,11 @@ among-alone (k ∷ ks) kind among all = among-all_shown (k ∷ ks) kind among al
 
 module _ (app : App) (words : List Text) (same : app ≡ adlcons_app) where
   module _ (error : Error) where
-    -- an error is of a kind that the words are at fault by, or it is out of memory
+    -- an error has one of the kinds of the arguments, or is out of memory
     faulty : HasKind (fault_of app words) error → HasKind (words_fault words) error
     faulty = subst (λ kinds. HasKind kinds error) (fault_of-adlcons app words same)
 
-    -- an error other than out of memory comes where the words ask for nothing
+    -- on an error other than out of memory the arguments make no request
     pub refused-by : HasKind (fault_of app words) error
         → (kind_of error ≡ kind.OutOfMemory) ⊎ (request_of words ≡ None)
     refused-by has = elim (faulty has) [
@@ -301,7 +301,7 @@ module _ (app : App) (words : List Text) (same : app ≡ adlcons_app) where
       | inr among ↦ inr (among-refused (words_fault words) (kind_of error) (named_by words) among)
     ]
 
-    -- where the words don't ask for help, the error isn't help
+    -- if the arguments don't request help, the error isn't help
     pub mistaken-by : HasKind (fault_of app words) error → asks_for_help words ≡ false
         → is_shown (kind_of error) ≡ false
     mistaken-by has none = elim (faulty has) [
@@ -309,7 +309,7 @@ module _ (app : App) (words : List Text) (same : app ≡ adlcons_app) where
       | inr among ↦ among-shown (words_fault words) (kind_of error) among none
     ]
 
-    -- where the words ask for help alone, the error is help
+    -- if the arguments request only help, the error is help
     pub shown-by : HasKind (fault_of app words) error → asks_for_help_alone words ≡ true
         → (kind_of error ≡ kind.OutOfMemory) ⊎ (is_shown (kind_of error) ≡ true)
     shown-by has alone = elim (faulty has) [
@@ -318,18 +318,18 @@ module _ (app : App) (words : List Text) (same : app ≡ adlcons_app) where
     ]
 
   module _ (none : fault_of app words ≡ []) where
-    -- words without a fault have none as these words
+    -- the parsed arguments have no error, so the arguments have none
     faultless : words_fault words ≡ []
     faultless = sym (fault_of-adlcons app words same) ∙ none
 
-    -- they ask for no help
+    -- the arguments don't request help
     pub helpless-by : asks_for_help words ≡ false
     helpless-by = ap (list_any is_shown) faultless
 
     pub helpless_alone-by : asks_for_help_alone words ≡ false
     helpless_alone-by = ap are_shown faultless
 
-    -- matches without a fault are those of the words
+    -- the matches have the request of the arguments
     pub requested-by : (rows : Option (Text × List Row)) → rows ≡ subcommand_of app words
         → request_of words ≡ option_and_then asked rows
     requested-by rows read =

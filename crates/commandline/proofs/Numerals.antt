@@ -1,4 +1,4 @@
--- Numbers as decimal digits spell them.
+-- Numbers from decimal digits.
 use Rattle.std.proofs.Common.{◌≡◌, ℕ, ◌^◌, ◌<◌, ◌≤◌, ◌&&◌, Bool, true, false, nat_le, nat_lt, List, [], ◌∷◌, length, None, Some, refl, arith}
 use Rattle.std.specs.Char.{digit_value}
 use Rattle.std.specs.List.{list_all}
@@ -33,7 +33,7 @@ spelled ds is =
 numeral : (ds : List ℕ) → IsNumeral 10 ds → is_numeral ds ≡ true
 numeral ds is = let digits = all_digits ds is.1 in let some = is.0 in rw digits (grind (arith, nat_tests, some))
 
--- a number in its bounds
+-- a number within its bounds
 pub number_read : (low high number : ℕ) (text : List ℕ) → IsNumeral 10 (without_leading_plus text)
     → number ≡ digits_value 10 (without_leading_plus text)
     → low ≤ number → number ≤ high → number_in low high text ≡ Some number
@@ -45,7 +45,7 @@ number_read low high number text is same above below =
     rw (← same) (grind (arith, nat_tests, below)) in
     rw (digits, over, under, same) refl
 
--- a text that spells none of 64 bits
+-- a text that is no 64-bit number
 pub number_unread : (low high : ℕ) (text : List ℕ) → high < 2 ^ 64
     → (IsNumeral 10 (without_leading_plus text) × (digits_value 10 (without_leading_plus text) < 2 ^ 64) → ⊥)
     → number_in low high text ≡ None

@@ -1,4 +1,4 @@
--- What the program's words may be, as a value of clap's, and what they ask for.
+-- The command line as a value of clap's, and the meaning of arguments.
 use Rattle.std.specs.Prelude.{ℕ, ◌&&◌, nat_le, nat_lt, Bool, true, false, List, [], ◌∷◌, length, Option, None, Some, option_and_then, option_map, if◌then◌else◌, codes}
 use Rattle.std.specs.Char.{digit_value}
 use Rattle.std.specs.List.{list_all, list_any}
@@ -16,23 +16,23 @@ use Rattle.job_terms.specs.declared.Order.TheVariants.{ByTime, BySource}
 pub use Rattle.commandline.specs.declared.choice.MediaReport.{MediaReport}
 use Rattle.commandline.specs.declared.choice.MediaReport.TheVariants.{NoReport, Plain, WithDigests}
 
--- a word that has to be given, by its place
+-- a required positional argument
 abbrev pub place_rule : Text → Rule
 place_rule id = record (new_rule id) { required = true }
 
--- an option of this name, which has a value and may be left out
+-- an optional option with a value
 abbrev pub option_rule : Text → Rule
 option_rule id = record (new_rule id) { long = Some id; value_names = 1 }
 
--- one that has this value where it is left out
+-- an option with a default value
 abbrev pub default_rule : Text → Text → Rule
 default_rule id default = record (option_rule id) { defaults = default ∷ [] }
 
--- one of this name that has no value: it is there or it isn't
+-- a flag: an option without a value
 abbrev pub flag_rule : Text → Rule
 flag_rule id = record (new_rule id) { long = Some id; action = Some SetTrue }
 
--- a command over the list and the folder of its media, which may list all that is at fault, and look for media below
+-- a command that takes a list and its media folder, with the flags `--all` and `--search`
 abbrev pub over_media : Text → App
 over_media name =
     let places = with_rule (with_rule (new_app name) (place_rule (codes "LIST"))) (place_rule (codes "MEDIA")) in
@@ -41,7 +41,7 @@ over_media name =
 abbrev pub check_shape : Shape
 check_shape = (with_rule (over_media (codes "check")) (flag_rule (codes "report"))).top
 
--- with the times that may be chosen
+-- a command with options for start and end time
 abbrev pub with_times : App → App
 with_times app = with_rule (with_rule app (option_rule (codes "from"))) (option_rule (codes "to"))
 
@@ -49,7 +49,7 @@ abbrev pub show_shape : Shape
 show_shape =
     (with_times (with_rule (over_media (codes "show")) (default_rule (codes "handle") (codes "48000")))).top
 
--- and over the folder that is written to
+-- a command that also takes an output folder
 abbrev pub over_folders : Text → App
 over_folders name = with_rule (over_media name) (place_rule (codes "OUT"))
 
@@ -59,21 +59,21 @@ consolidate_shape =
     let reported = with_rule (with_rule handled (flag_rule (codes "report"))) (flag_rule (codes "digests")) in
     (with_rule reported (flag_rule (codes "verify"))).top
 
--- with the times and the channels that may be chosen
+-- a command with options for start and end time and for the number of channels
 abbrev pub with_range : App → App
 with_range app = with_rule (with_times app) (option_rule (codes "channels"))
 
--- with what may be chosen of a rendering
+-- a command with the options of a rendering
 abbrev pub with_choice : App → App
 with_choice app =
     let sounding = with_rule (with_range app) (default_rule (codes "depth") (codes "24")) in
     with_rule (with_rule sounding (default_rule (codes "order") (codes "time"))) (flag_rule (codes "report"))
 
--- a command of this name that renders
+-- a rendering command of this name
 abbrev pub rendering_shape : Text → Shape
 rendering_shape name = (with_choice (over_folders name)).top
 
--- over two lists, each with the folder of its media
+-- a command that takes two lists, each with its media folder
 abbrev pub over_both : App
 over_both =
     with_rule (with_rule (over_media (codes "compare")) (place_rule (codes "LIST2"))) (place_rule (codes "MEDIA2"))
@@ -81,7 +81,7 @@ over_both =
 abbrev pub compare_shape : Shape
 compare_shape = (with_range (with_rule over_both (flag_rule (codes "report")))).top
 
--- The program itself: it has a version and wants a command, and its words are those behind its name.
+-- the program itself: it has a version, requires a command, and gets its arguments without the program name
 abbrev pub top_app : App
 top_app = record {
   top = record (new_app (codes "adlcons")).top {
@@ -93,12 +93,12 @@ top_app = record {
   subs = [];
 }
 
--- the number of a refusal, or `notice` and the number of one; each may be left out
+-- the command with a refusal number, or with `notice` and a notice number, as optional arguments
 abbrev pub explain_shape : Shape
 explain_shape =
     (with_rule (with_rule (new_app (codes "explain")) (new_rule (codes "WHAT"))) (new_rule (codes "NUMBER"))).top
 
--- the seven commands; clap adds `help`
+-- the program with its seven commands; clap adds `help`
 abbrev pub adlcons_app : App
 adlcons_app =
     let checking = with_subcommand top_app check_shape in
@@ -107,7 +107,7 @@ adlcons_app =
     let comparing = with_subcommand writing compare_shape in
     with_subcommand (with_subcommand comparing show_shape) explain_shape
 
--- what is chosen of a rendering: times by their texts, a number of channels, the bits of a sample, the order of jobs, and
+-- options of a rendering: start and end time as text, the number of channels, the bit depth, the job order, and
 -- whether a report is written
 pub record Chosen : Type 0 where
   pub from : Option Text
@@ -117,22 +117,22 @@ pub record Chosen : Type 0 where
   pub order : Order
   pub report : Bool
 
--- what is chosen of a comparison: times by their texts, a number of channels, and whether it is reported as JSON
+-- options of a comparison: start and end time as text, the number of channels, and whether the result is printed as
+-- JSON
 pub record Selected : Type 0 where
   pub from : Option Text
   pub to : Option Text
   pub channels : Option ℕ
   pub report : Bool
 
--- what is chosen of a picture: times by their texts
+-- options of a picture: start and end time as text
 pub record Drawn : Type 0 where
   pub from : Option Text
   pub to : Option Text
 
--- What the program is asked for: a command with its list, the folder of its media, and the folder that is written to
--- (a resumed one goes on with what is in there), and which report is written; two lists to be compared, each with
--- the folder of its media; a report of a check, or a picture; or what the number of a refusal or of a notice means, or
--- all of them.
+-- A request: a command with its list, media folder and output folder (which a resumed rendering continues to fill)
+-- and its options; a comparison of two lists, each with its media folder; the report of a check, or a picture; or the
+-- explanation of one or all refusal or notice numbers.
 pub data Asked : Type 0 where
   Check : (list media : Text) → Asked
   Report : (list media : Text) → Asked
@@ -144,26 +144,26 @@ pub data Asked : Type 0 where
   Explain : (number : Option Text) → Asked
   ExplainNotice : (number : Option Text) → Asked
 
--- an option without a value is there
+-- the flag is set
 abbrev pub is_set : Text → List Row → Bool
 is_set id rows = option_map_or (λ text. bytes_eq text (codes "true")) (first_of id rows) false
 
--- decimal digits, one at least
+-- one or more decimal digits
 abbrev pub is_numeral : Text → Bool
 is_numeral digits = nat_le 1 (length digits) && list_all (λ digit. nat_lt (digit_value digit) 10) digits
 
--- the number from one bound to another that decimal digits spell, behind a plus or not
+-- the number from `low` to `high` in a decimal numeral with an optional plus sign
 abbrev pub number_in : (low high : ℕ) → Text → Option ℕ
 number_in low high text =
     let digits = without_leading_plus text in
     let value = digits_value 10 digits in
     if is_numeral digits && nat_le low value && nat_le value high then Some value else None
 
--- a handle is no longer than a day
+-- the handle, at most a day of samples
 abbrev pub handle_of : List Row → Option ℕ
 handle_of rows = option_and_then (number_in 0 4147200000) (first_of (codes "handle") rows)
 
--- the report of a consolidation; only a report has digests
+-- the report of a consolidation; digests require a report
 abbrev pub media_report : List Row → Option MediaReport
 media_report rows =
     if is_set (codes "report") rows
@@ -183,7 +183,7 @@ order_in text =
     else if bytes_eq text (codes "source") then Some BySource
     else None
 
--- none are chosen, or 1 to 64
+-- no number of channels, or 1 to 64
 abbrev pub channels_in : Option Text → Option (Option ℕ)
 channels_in None = Some None
 channels_in (Some text) = option_map (λ channels. Some channels) (number_in 1 64 text)
@@ -198,7 +198,7 @@ chosen_by rows depth channels order = record {
   report = is_set (codes "report") rows;
 }
 
--- the order of this depth and of these channels
+-- the options of a rendering, from its depth and channels and the order among the arguments
 abbrev pub ordered_by : List Row → Depth → Option ℕ → Option Chosen
 ordered_by rows depth channels =
     option_map (chosen_by rows depth channels) (option_and_then order_in (first_of (codes "order") rows))
@@ -222,11 +222,11 @@ selected_of rows = option_map (selected_by rows) (channels_in (first_of (codes "
 abbrev pub drawn_of : List Row → Drawn
 drawn_of rows = record { from = first_of (codes "from") rows; to = first_of (codes "to") rows }
 
--- two lists are standard input
+-- both lists are standard input
 abbrev pub are_both_input : (list other : Text) → Bool
 are_both_input list other = bytes_eq list (codes "-") && bytes_eq other (codes "-")
 
--- the comparison of two lists, of which one at most is standard input
+-- the request to compare two lists, at most one of which is standard input
 abbrev pub compare_by : (list media other other_media : Text) → List Row → Option Asked
 compare_by list media other other_media rows =
     if are_both_input list other then None
@@ -237,7 +237,7 @@ asked_compare list media rows =
     option_and_then (λ other. option_and_then (λ other_media. compare_by list media other other_media rows)
     (first_of (codes "MEDIA2") rows)) (first_of (codes "LIST2") rows)
 
--- the command of this name that writes to a folder
+-- the request of the named command that writes to a folder
 abbrev pub asked_to : Text → (list media out : Text) → List Row → Option Asked
 asked_to name list media out rows =
     if bytes_eq name (codes "render") then option_map (λ chosen. Render list media out chosen) (chosen_of rows)
@@ -246,7 +246,7 @@ asked_to name list media out rows =
     then option_and_then (λ handle. option_map (Consolidate list media out handle) (media_report rows)) (handle_of rows)
     else None
 
--- the command of this name over a list and its media
+-- the request of the named command on a list and its media folder
 abbrev pub asked_by : Text → (list media : Text) → List Row → Option Asked
 asked_by name list media rows =
     if bytes_eq name (codes "check")
@@ -260,54 +260,54 @@ abbrev pub asked_over : Text → List Row → Option Asked
 asked_over name rows = option_and_then (λ list. option_and_then (λ media. asked_by name list media rows)
     (first_of (codes "MEDIA") rows)) (first_of (codes "LIST") rows)
 
--- which number is to be explained: behind a word other than `notice` there is no second one
+-- the request to explain a number; only after `notice` may a second argument follow
 abbrev pub explained : (what number : Option Text) → Option Asked
 explained None number = Some (Explain None)
 explained (Some what) number =
     if bytes_eq what (codes "notice") then Some (ExplainNotice number)
     else option_map_or (λ _. None) number (Some (Explain (Some what)))
 
--- the command of this name, whose words are read by what they are called
+-- the request of the named command, from its arguments by name
 abbrev pub asked : Text × List Row → Option Asked
 asked (name, rows) =
     if bytes_eq name (codes "explain")
     then explained (first_of (codes "WHAT") rows) (first_of (codes "NUMBER") rows)
     else asked_over name rows
 
--- the kinds of error that these words may be answered with, where memory is there
+-- the kinds of error that these arguments may be refused with, apart from out of memory
 unfoldable pub words_fault : List Text → Kinds
 words_fault words = fault_of adlcons_app words
 
--- the command that the words name
+-- the request of the command that the arguments name
 unfoldable pub named_by : List Text → Option Asked
 named_by words = option_and_then asked (subcommand_of adlcons_app words)
 
--- what is asked for where there is no fault
+-- the request, unless there is an error
 abbrev pub unless_faulty : Kinds → Option Asked → Option Asked
 unless_faulty [] named = named
 unless_faulty (kind ∷ kinds) named = None
 
--- what the words ask for
+-- the request of the arguments, if they are valid
 abbrev pub request_of : List Text → Option Asked
 request_of words = unless_faulty (words_fault words) (named_by words)
 
--- the words of a command have this option, which has no value
+-- the flag is set in the arguments of a command
 abbrev pub is_flagged : Text → Text × List Row → Bool
 is_flagged id (name, rows) = is_set id rows
 
--- the words name a command with this option
+-- the arguments name a command with this flag set
 unfoldable pub has_flag : Text → List Text → Bool
 has_flag id words = option_map_or (is_flagged id) (subcommand_of adlcons_app words) false
 
--- the words ask for all that is at fault in a list, and not just for the first of it
+-- the arguments request a report of all faults of a list, not only the first
 abbrev pub tells_all : List Text → Bool
 tells_all = has_flag (codes "all")
 
--- the words ask for what is written to be compared with what was given
+-- the arguments request a comparison of the output with the input
 abbrev pub verifies : List Text → Bool
 verifies = has_flag (codes "verify")
 
--- the words ask for media in the folders below that of the media
+-- the arguments request a search for media in subfolders of the media folder
 abbrev pub searches : List Text → Bool
 searches = has_flag (codes "search")
 
@@ -317,15 +317,15 @@ is_shown DisplayHelp = true
 is_shown DisplayVersion = true
 is_shown _ = false
 
--- the words ask for help or for the version
+-- the arguments request help or the version
 abbrev pub asks_for_help : List Text → Bool
 asks_for_help words = list_any is_shown (words_fault words)
 
--- each of these kinds is shown, and there is one at least
+-- there are error kinds, and all of them are help or the version
 abbrev pub are_shown : Kinds → Bool
 are_shown [] = false
 are_shown (kind ∷ kinds) = is_shown kind && list_all is_shown kinds
 
--- the words ask for help or for the version, and for nothing that may be a mistake (as a word behind `help` may be)
+-- the arguments request help or the version and have no mistake (an argument after `help` may be one)
 abbrev pub asks_for_help_alone : List Text → Bool
 asks_for_help_alone words = are_shown (words_fault words)

@@ -1,4 +1,4 @@
--- A request as its callers see it.
+-- Requests as callers see them.
 use Rattle.std.specs.Prelude.{option_map}
 use Rattle.commandline.specs.CommandLine as words
 use Rattle.commandline.specs.declared.choice.Chosen.{Chosen}
@@ -7,7 +7,7 @@ use Rattle.commandline.specs.declared.choice.Selected.{Selected}
 use Rattle.commandline.specs.declared.request.Request.{Request}
 use Rattle.commandline.specs.declared.request.Request.TheVariants.{Check, Report, Render, Resume, Consolidate, Compare, Show, Explain, ExplainNotice}
 
--- what is chosen of a rendering
+-- options of a rendering
 abbrev pub chosen_of : Chosen → words.Chosen
 chosen_of chosen = record {
   from = option_map (λ text. text.now) chosen.from;
@@ -18,7 +18,7 @@ chosen_of chosen = record {
   report = chosen.report;
 }
 
--- what is chosen of a comparison
+-- options of a comparison
 abbrev pub selected_of : Selected → words.Selected
 selected_of selected = record {
   from = option_map (λ text. text.now) selected.from;
@@ -27,14 +27,14 @@ selected_of selected = record {
   report = selected.report;
 }
 
--- what is chosen of a picture
+-- options of a picture
 abbrev pub drawn_of : Drawn → words.Drawn
 drawn_of drawn = record {
   from = option_map (λ text. text.now) drawn.from;
   to = option_map (λ text. text.now) drawn.to;
 }
 
--- what the request asks for
+-- the request
 abbrev pub asked_of : Request → words.Asked
 asked_of (Check list media) = words.Check list.now media.now
 asked_of (Report list media) = words.Report list.now media.now

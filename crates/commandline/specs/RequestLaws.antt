@@ -1,4 +1,4 @@
--- Words ask for one thing.
+-- Arguments determine one request.
 use Rattle.std.proofs.Common.{◌≡◌, Some}
 use Rattle.commandline.specs.CommandLine.{Asked}
 

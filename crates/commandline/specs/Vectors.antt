@@ -1,4 +1,4 @@
--- Worked examples of words and of what they ask for.
+-- Worked examples of arguments and their requests.
 use Rattle.std.specs.Prelude.{◌≡◌, [], ◌∷◌, None, Some, refl, codes, true, false}
 use Rattle.clap.specs.declared.error.ErrorKind.TheVariants.{DisplayHelp, DisplayHelpOnMissingArgumentOrSubcommand, DisplayVersion, InvalidSubcommand, MissingRequiredArgument, TooManyValues, UnknownArgument}
 use Rattle.clap.proofs.OnLiterals.{clap_on_literals}
@@ -7,9 +7,9 @@ use Rattle.job_terms.specs.declared.Order.TheVariants.{ByTime, BySource}
 use Rattle.commandline.specs.declared.choice.MediaReport.TheVariants.{NoReport, Plain, WithDigests}
 use Rattle.commandline.specs.CommandLine.{Check, Chosen, Compare, Render, Report, Resume, Consolidate, Show, Explain, ExplainNotice, asks_for_help, asks_for_help_alone, has_flag, named_by, request_of, searches, tells_all, verifies, words_fault}
 
--- ---- good words
+-- ---- valid arguments
 
--- the whole range, on all channels, at 24 bits, by time, with no report
+-- the whole range, on all channels, at 24 bits, in order of time, without a report
 abbrev default_choice : Chosen
 default_choice = record { from = None; to = None; channels = None; depth = TwentyFour; order = ByTime; report = false }
 
@@ -40,7 +40,7 @@ handles : request_of (codes "consolidate" ∷ codes "--handle" ∷ codes "0" ∷
 unfolding words_fault named_by clap_on_literals
 handles = refl
 
--- ---- all that is at fault, and not just the first of it
+-- ---- all faults, not only the first
 
 checks_all : request_of (codes "check" ∷ codes "--all" ∷ codes "L.adl" ∷ codes "M" ∷ [])
     ≡ Some (Check (codes "L.adl") (codes "M"))
@@ -75,7 +75,7 @@ verifies_unasked : verifies (codes "consolidate" ∷ codes "L" ∷ codes "M" ∷
 unfolding has_flag clap_on_literals
 verifies_unasked = refl
 
--- ---- values that no option takes, which are mistakes
+-- ---- invalid option values, which are mistakes
 
 no_channel : request_of (codes "render" ∷ codes "L" ∷ codes "M" ∷ codes "O" ∷ codes "--channels" ∷ codes "65" ∷ [])
     ≡ None
@@ -100,7 +100,7 @@ resumed_depth : request_of (codes "resume" ∷ codes "L" ∷ codes "M" ∷ codes
 unfolding words_fault named_by clap_on_literals
 resumed_depth = refl
 
--- ---- commands and places
+-- ---- commands and paths
 
 renders : request_of (codes "render" ∷ codes "L.adl" ∷ codes "M" ∷ codes "O" ∷ [])
     ≡ Some (Render (codes "L.adl") (codes "M") (codes "O") default_choice)
@@ -118,13 +118,13 @@ consolidates : request_of (codes "consolidate" ∷ codes "L.adl" ∷ codes "M" �
 unfolding words_fault named_by clap_on_literals
 consolidates = refl
 
--- `-` is a word like others, for standard input
+-- `-` is an ordinary argument and means standard input
 consolidates_input : request_of (codes "consolidate" ∷ codes "-" ∷ codes "M" ∷ codes "O" ∷ [])
     ≡ Some (Consolidate (codes "-") (codes "M") (codes "O") 48000 NoReport)
 unfolding words_fault named_by clap_on_literals
 consolidates_input = refl
 
--- behind `--` a word may begin with `-`
+-- after `--` an argument may begin with `-`
 renders_dashed : request_of (codes "render" ∷ codes "--" ∷ codes "-L" ∷ codes "-M" ∷ codes "--help" ∷ [])
     ≡ Some (Render (codes "-L") (codes "-M") (codes "--help") default_choice)
 unfolding words_fault named_by clap_on_literals
@@ -167,7 +167,7 @@ consolidates_with_digests : request_of (codes "consolidate" ∷ codes "--report"
 unfolding words_fault named_by clap_on_literals
 consolidates_with_digests = refl
 
--- only a report has digests
+-- digests require a report
 digests_without_report : request_of (codes "consolidate" ∷ codes "--digests" ∷ codes "L" ∷ codes "M" ∷ codes "O" ∷ [])
     ≡ None
 unfolding words_fault named_by clap_on_literals
@@ -193,7 +193,7 @@ compares_input : request_of (codes "compare" ∷ codes "L" ∷ codes "M" ∷ cod
 unfolding words_fault named_by clap_on_literals
 compares_input = refl
 
--- standard input is one of the lists at most
+-- at most one of the lists is standard input
 compares_input_twice : request_of (codes "compare" ∷ codes "-" ∷ codes "M" ∷ codes "-" ∷ codes "M2" ∷ []) ≡ None
 unfolding words_fault named_by clap_on_literals
 compares_input_twice = refl
@@ -282,7 +282,7 @@ no_words : words_fault [] ≡ DisplayHelpOnMissingArgumentOrSubcommand ∷ []
 unfolding words_fault clap_on_literals
 no_words = refl
 
--- a mistake asks for nothing, and not for help
+-- a mistake makes no request, and no request for help
 too_few_asks : request_of (codes "render" ∷ codes "L.adl" ∷ codes "M" ∷ []) ≡ None
 unfolding words_fault named_by clap_on_literals
 too_few_asks = refl
@@ -295,7 +295,7 @@ no_words_help : asks_for_help [] ≡ false
 unfolding words_fault clap_on_literals
 no_words_help = refl
 
--- ---- help and the version
+-- ---- help and version
 
 help : words_fault (codes "--help" ∷ []) ≡ DisplayHelp ∷ []
 unfolding words_fault clap_on_literals
@@ -321,7 +321,7 @@ help_asks : asks_for_help (codes "render" ∷ codes "--help" ∷ []) ≡ true
 unfolding words_fault clap_on_literals
 help_asks = refl
 
--- `help` is help; a word behind it that names no command is a mistake
+-- `help` requests help; an argument after it that names no command is a mistake
 help_as_command : words_fault (codes "help" ∷ []) ≡ DisplayHelp ∷ InvalidSubcommand ∷ []
 unfolding words_fault clap_on_literals
 help_as_command = refl

@@ -1,12 +1,12 @@
-// What the words choose of a rendering, of a consolidation and of a comparison.
+// Options of renderings, consolidations, pictures and comparisons.
 ghost use Rattle.std.specs.Prelude.{◌≡◌, true};
 ghost use Rattle.commandline.specs.Channels.{are_few};
 
 use job_terms::Order;
 use sound_terms::Depth;
 
-/// What is chosen of a rendering: the texts of its times, a number of channels from 1 to 64, the depth, the order of its
-/// jobs, and whether a report is written beside the file.
+/// Options of a rendering: start and end time as text, the number of channels (1 to 64), the bit
+/// depth, the job order, and whether a report is written next to the file.
 #[derive(Clone, Copy, Debug, PartialEq, Eq)]
 pub struct Chosen<'a> {
     pub from: Option<&'a str>,
@@ -18,26 +18,26 @@ pub struct Chosen<'a> {
     ghost few_channels: { are_few channels ≡ true },
 }
 
-/// Which report of a consolidation is written.
+/// The kind of report that a consolidation writes.
 #[derive(Clone, Copy, Debug, PartialEq, Eq)]
 pub enum MediaReport {
-    /// None.
+    /// No report.
     NoReport,
-    /// Where the media and the entries come from, and checksums of all that is written.
+    /// A report on the provenance of media and entries, and checksums of all files written.
     Plain,
-    /// The same with the digest of each source as a whole.
+    /// The plain report with the digest of each whole source.
     WithDigests,
 }
 
-/// What is chosen of a picture: the texts of its times.
+/// Options of a picture: start and end time as text.
 #[derive(Clone, Copy, Debug, PartialEq, Eq)]
 pub struct Drawn<'a> {
     pub from: Option<&'a str>,
     pub to: Option<&'a str>,
 }
 
-/// What is chosen of a comparison: the texts of its times, a number of channels from 1 to 64, and whether what comes of it
-/// is printed as JSON.
+/// Options of a comparison: start and end time as text, the number of channels (1 to 64), and
+/// whether the result is printed as JSON.
 #[derive(Clone, Copy, Debug, PartialEq, Eq)]
 pub struct Selected<'a> {
     pub from: Option<&'a str>,

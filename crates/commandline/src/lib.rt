@@ -1,5 +1,5 @@
-//! What the words of a command line ask for: `check`, `consolidate`, `render`, `resume`,
-//! `compare`, `show` or `explain`.
+//! Parsing of command lines: `check`, `consolidate`, `render`, `resume`, `compare`, `show` and
+//! `explain`.
 #![tactic(auto)]
 
 mod choice;

@@ -1,4 +1,4 @@
-// What the program's words ask for.
+// Requests from command lines.
 ghost use Rattle.std.specs.Prelude.{◌≡◌, ◌≤◌, ◌⊎◌, codes, if◌then◌else◌, Some, None, true, false, IfOk, IfErr, IfSome, option_and_then, option_map};
 ghost use Rattle.std.specs.Option.{option_map_or};
 ghost use Rattle.clap.specs.Words.{found_of, kind_of, rows_of, subcommand_rows_of};
@@ -18,8 +18,8 @@ use job_terms::Order;
 use sound_terms::Depth;
 use std::alloc::{AllocError, Global};
 
-/// The words of a command over a list: the list (a file, `-` is standard input), the folder of its media, and the
-/// folder that is written to.
+/// The paths of a command on a list: the list (a file, or `-` for standard input), its media folder
+/// and the output folder.
 #[derive(Clone, Copy, Debug, PartialEq, Eq)]
 pub struct Places<'a> {
     pub list: &'a str,
@@ -27,7 +27,7 @@ pub struct Places<'a> {
     pub out: &'a str,
 }
 
-/// The words of a comparison: two lists, each with the folder of its media. One list at most is `-`.
+/// The paths of a comparison: two lists, each with its media folder. At most one list is `-`.
 #[derive(Clone, Copy, Debug, PartialEq, Eq)]
 pub struct BothPlaces<'a> {
     pub list: &'a str,
@@ -36,32 +36,31 @@ pub struct BothPlaces<'a> {
     pub other_media: &'a str,
 }
 
-/// What the program is asked for.
+/// A request to the program.
 #[derive(Clone, Copy, Debug, PartialEq, Eq)]
 pub enum Request<'a> {
-    /// Checks the list over the folder of its media.
+    /// Check a list with its media folder.
     Check(&'a str, &'a str),
-    /// Checks the list over the folder of its media, and tells all of it to a script.
+    /// Check a list with its media folder and print a report for scripts.
     Report(&'a str, &'a str),
-    /// Renders the list to one sound file.
+    /// Render a list to a sound file.
     Render(Places<'a>, Chosen<'a>),
-    /// Goes on with such a rendering that was stopped.
+    /// Resume an interrupted rendering.
     Resume(Places<'a>, Chosen<'a>),
-    /// Writes a list over new media, with handles of so many frames, and this report.
+    /// Write a list with new media, with a handle in samples and a kind of report.
     Consolidate(Places<'a>, u64, MediaReport),
-    /// Compares two lists, each over the folder of its media.
+    /// Compare two lists, each with its media folder.
     Compare(BothPlaces<'a>, Selected<'a>),
-    /// Draws the list, or a part of it, over the folder of its media, with handles of so many frames.
+    /// Draw a list, or a part of it, with its media folder and a handle in samples.
     Show(&'a str, &'a str, u64, Drawn<'a>),
-    /// Tells what the number of a refusal means, or what all of them mean.
+    /// Explain a refusal number, or all of them.
     Explain(Option<&'a str>),
-    /// Tells what the number of a notice means, or what all of them mean.
+    /// Explain a notice number, or all of them.
     ExplainNotice(Option<&'a str>),
 }
 
-/// What the words ask for; whether standard error lists all that is at fault in a list that is refused; whether a medium
-/// that isn't right inside its folder is looked for in the folders below; and whether a consolidation is compared with
-/// what was given.
+/// A request and its flags: whether to report all faults of a refused list, to search for media in
+/// subfolders of the media folder, and to verify a consolidation against its input.
 #[derive(Clone, Copy, Debug, PartialEq, Eq)]
 pub struct Parsed<'a> {
     pub request: Request<'a>,
@@ -70,8 +69,8 @@ pub struct Parsed<'a> {
     pub verifies: bool,
 }
 
-/// Reads the words behind the program's name. The error is clap's: a mistake in the words, a request for help or for
-/// the version, or out of memory.
+/// Parses the arguments after the program name. Errors are clap's: invalid arguments, a request for
+/// help or for the version, or out of memory.
 pub fn parse<'a>(alloc: Global, words: &'a [&'a str]) -> Result<Parsed<'a>, Error>
     ensures read { IfOk result (λ parsed. request_of (texts words.entry.now) ≡ Some (asked_of parsed.request)) }
     ensures all { IfOk result (λ parsed. parsed.tells_all ≡ line.tells_all (texts words.entry.now)) }
@@ -101,10 +100,10 @@ pub fn parse<'a>(alloc: Global, words: &'a [&'a str]) -> Result<Parsed<'a>, Erro
     }
 }
 
-/// What is reported of another number of channels.
+/// Message for an invalid number of channels.
 const FEW_CHANNELS: &str = "there are 1 to 64 channels";
 
-/// The command that the words name, as a mistake in its words shows it.
+/// The command that the arguments name, whose usage is shown with a mistake.
 fn command_in<'a>(alloc: Global, matches: &ArgMatches<'_>) -> Result<Command<'a>, AllocError> {
     match matches.subcommand() {
         Some((name, _)) => command_named(alloc, name),
@@ -112,7 +111,7 @@ fn command_in<'a>(alloc: Global, matches: &ArgMatches<'_>) -> Result<Command<'a>
     }
 }
 
-/// What is told of words that clap takes and that ask for nothing.
+/// The message for arguments that clap accepts but that make no valid request.
 fn mistake_of(matches: &ArgMatches<'_>) -> &'static str {
     match matches.subcommand() {
         Some(("consolidate", words)) if handle_in(words).is_some() => {
@@ -125,7 +124,7 @@ fn mistake_of(matches: &ArgMatches<'_>) -> &'static str {
     }
 }
 
-/// What is told of such words of a rendering.
+/// The message for invalid options of a rendering.
 fn mistake_of_rendering(words: &ArgMatches<'_>) -> &'static str {
     if words.get_str("depth").and_then(depth_in).is_none() {
         "a depth is 16, 24 or 32"
@@ -136,7 +135,7 @@ fn mistake_of_rendering(words: &ArgMatches<'_>) -> &'static str {
     }
 }
 
-/// What is told of such words of a comparison.
+/// The message for invalid arguments of a comparison.
 fn mistake_of_comparison(words: &ArgMatches<'_>) -> &'static str {
     match (words.get_str("LIST"), words.get_str("LIST2")) {
         (Some("-"), Some("-")) => "standard input can be one of the lists, and not both",
@@ -144,7 +143,7 @@ fn mistake_of_comparison(words: &ArgMatches<'_>) -> &'static str {
     }
 }
 
-/// Whether an option without a value is among the words of the command.
+/// Whether the named flag is set, in any command.
 fn asks_for(id: &str, matches: &ArgMatches<'_>) -> bool
     ensures { result ≡ option_map_or (line.is_flagged id.now) (subcommand_rows_of matches.now) false }
 {
@@ -154,7 +153,7 @@ fn asks_for(id: &str, matches: &ArgMatches<'_>) -> bool
     }
 }
 
-/// Whether an option without a value is among the words of a command.
+/// Whether the named flag is set in the arguments of a command.
 fn is_set(id: &str, words: &ArgMatches<'_>) -> bool
     ensures { result ≡ line.is_set id.now (rows_of (found_of words.now)) }
 {
@@ -164,7 +163,7 @@ fn is_set(id: &str, words: &ArgMatches<'_>) -> bool
     }
 }
 
-/// What the matches of the words ask for.
+/// The request in parsed arguments.
 fn request_in<'a>(matches: &ArgMatches<'a>) -> Option<Request<'a>>
     ensures { option_map asked_of result ≡ option_and_then asked (subcommand_rows_of matches.now) }
 {
@@ -172,7 +171,7 @@ fn request_in<'a>(matches: &ArgMatches<'a>) -> Option<Request<'a>>
     request_by(name, words)
 }
 
-/// What the command of this name asks for by these words.
+/// The request of the named command.
 fn request_by<'a>(name: &str, words: &ArgMatches<'a>) -> Option<Request<'a>>
     ensures { option_map asked_of result ≡ asked (name.now, rows_of (found_of words.now)) }
 {
@@ -184,7 +183,7 @@ fn request_by<'a>(name: &str, words: &ArgMatches<'a>) -> Option<Request<'a>>
     request_over(name, words)
 }
 
-/// Which number is to be explained: that of a refusal, or behind `notice` that of a notice.
+/// The request to explain a refusal number, or after `notice` a notice number.
 fn explained<'a>(what: Option<&'a str>, number: Option<&'a str>) -> Option<Request<'a>>
     ensures { option_map asked_of result
         ≡ line.explained (option_map (λ text. text.now) what.entry) (option_map (λ text. text.now) number.entry) }
@@ -201,7 +200,7 @@ fn explained<'a>(what: Option<&'a str>, number: Option<&'a str>) -> Option<Reque
     }
 }
 
-/// What the command of this name asks for over a list and its media.
+/// The request of the named command, which takes a list and a media folder.
 fn request_over<'a>(name: &str, words: &ArgMatches<'a>) -> Option<Request<'a>>
     ensures { option_map asked_of result ≡ asked_over name.now (rows_of (found_of words.now)) }
 {
@@ -220,7 +219,7 @@ fn request_over<'a>(name: &str, words: &ArgMatches<'a>) -> Option<Request<'a>>
     request_to(name, Places { list, media, out }, words)
 }
 
-/// A check of this list over this folder, or its report.
+/// The request to check a list, with or without a report.
 fn checked<'a>(list: &'a str, media: &'a str, words: &ArgMatches<'_>) -> Request<'a>
     ensures { asked_of result ≡ (if line.is_set (codes "report") (rows_of (found_of words.now))
         then line.Report list.entry.now media.entry.now else line.Check list.entry.now media.entry.now) }
@@ -232,7 +231,7 @@ fn checked<'a>(list: &'a str, media: &'a str, words: &ArgMatches<'_>) -> Request
     }
 }
 
-/// A picture of this list over this folder, with the handle and the times that the words choose.
+/// The request to draw a list.
 fn shown<'a>(list: &'a str, media: &'a str, words: &ArgMatches<'a>) -> Option<Request<'a>>
     ensures { option_map asked_of result
         ≡ option_map
@@ -243,7 +242,7 @@ fn shown<'a>(list: &'a str, media: &'a str, words: &ArgMatches<'a>) -> Option<Re
     Some(Request::Show(list, media, handle, drawn_in(words)))
 }
 
-/// What the words choose of a picture.
+/// The options of a picture.
 fn drawn_in<'a>(words: &ArgMatches<'a>) -> Drawn<'a>
     ensures { spec.drawn_of result ≡ line.drawn_of (rows_of (found_of words.now)) }
 {
@@ -253,7 +252,7 @@ fn drawn_in<'a>(words: &ArgMatches<'a>) -> Drawn<'a>
     }
 }
 
-/// A comparison of this list over this folder with the one that the words name after it.
+/// The request to compare two lists.
 fn compared<'a>(list: &'a str, media: &'a str, words: &ArgMatches<'a>) -> Option<Request<'a>>
     ensures { option_map asked_of result
         ≡ line.asked_compare list.entry.now media.entry.now (rows_of (found_of words.now)) }
@@ -272,14 +271,13 @@ fn compared<'a>(list: &'a str, media: &'a str, words: &ArgMatches<'a>) -> Option
     Some(Request::Compare(places, selected_in(words)?))
 }
 
-/// Whether two lists are standard input.
 fn are_both_input(list: &str, other: &str) -> bool
     ensures { result ≡ line.are_both_input list.now other.now }
 {
     list == "-" && other == "-"
 }
 
-/// What the words choose of a comparison.
+/// The options of a comparison.
 fn selected_in<'a>(words: &ArgMatches<'a>) -> Option<Selected<'a>>
     ensures { option_map spec.selected_of result ≡ line.selected_of (rows_of (found_of words.now)) }
 {
@@ -292,7 +290,7 @@ fn selected_in<'a>(words: &ArgMatches<'a>) -> Option<Selected<'a>>
     })
 }
 
-/// A consolidation with this handle, and with the report that the words ask for.
+/// The request to consolidate a list.
 fn consolidated<'a>(places: Places<'a>, handle: u64, words: &ArgMatches<'_>) -> Option<Request<'a>>
     ensures { option_map asked_of result
         ≡ option_map (line.Consolidate places.entry.list.now places.entry.media.now places.entry.out.now handle)
@@ -302,7 +300,7 @@ fn consolidated<'a>(places: Places<'a>, handle: u64, words: &ArgMatches<'_>) -> 
     Some(Request::Consolidate(places, handle, report))
 }
 
-/// The report of a consolidation that the words ask for. There is none where they ask for digests alone.
+/// The kind of report to write, or `None` if digests are requested without a report.
 fn media_report(words: &ArgMatches<'_>) -> Option<MediaReport>
     ensures { result ≡ line.media_report (rows_of (found_of words.now)) }
 {
@@ -316,7 +314,7 @@ fn media_report(words: &ArgMatches<'_>) -> Option<MediaReport>
     }
 }
 
-/// What the command of this name asks for over places that it writes to.
+/// The request of the named command, which also takes an output folder.
 fn request_to<'a>(name: &str, places: Places<'a>, words: &ArgMatches<'a>) -> Option<Request<'a>>
     ensures { option_map asked_of result
         ≡ line.asked_to name.now places.entry.list.now places.entry.media.now places.entry.out.now
@@ -330,14 +328,14 @@ fn request_to<'a>(name: &str, places: Places<'a>, words: &ArgMatches<'a>) -> Opt
     }
 }
 
-/// The handle that the words choose, in frames.
+/// The handle in samples.
 fn handle_in(words: &ArgMatches<'_>) -> Option<u64>
     ensures { result ≡ line.handle_of (rows_of (found_of words.now)) }
 {
     number_in(0, 4_147_200_000, words.get_str("handle")?)
 }
 
-/// What the words choose of a rendering.
+/// The options of a rendering.
 fn chosen_in<'a>(words: &ArgMatches<'a>) -> Option<Chosen<'a>>
     ensures { option_map spec.chosen_of result ≡ line.chosen_of (rows_of (found_of words.now)) }
 {
@@ -354,7 +352,6 @@ fn chosen_in<'a>(words: &ArgMatches<'a>) -> Option<Chosen<'a>>
     })
 }
 
-/// The depth that a text names.
 fn depth_in(text: &str) -> Option<Depth>
     ensures { result ≡ line.depth_in text.now }
 {
@@ -366,7 +363,6 @@ fn depth_in(text: &str) -> Option<Depth>
     }
 }
 
-/// The order of jobs that a text names.
 fn order_in(text: &str) -> Option<Order>
     ensures { result ≡ line.order_in text.now }
 {
@@ -377,7 +373,7 @@ fn order_in(text: &str) -> Option<Order>
     }
 }
 
-/// The channels that a text names, where there is one: 1 to 64.
+/// The optional number of channels, 1 to 64.
 fn channels_in(text: Option<&str>) -> Option<Option<u8>>
     ensures read { result ≡ line.channels_in (option_map (λ text. text.now) text.entry) }
     ensures few { IfSome result (λ channels. are_few channels ≡ true) }
@@ -388,7 +384,7 @@ fn channels_in(text: Option<&str>) -> Option<Option<u8>>
     }
 }
 
-/// The number from one bound to another that a text spells in decimal digits, behind a plus or not.
+/// The number from `low` to `high` in a decimal numeral with an optional plus sign.
 fn number_in(low: u64, high: u64, text: &str) -> Option<u64>
     ensures value { result ≡ line.number_in low high text.now }
     ensures within { IfSome result (λ number. (low ≤ number) × (number ≤ high)) }

@@ -7,7 +7,7 @@ use Rattle.commandline.specs.CommandLine.{adlcons_app, has_flag, is_flagged}
 use Rattle.commandline.proofs.CommandLineLaws.{helpless-by, is_free-adlcons, helpless_alone-by, is_simple-adlcons, mistaken-by, refused-by, shown-by, requested-by, has_flag-adlcons}
 use Rattle.commandline.proofs.request.parse.Goals as goal
 
--- a flag in the matches is one of the words
+-- a flag in the matches is a flag among the arguments
 flag_is : (id : Text) (app : App) (words : List Text) (rows : Option (Text × List Row)) → app ≡ adlcons_app
     → rows ≡ subcommand_of app words → option_map_or (is_flagged id) rows false ≡ has_flag id words
 flag_is id app words rows same read =
