@@ -1,4 +1,4 @@
-//! Small projects that the trials are made over: their lists, their sound files, and sources that keep what is read.
+//! Small projects for tests: lists, sound files, and sources that record reads.
 #![tactic(auto)]
 
 pub mod lists;

@@ -1,18 +1,18 @@
 // Lists over the file `A.wav`.
 use std::alloc::{AllocError, Global};
 
-/// The file, which begins at midnight.
+/// Index of the file, which starts at midnight.
 const SOURCE: &str = "(Index) 1 (F) \"URL:file://localhost/A.wav\" _ 00.00.00.00/0000 _
 ";
 
-/// An entry of the 12 frames of a stereo file, with both fades of four.
+/// An entry of the 12 sample frames of a stereo file, with a fade-in and a fade-out of four each.
 pub const FADED: &str =
     "(Entry) 1 (Cut) I 1 1~2 1~2 00.00.00.00/0000 00.00.00.00/0000 00.00.00.00/0012
 (Infade) 00.00.00.00/0004 LIN
 (Outfade) 00.00.00.00/0004 LIN
 ";
 
-/// The list with these lines as its sources and its entries.
+/// Returns a list with the given index and entry lines.
 pub fn list_of(alloc: Global, sources: &str, entries: &str) -> Result<String, AllocError> {
     format!(in alloc;
         "<ADL>
@@ -29,7 +29,7 @@ pub fn list_of(alloc: Global, sources: &str, entries: &str) -> Result<String, Al
     )
 }
 
-/// The list with these entries over the file.
+/// Returns a list with the given entry lines over the file.
 pub fn list(alloc: Global, entries: &str) -> Result<String, AllocError> {
     list_of(alloc, SOURCE, entries)
 }

@@ -1,13 +1,13 @@
-// Sound files as they are written here.
+// Sound files for tests.
 use sound_terms::{Bext, Depth};
 use std::alloc::Global;
 use std::test::Fail;
 use wavwrite::{SoundInfo, header};
 
-/// Four frames of two channels of which the second alone sounds.
+/// Four stereo sample frames; only the second channel is audible.
 pub const LOUD: [u8; 16] = [0, 0, 100, 0, 0, 0, 100, 0, 0, 0, 100, 0, 0, 0, 100, 0];
 
-/// The header of a file that tells this of itself.
+/// Returns the header of a file with the given format and `bext`.
 pub fn head_with(
     alloc: Global,
     channels: u8,
@@ -19,7 +19,7 @@ pub fn head_with(
     Ok(header(alloc, &info)?)
 }
 
-/// The header of a file whose first frame stands at this time.
+/// Returns the header of a file that starts at `time`, in samples.
 pub fn head_at(
     alloc: Global,
     channels: u8,
@@ -34,17 +34,17 @@ pub fn head_at(
     head_with(alloc, channels, depth, frames, bext)
 }
 
-/// The header of a file of 16 bits that begins at midnight.
+/// Returns the header of a 16-bit file that starts at midnight.
 pub fn head(alloc: Global, channels: u8, frames: u64) -> Result<Vec<u8>, Fail> {
     head_at(alloc, channels, Depth::Sixteen, frames, 0)
 }
 
-/// The two bytes of a sample. They come again after a prime number of samples.
+/// Returns the two bytes of a sample. They repeat after a prime number of samples.
 pub fn sample(place: u64) -> [u8; 2] {
     ((place % 65_521) as u16).to_le_bytes()
 }
 
-/// A file of one channel of 16 bits: its header, and behind it these samples.
+/// Appends samples to the header of a 16-bit mono file.
 pub fn with_samples(head: Vec<u8>, frames: u64) -> Result<Vec<u8>, Fail> {
     let mut file = head;
     for place in 0..frames {
@@ -53,12 +53,12 @@ pub fn with_samples(head: Vec<u8>, frames: u64) -> Result<Vec<u8>, Fail> {
     Ok(file)
 }
 
-/// A file of one channel of 16 bits that begins at midnight, with these samples.
+/// Returns a 16-bit mono file that starts at midnight.
 pub fn sound(alloc: Global, frames: u64) -> Result<Vec<u8>, Fail> {
     with_samples(head(alloc, 1, frames)?, frames)
 }
 
-/// A stereo file of 12 frames, of which the first four and the last four sound.
+/// Returns a stereo file of 12 sample frames, of which the middle four are silent.
 pub fn silent_middle(alloc: Global) -> Result<Vec<u8>, Fail> {
     let mut file = head(alloc, 2, 12)?;
     for frames in [LOUD, [0; 16], LOUD] {

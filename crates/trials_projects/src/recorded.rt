@@ -1,21 +1,21 @@
-// Sources that keep what was read of them.
+// Sources that record reads.
 use shelf::{MemoryShelf, Shelf, ShelfFault};
 
-/// Sources that keep between which places samples were read.
+/// Sources that record the range of sample bytes read.
 #[derive(Drop)]
 pub struct Recorded {
     shelf: MemoryShelf,
-    /// Where the samples begin.
+    /// Offset of the samples in the file.
     samples: u64,
     least: u64,
     behind: u64,
-    /// How often samples were read, and how many bytes of them.
+    /// Number of reads of samples, and number of bytes read.
     reads: u32,
     bytes: u64,
 }
 
 impl Recorded {
-    /// Sources whose file has its samples from this place on. None of them has been read.
+    /// Wraps sources whose file has its samples from offset `samples` on.
     pub fn new(shelf: MemoryShelf, samples: u64) -> Self {
         Recorded {
             shelf,
@@ -27,18 +27,18 @@ impl Recorded {
         }
     }
 
-    /// How often samples were read.
+    /// Returns the number of reads of samples.
     pub fn reads(&self) -> u32 {
         self.reads
     }
 
-    /// How many bytes of samples were read.
+    /// Returns the number of sample bytes read.
     pub fn bytes(&self) -> u64 {
         self.bytes
     }
 
-    /// How many bytes of samples stand before the first that was read since this was asked last, and up to how many it
-    /// went; `None` where none was read.
+    /// Returns the range of sample bytes read since the last call, as offsets from the first
+    /// sample, or `None` if there was no read. Resets the range.
     pub fn take_range(&mut self) -> Option<(u64, u64)> {
         let range = if self.least < self.behind {
             Some((self.least, self.behind))
@@ -65,7 +65,7 @@ impl Shelf for Recorded {
     }
 
     fn read_at(&mut self, name: &str, at: u64, buffer: &mut [u8]) -> Result<(), ShelfFault> {
-        // what is read of the head may go on into the samples
+        // a read of the header may extend into the samples
         if at >= self.samples {
             let first = at - self.samples;
             let length = buffer.len() as u64;
