@@ -1,5 +1,5 @@
-//! Tests of sound: kernels, chunks, pieces that are cut, what passes ask about, programs of blocks, what is read for
-//! silence, and the longest files.
+//! Tests of sound processing: kernels, chunks, cut pieces, queries of passes, programs of blocks,
+//! reads for silence, and the longest files.
 #![tactic(auto)]
 
 #[cfg(test)]

@@ -1,4 +1,4 @@
-// Sound, from kernels to files.
+// Tests of sound processing, from kernels to files.
 mod additions;
 mod chunks;
 mod intervals;

@@ -1,4 +1,5 @@
-// Stretches added to sums, beside the plain definition: at every length and offset, on one channel and on both.
+// Stretches added to sums, compared with the plain definition: all lengths and offsets, on one
+// channel and on both.
 ghost use Rattle.std.specs.Prelude.{◌≡◌, ◌+◌, ◌≤◌, ◌∷◌, []};
 ghost use Rattle.sound_terms.specs.declared.block.Instruction.TheVariants.{Start, Flat, Emit};
 ghost use Rattle.sound_terms.specs.Blocks.{FitsBlock};
@@ -14,11 +15,11 @@ use std::process::Abort;
 use std::test::Fail;
 use wavread::{Sound, open};
 
-/// The frames of a block that has room for the longest stretch at each offset.
+/// Number of sample frames in a block with room for the longest stretch at each offset.
 const FRAMES: usize = LONGEST + OFFSETS;
 
-/// A stereo file of as many frames as the longest stretch has, each sample an end of its depth or near zero, in so
-/// many bytes.
+/// A stereo file of the length of the longest stretch, with `width` bytes per sample; all samples
+/// are near zero or at an end of the range.
 fn stereo(alloc: Global, depth: Depth, width: u8) -> Result<MemoryShelf, Fail>
     requires { width ≤ 4 }
 {
@@ -38,7 +39,7 @@ fn stereo(alloc: Global, depth: Depth, width: u8) -> Result<MemoryShelf, Fail>
     Ok(MemoryShelf::new(alloc).with_file("A.wav", &file)?)
 }
 
-/// Sample and channel of a block at this depth to which a stretch was added twice.
+/// The expected sample of a block after a stretch is added twice.
 fn expected(depth: Depth, shown: Depth, stretch: Stretch, frame: usize, channel: u8) -> i32
     requires { FitsBlock 83 2 stretch }
 {
@@ -54,7 +55,7 @@ fn expected(depth: Depth, shown: Depth, stretch: Stretch, frame: usize, channel:
     finish(2 * widen(sample, depth), shown)
 }
 
-/// A block to which a stretch is added twice.
+/// A program that adds a stretch twice.
 fn add_twice(program: &mut Program, stretch: Stretch, shown: Depth)
     requires { 4 ≤ program.old.room }
     ensures { program.new ≡ record program.old {
@@ -68,7 +69,7 @@ fn add_twice(program: &mut Program, stretch: Stretch, shown: Depth)
     program.push(Instruction::Emit { depth: shown });
 }
 
-/// The machine hands out a stretch that is added twice as the definition has it.
+/// Checks the machine's output for a stretch that is added twice.
 fn adds(
     rt: &impl Abort,
     machine: &mut Machine,
@@ -96,7 +97,7 @@ fn adds(
     Ok(())
 }
 
-/// So it does at every length and offset, on these channels.
+/// Checks all lengths and offsets on the given channels.
 fn adds_at_each_place(
     rt: &impl Abort,
     machine: &mut Machine,
@@ -136,7 +137,8 @@ fn adds_at_each_place(
     Ok(())
 }
 
-/// The first channel of the file, the one that it is added to, and how many there are: both, or one to the other.
+/// The first source channel, the first destination channel, and their number: both channels, or one
+/// to the other.
 fn channels_of(way: usize) -> (u8, u8, u8)
     ensures first { 1 ≤ result.0 }
     ensures dest { 1 ≤ result.1 }
@@ -151,7 +153,7 @@ fn channels_of(way: usize) -> (u8, u8, u8)
     }
 }
 
-/// On one channel and on both, in a block of this depth.
+/// Checks one channel and both, in a block of the given depth.
 fn adds_on_all(
     rt: &impl Abort,
     alloc: Global,
@@ -183,7 +185,7 @@ fn adds_on_all(
     Ok(())
 }
 
-/// In a block of each depth.
+/// Checks blocks of each depth.
 fn adds_at_all_depths(rt: &impl Abort, alloc: Global, depth: Depth, width: u8) -> Result<(), Fail>
     requires { width ≤ 4 }
 {

@@ -1,9 +1,9 @@
-// The chunks of a file in memory, where each read fails in turn, and the text of a fault.
+// Chunks of a file in memory with each read failing in turn, and the text of an error.
 use riff::{Chunks, MediaFault, Span, walk};
 use shelf::MemoryShelf;
 use std::test::Fail;
 
-/// A file of a head, `fmt ` and `data` of four bytes (RIFF WAVE).
+/// A file with `fmt ` and four bytes of `data` (RIFF WAVE).
 const FILE: &[u8] =
     b"RIFF\0\0\0\0WAVEfmt \x10\0\0\0\x01\0\x01\0\x80\xbb\0\0\0\x77\x01\0\x02\0\x10\0data\x04\0\0\0\x01\x02\x03\x04";
 
@@ -15,7 +15,7 @@ const CHUNKS: Chunks = Chunks {
     seen: 2,
 };
 
-/// The first call that fails, and what is found then: a walk makes three.
+/// The first call that fails, and the expected result: a walk makes three calls.
 const WALKED: [(u64, Result<Chunks, MediaFault>); 4] = [
     (0, Err(MediaFault::Device)),
     (1, Err(MediaFault::Device)),

@@ -1,4 +1,4 @@
-// Entries as groups of pieces, and cut in two.
+// Entries as groups of pieces, and cut groups.
 ghost use Rattle.std.specs.Prelude.{◌≡◌, ◌≤◌, ◌+◌, IfOk};
 ghost use Rattle.sampletime.specs.TimeCode.{day};
 ghost use Rattle.sound_terms.specs.Entries.{IsPlayable};
@@ -9,7 +9,7 @@ use sound_terms::{BoundIndex, Channels, Depth, Event, Fade};
 use soundlaw::{contribution, finish, widen};
 use std::test::Fail;
 
-/// A file whose first frame is at midnight.
+/// A file whose first sample is at midnight.
 pub(crate) const MIDNIGHT: BoundIndex = BoundIndex {
     number: 1,
     file: 0,
@@ -17,7 +17,6 @@ pub(crate) const MIDNIGHT: BoundIndex = BoundIndex {
     addressable: 100,
 };
 
-/// This time.
 fn time(samples: u64) -> Result<SampleTime, Fail>
     ensures { IfOk result (λ time. time ≡ samples) }
 {
@@ -27,7 +26,8 @@ fn time(samples: u64) -> Result<SampleTime, Fail>
     }
 }
 
-/// An entry of so many samples from midnight on, in the channels 1 to `last`, with fades of these lengths.
+/// An entry of `length` samples from midnight on, on channels 1 to `last`, with fades of the given
+/// lengths.
 fn entry_of(last: u8, length: u64, rise: u64, fall: u64) -> Result<Event, Fail>
     requires channels { 1 ≤ last }
     requires channels_to_64 { last ≤ 64 }
@@ -53,14 +53,15 @@ fn entry_of(last: u8, length: u64, rise: u64, fall: u64) -> Result<Event, Fail>
     })
 }
 
-/// An entry of 12 stereo samples from midnight on, with both fades of four.
+/// An entry of 12 stereo sample frames from midnight on, with a fade-in and a fade-out of four
+/// each.
 pub(crate) fn entry() -> Result<Event, Fail>
     ensures { IfOk result (λ event. IsPlayable MIDNIGHT event) }
 {
     entry_of(2, 12, 4, 4)
 }
 
-/// The groups of this one entry.
+/// The groups of one entry.
 pub(crate) fn intervals(rt: &HostRuntime, event: &Event) -> Result<Intervals, Fail>
     requires { IsPlayable MIDNIGHT event.now }
 {
@@ -72,7 +73,7 @@ pub(crate) fn intervals(rt: &HostRuntime, event: &Event) -> Result<Intervals, Fa
     Ok(Intervals::ordered(groups)?)
 }
 
-/// The first two frames of an in-fade of four.
+/// The first two samples of a fade-in of four.
 pub(crate) const RAMP: Piece = Piece {
     start: 0,
     length: 2,
@@ -84,7 +85,7 @@ pub(crate) const RAMP: Piece = Piece {
     shape: Shape::Rise { offset: 0, den: 4 },
 };
 
-/// The other two, which go on where it was.
+/// The other two samples, which continue the fade.
 const REST: Piece = Piece {
     start: 2,
     frame: 2,
@@ -92,7 +93,7 @@ const REST: Piece = Piece {
     ..RAMP
 };
 
-/// The in-fade, cut at its third sample.
+/// The fade-in, cut at its third sample.
 fn cut_in_fade(rt: &HostRuntime) -> Result<Intervals, Fail> {
     let given = intervals(rt, &entry_of(1, 4, 4, 0)?)?;
     if !given.whole() {
@@ -101,7 +102,7 @@ fn cut_in_fade(rt: &HostRuntime) -> Result<Intervals, Fail> {
     Ok(given.cut_at(time(2)?)?)
 }
 
-/// What a sample of 1,000 finishes as at 16 bits where this many quarters of it sound.
+/// The 16-bit output for `num` quarters of a sample of 1,000.
 fn quarters(num: u64) -> i32
     requires { num ≤ 4 }
 {
@@ -111,7 +112,7 @@ fn quarters(num: u64) -> i32
     )
 }
 
-/// What two such samples finish as under the first two places of a piece of an in-fade of four.
+/// The 16-bit output for two such samples at the start of a piece of a fade-in of four.
 fn finished(piece: &Piece) -> Option<[i32; 2]> {
     match piece.shape {
         Shape::Rise { offset, den: 4 } if offset <= 2 => Some([

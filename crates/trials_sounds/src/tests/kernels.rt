@@ -1,5 +1,5 @@
-// Kernels beside their plain definitions: at every length, so that each rest behind whole chunks is met, and at each
-// offset of their source.
+// Kernels compared with their plain definitions: at all lengths, so that every remainder after
+// whole chunks occurs, and at all offsets of the source.
 ghost use Rattle.std.specs.Prelude.{◌≡◌, ◌*◌, ◌/◌, ◌<◌, ◌≤◌, length};
 ghost use Rattle.sound_terms.specs.Depth.{bits_of};
 ghost use Rattle.pcm.specs.Samples.{FitsDepth};
@@ -8,15 +8,15 @@ use pcm::{add_unpacked, all_zero, pack, unpack};
 use sound_terms::Depth;
 use std::process::Abort;
 
-/// The longest run of samples, which is many chunks and a rest.
+/// Length of the longest run: many chunks and a remainder.
 pub const LONGEST: usize = 67;
 
-/// The offsets of a source: as many as a chunk has bytes.
+/// Number of source offsets, one for each byte of a chunk.
 pub const OFFSETS: usize = 16;
 
 const ROOM: usize = 4 * LONGEST + OFFSETS;
 
-/// The ends of a depth and what lies round zero, in turn.
+/// Returns a sample near zero or at an end of the range, in turn.
 pub fn sample_at(depth: Depth, place: usize) -> i32
     ensures { FitsDepth (bits_of depth) result }
 {
@@ -36,7 +36,7 @@ pub fn sample_at(depth: Depth, place: usize) -> i32
     }
 }
 
-/// Byte i of these samples, each of so many bytes, the lowest first.
+/// Byte `i` of these samples, little-endian.
 fn byte_at(depth: Depth, width: usize, i: usize) -> u8
     requires some { 0 < width }
     requires few { width ≤ 4 }
@@ -45,7 +45,7 @@ fn byte_at(depth: Depth, width: usize, i: usize) -> u8
     bytes[i % width]
 }
 
-/// Bytes of these samples from an offset on.
+/// The bytes of these samples, from an offset on.
 fn source_of(depth: Depth, width: usize, offset: usize) -> [u8; ROOM]
     requires some { 0 < width }
     requires few { width ≤ 4 }
@@ -58,7 +58,7 @@ fn source_of(depth: Depth, width: usize, offset: usize) -> [u8; ROOM]
     bytes
 }
 
-/// The bytes are read as the samples that they were made of, and written as they were.
+/// Checks that unpacking yields the samples and packing the bytes.
 fn reads_and_writes(
     rt: &impl Abort,
     depth: Depth,
@@ -79,7 +79,7 @@ fn reads_and_writes(
     }
 }
 
-/// The samples that the bytes hold are added to sums of zero.
+/// Checks the sums after the samples are added to zero.
 fn adds_to_zero(rt: &impl Abort, depth: Depth, bytes: &[u8], sums: &mut [i32])
     requires { length bytes.now ≡ length sums.old * (bits_of depth / 8) }
 {
@@ -90,7 +90,6 @@ fn adds_to_zero(rt: &impl Abort, depth: Depth, bytes: &[u8], sums: &mut [i32])
     }
 }
 
-/// How many bytes so many samples have.
 fn size_of(depth: Depth, count: usize) -> usize
     requires { count ≤ 67 }
     ensures whole { result ≡ count * (bits_of depth / 8) }
@@ -103,7 +102,7 @@ fn size_of(depth: Depth, count: usize) -> usize
     }
 }
 
-/// Samples of this depth, each of so many bytes, at every length.
+/// Checks samples of a depth at every length.
 fn at_every_length(rt: &impl Abort, depth: Depth, width: usize)
     requires some { 0 < width }
     requires few { width ≤ 4 }
@@ -140,7 +139,7 @@ fn thirty_two_bits_at_every_length(rt: HostRuntime) {
     at_every_length(&rt, Depth::ThirtyTwo, 4);
 }
 
-/// So many samples are silent, and none of them alone may sound.
+/// Checks that zeros are silent and that a single other sample makes them audible.
 fn silent_unless_one_sounds(rt: &impl Abort, samples: &mut [i32]) {
     assert!(rt; all_zero(samples));
     for place in 0..samples.len() {

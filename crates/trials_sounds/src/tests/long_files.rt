@@ -1,22 +1,22 @@
-// Where RIFF ends and RF64 begins, over files of zeros that take no memory.
+// The transition from RIFF to RF64, with files of zeros that take no memory.
 use shelf::ZeroShelf;
 use std::alloc::Global;
 use std::test::Fail;
 use trials_projects::media::head;
 use wavread::{Depth, open};
 
-/// The most frames of one channel and 16 bits that RIFF can tell, without a CodingHistory.
+/// The maximum number of 16-bit mono samples in a RIFF file without a CodingHistory.
 const MOST_OF_RIFF: u64 = 2_147_483_306;
 
-/// The first 56 bytes of the shortest RF64: its head, and `ds64` with the sizes of the form and of `data`, the frames
-/// and no table (EBU Tech 3306); and how `bext` begins.
+/// The first 56 bytes of the shortest RF64 file: its header, `ds64` with the sizes of form and
+/// `data`, the number of samples and no table (EBU Tech 3306), and the start of `bext`.
 const RF64_HEAD: [u8; 56] = [
     0x52, 0x46, 0x36, 0x34, 0xff, 0xff, 0xff, 0xff, 0x57, 0x41, 0x56, 0x45, 0x64, 0x73, 0x36, 0x34,
     0x1c, 0, 0, 0, 0, 0, 0, 0, 1, 0, 0, 0, 0x56, 0xfd, 0xff, 0xff, 0, 0, 0, 0, 0xab, 0xfe, 0xff,
     0x7f, 0, 0, 0, 0, 0, 0, 0, 0, 0x62, 0x65, 0x78, 0x74, 0x5a, 2, 0, 0,
 ];
 
-/// A shelf with this file, whose samples are zero.
+/// A shelf with a file of zeros.
 fn silent(alloc: Global, frames: u64) -> Result<ZeroShelf, Fail> {
     let head = head(alloc, 1, frames)?;
     let samples = frames.saturating_mul(2);
@@ -24,7 +24,8 @@ fn silent(alloc: Global, frames: u64) -> Result<ZeroShelf, Fail> {
     Ok(ZeroShelf::new(String::from_str(alloc, "A.wav")?, head, length))
 }
 
-/// The channels, the depth and the frames of this file, whose last sample is read as zero.
+/// The number of channels, the depth and the length of a file, after its last sample was read as
+/// zero.
 fn opened(alloc: Global, frames: u64) -> Result<(u8, Depth, u64), Fail> {
     let mut shelf = silent(alloc, frames)?;
     let sound = open(alloc, &mut shelf, "A.wav")?;
@@ -37,7 +38,7 @@ fn opened(alloc: Global, frames: u64) -> Result<(u8, Depth, u64), Fail> {
     Ok((sound.channels(), sound.depth(), sound.frames()))
 }
 
-/// How the head of this file begins and ends.
+/// Whether the header of a file has the given start and end.
 fn has_head(alloc: Global, frames: u64, first: &[u8], last: &[u8]) -> Result<bool, Fail> {
     let head = head(alloc, 1, frames)?;
     Ok((head.len() == 690) & head.starts_with(first) & head.ends_with(last))

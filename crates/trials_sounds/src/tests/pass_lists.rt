@@ -1,10 +1,11 @@
-// What passes ask about an entry with a silent middle.
+// Queries of passes about an entry with a silent middle.
 use crate::tests::intervals::{entry, intervals};
 use crate::tests::table::Table;
 use passes::{DropSilent, Pass, SplitFades, run, silent_of};
 use std::test::Fail;
 
-/// A stereo file of 12 frames: the left is silent, the right sounds in the first four and the last four.
+/// A stereo file of 12 sample frames: the left is silent, the right is audible in the first and the
+/// last four.
 fn one_side() -> Table {
     Table {
         left: [0; 12],
@@ -14,7 +15,7 @@ fn one_side() -> Table {
     }
 }
 
-/// How many pieces of an entry of 12 samples with both fades of four these passes ask about.
+/// The number of pieces that the passes query, for an entry of 12 samples with two fades of four.
 fn asked(rt: &HostRuntime, passes: Vec<Box<dyn Pass>>) -> Result<u64, Fail> {
     let mut samples = one_side();
     run(rt.alloc(), passes, intervals(rt, &entry()?)?, &mut samples)?;

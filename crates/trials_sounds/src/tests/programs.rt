@@ -1,4 +1,4 @@
-// Programs of blocks, each made for its block and filled over that of another.
+// Programs of blocks, created for their block and refilled from another block's.
 ghost use Rattle.std.specs.Prelude.{◌≡◌, ◌+◌, ◌≤◌, length};
 
 use crate::tests::intervals::RAMP;
@@ -8,7 +8,7 @@ use sampletime::SampleTime;
 use std::alloc::Global;
 use std::test::Fail;
 
-/// A piece over the end of the first block, under an in-fade as long as itself.
+/// A piece across the end of the first block, with a fade-in over its whole length.
 const OVER_THE_END: Piece = Piece {
     start: 4094,
     length: 4,
@@ -16,7 +16,7 @@ const OVER_THE_END: Piece = Piece {
     ..RAMP
 };
 
-/// Its samples of the first block.
+/// The stretch of this piece in the first block.
 const BEFORE_THE_END: Stretch = Stretch {
     at: 4094,
     length: 2,
@@ -27,7 +27,7 @@ const BEFORE_THE_END: Stretch = Stretch {
     width: 1,
 };
 
-/// The plan of this piece up to the time 4100, on one channel at 16 bits.
+/// A plan of this piece up to time 4100, mono at 16 bits.
 fn plan(alloc: Global) -> Result<Plan, Fail> {
     let Some(end) = SampleTime::new(4100) else {
         return Err("no time".into());
@@ -38,7 +38,7 @@ fn plan(alloc: Global) -> Result<Plan, Fail> {
     Ok(Plan::new(alloc, intervals, SampleTime::ZERO, end, 1, Depth::Sixteen)?)
 }
 
-/// Whether these are the instructions of a block.
+/// Whether the program of a block has the expected instructions.
 fn is_program(
     alloc: Global,
     plan: &Plan,

@@ -1,4 +1,4 @@
-// Silence of opened files: each stretch of a file is read once, however many pieces play it.
+// Silence in open files: each stretch of a file is read once, however many pieces play it.
 ghost use Rattle.std.specs.Prelude.{◌≤◌};
 ghost use Rattle.sound_terms.specs.Groups.{IsPiece};
 
@@ -10,7 +10,7 @@ use std::test::Fail;
 use trials_projects::recorded::Recorded;
 use wavread::open;
 
-/// A mono file of 16 bits with 10,000 frames, all of them zero but the one of this number.
+/// A 16-bit mono file of 10,000 samples, all zero except for one.
 fn file(alloc: Global, sounding: usize) -> Result<Recorded, Fail> {
     let mut file = b"RIFF\x44\x4e\0\0WAVE\
         fmt \x10\0\0\0\x01\0\x01\0\x80\xbb\0\0\0\x77\x01\0\x02\0\x10\0data\x20\x4e\0\0"

@@ -1,4 +1,4 @@
-// The samples of a stereo file as a table, of which what is answered is claimed.
+// The samples of a stereo file as a table, with a contract on the results of queries.
 ghost use Rattle.std.specs.Prelude.{◌≡◌, ◌≤◌, ◌<◌, ◌+◌, ◌^◌, ℕ, Err, get_or, pos, true, ⊤};
 ghost use Rattle.std.specs.Ordering.{int_eq};
 ghost use Rattle.sound_terms.specs.Mix.{Reading};
@@ -8,10 +8,10 @@ ghost use Rattle.trials_sounds.specs.Table.{table_reading};
 use passes::Samples;
 use shelf::ShelfFault;
 
-/// How many frames the file has.
+/// Number of sample frames.
 const FRAMES: u64 = 12;
 
-/// The samples of a stereo file, and how often they were asked about.
+/// The samples of a stereo file, and the number of queries.
 #[derive(Drop)]
 pub(crate) struct Table {
     pub(crate) left: [u16; 12],
@@ -68,7 +68,7 @@ impl Table {
     }
 }
 
-/// Whether the samples of a channel are zero in so many frames from this one on.
+/// Whether `length` samples of a channel from `from` on are zero.
 fn is_silent(row: &[u16; 12], from: u64, length: u64) -> bool
     requires { from + length ≤ 12 }
     ensures { (reading : Reading) (file channel : ℕ)
@@ -83,7 +83,6 @@ fn is_silent(row: &[u16; 12], from: u64, length: u64) -> bool
     true
 }
 
-/// Whether it is silence.
 fn is_zero(sample: u16) -> bool
     ensures { result ≡ int_eq (pos sample) (pos 0) }
 {

@@ -8,7 +8,7 @@ use Rattle.pcm.specs.Samples.{FitsDepth, samples_in}
 use Rattle.pcm.specs.Laws.{all_fit, get_or-summed, length-samples_in, length-summed}
 use Rattle.trials_sounds.proofs.tests.kernels.adds_to_zero.Goals as goal
 
--- a sample and nothing fit the widest samples
+-- a sample plus zero fits in 32 bits
 alone : (depth : Depth) (sum sample : ℤ) → sum ≡ pos 0 → FitsDepth (bits_of depth) sample → FitsDepth 32 (sum +ℤ sample)
 alone Sixteen sum sample zero fits = rw zero (omega (arith, ints, fits))
 alone TwentyFour sum sample zero fits = rw zero (omega (arith, ints, fits))

@@ -3,7 +3,7 @@ use Rattle.sound_terms.specs.Mix.{Reading}
 use Rattle.sound_terms.specs.Passes.{is_zero_channel}
 use Rattle.trials_sounds.proofs.tests.table.is_silent.Goals as goal
 
--- the first frame, and those after it
+-- the first sample and the samples after it
 one_frame : (reading : Reading) (file channel frame rest more : ℕ) (zero : Bool) → rest ≡ suc more
     → int_eq (reading file channel frame) (pos 0) ≡ zero
     → is_zero_channel reading file channel frame rest ≡ (zero && is_zero_channel reading file channel (suc frame) more)
