@@ -1,4 +1,4 @@
-//! Tests of the stores: in memory, of zeros and in folders; and of marks over those in memory.
+//! Tests of the stores in memory, of zeros and in folders, and of marks in memory.
 #![tactic(auto)]
 
 #[cfg(test)]

@@ -1,4 +1,4 @@
-// Stores, and marks over them.
+// Tests of stores, and of marks in them.
 mod calls;
 mod crashes;
 mod folders;

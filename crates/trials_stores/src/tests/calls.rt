@@ -1,11 +1,11 @@
-// Calls of stores as data, and functions that make them over any store.
+// Calls of stores as data, and functions that make them on any store.
 ghost use Rattle.std.specs.Prelude.{IsTrue, IfOk};
 ghost use Rattle.work_terms.specs.Disk.{IsRange};
 
 use shelf::{Bench, DeviceFault, Shelf, ShelfFault};
 use std::process::Abort;
 
-/// A call of an output that changes it, or syncs it.
+/// A call that changes or syncs an output.
 #[derive(Clone, Copy)]
 pub(crate) enum Call {
     Create(&'static str),
@@ -25,7 +25,7 @@ fn make(bench: &mut impl Bench, call: Call) -> Result<(), DeviceFault> {
     }
 }
 
-/// Makes these calls in turn, and counts those that went well.
+/// Makes calls in order and returns the number of successes.
 pub(crate) fn made(bench: &mut impl Bench, calls: &[Call]) -> usize {
     let mut count = 0usize;
     for call in calls {
@@ -36,7 +36,7 @@ pub(crate) fn made(bench: &mut impl Bench, calls: &[Call]) -> usize {
     count
 }
 
-/// The four bytes from an offset on.
+/// Returns four bytes from an offset on.
 pub(crate) fn four_bytes<S: Shelf>(
     shelf: &mut S,
     name: &str,
@@ -49,10 +49,10 @@ pub(crate) fn four_bytes<S: Shelf>(
     Ok(bytes)
 }
 
-/// The name of a source, an offset, and the four bytes there.
+/// The name of a source, an offset, and the expected four bytes.
 pub(crate) type Row = (&'static str, u64, Result<[u8; 4], ShelfFault>);
 
-/// The sources have these bytes.
+/// Checks bytes of sources.
 pub(crate) fn reads(rt: &impl Abort, shelf: &mut impl Shelf, rows: &[Row]) {
     for (name, at, want) in rows {
         assert_eq!(rt; four_bytes(shelf, name, *at), *want, "{name} at {at}");

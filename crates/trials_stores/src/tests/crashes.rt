@@ -1,10 +1,11 @@
-// What a crash leaves of outputs in memory.
+// State of outputs in memory after a crash.
 use crate::tests::calls::{Call, made};
 use shelf::{Bench, MemoryBench, ShelfFault};
 use std::alloc::{AllocError, Global};
 use std::test::Fail;
 
-/// A file that is synced and then written over and added to, and one that is created and never synced.
+/// One file that is synced, then overwritten and extended, and another that is created and never
+/// synced.
 const WORKED: [Call; 7] = [
     Call::Create("A.wav"),
     Call::Append("A.wav", &[1, 2, 3, 4]),
@@ -15,7 +16,7 @@ const WORKED: [Call; 7] = [
     Call::Append("B.wav", &[7]),
 ];
 
-/// A file that is synced and then created anew.
+/// A file that is synced and then created again.
 const CREATED: [Call; 4] = [
     Call::Create("A.wav"),
     Call::Append("A.wav", &[1, 2, 3, 4]),
@@ -23,7 +24,7 @@ const CREATED: [Call; 4] = [
     Call::Create("A.wav"),
 ];
 
-/// So it is, and then it is added to.
+/// A file that is synced, created again, and extended.
 const FILLED: [Call; 5] = [
     Call::Create("A.wav"),
     Call::Append("A.wav", &[1, 2, 3, 4]),
@@ -34,22 +35,23 @@ const FILLED: [Call; 5] = [
 
 const BOTH_SYNCED: [Call; 2] = [Call::Sync("A.wav"), Call::Sync("B.wav")];
 
-/// The bytes of `A.wav` and of `B.wav`.
+/// The content of `A.wav` and of `B.wav`.
 type Files = (Option<&'static [u8]>, Option<&'static [u8]>);
 
-/// Whether these are the files of an output.
+/// Whether the output has exactly these files.
 fn has_files(bench: &MemoryBench, want: Files) -> bool {
     (bench.bytes("A.wav"), bench.bytes("B.wav")) == want
 }
 
-/// An output to which these calls were made.
+/// An output after the given calls.
 fn worked(alloc: Global, calls: &[Call]) -> MemoryBench {
     let mut bench = MemoryBench::new(alloc);
     made(&mut bench, calls);
     bench
 }
 
-/// Calls; how many bytes are kept of each that isn't synced, and what the others are; and the files.
+/// Calls, the number of bytes kept of each unsynced call, the fill for the other bytes, and the
+/// expected files.
 type Crash = (&'static [Call], u64, u8, Files);
 
 const CRASHES: [Crash; 11] = [
@@ -70,14 +72,14 @@ const CRASHES: [Crash; 11] = [
         7,
         (Some(&[1, 20, 30, 4, 5, 6]), Some(&[7])),
     ),
-    // a file that is created stays as it was, or is empty
+    // a file created again has its old content or is empty
     (&CREATED, 0, 7, (Some(&[1, 2, 3, 4]), None)),
     (&CREATED, 1, 7, (Some(&[]), None)),
     (&FILLED, 0, 7, (Some(&[7, 7, 3, 4]), None)),
     (&FILLED, 1, 7, (Some(&[8, 7]), None)),
 ];
 
-/// Whether a crash leaves these files, and a bench that counts anew.
+/// Whether a crash leaves the expected files and resets the counters.
 fn leaves(alloc: Global, case: &Crash) -> Result<bool, AllocError> {
     let (calls, kept, fill, want) = *case;
     let bench = worked(alloc, calls).after_crash(kept, fill)?;
@@ -103,7 +105,7 @@ fn what_is_synced_stays(rt: HostRuntime) -> Result<(), Fail> {
     Ok(())
 }
 
-/// Calls behind a crash, of which the last one isn't synced.
+/// Calls after a crash; the last one isn't synced.
 const GONE_ON: [Call; 3] = [
     Call::Append("A.wav", &[8]),
     Call::Sync("A.wav"),
@@ -120,22 +122,22 @@ fn a_bench_goes_on_after_a_crash(rt: HostRuntime) -> Result<(), Fail> {
     Ok(())
 }
 
-/// An output that is stopped.
+/// An interrupted output.
 #[derive(Clone, Copy)]
 struct Stop {
-    /// The calls before, which go well.
+    /// Calls made before, which succeed.
     before: &'static [Call],
-    /// Of those behind them so many go well, and of the next one so many bytes are written.
+    /// Number of successful calls in `behind`, and number of bytes written by the next one.
     at: u64,
     part: u64,
     behind: &'static [Call],
     files: Files,
-    /// The files once it has crashed, where so many bytes are kept of each call that isn't synced.
+    /// Number of bytes kept of each unsynced call in a crash, and the files after it.
     kept: u64,
     left: Files,
 }
 
-/// Nothing goes well behind the fourth call.
+/// Six calls; those after the interruption fail.
 const APPENDED: [Call; 6] = [
     Call::Create("A.wav"),
     Call::Append("A.wav", &[1, 2]),
@@ -147,14 +149,14 @@ const APPENDED: [Call; 6] = [
 
 const SYNCED: [Call; 2] = [Call::Sync("B.wav"), Call::Append("B.wav", &[8])];
 
-/// Zeros are one call, of which the first ones are written.
+/// Appending zeros is one call, which can be interrupted after the first zeros.
 const LAID_OUT: [Call; 3] = [
     Call::Create("A.wav"),
     Call::Append("A.wav", &[1]),
     Call::Zeros("A.wav", 5000),
 ];
 
-/// An append is stopped behind its first byte, and none is kept.
+/// An append, interrupted after one byte that the crash drops.
 const IN_APPEND: Stop = Stop {
     before: &[],
     at: 3,
@@ -165,7 +167,7 @@ const IN_APPEND: Stop = Stop {
     left: (Some(&[1, 2, 0]), None),
 };
 
-/// The creation of a file is stopped once it is there, and is kept.
+/// The creation of a file, interrupted after the file exists; the crash keeps it.
 const IN_CREATE: Stop = Stop {
     before: &[],
     at: 0,
@@ -222,7 +224,8 @@ const STOPS: [Stop; 8] = [
     },
 ];
 
-/// Whether so many calls go well, and these files are left by then and by a crash.
+/// Whether the expected number of calls succeeds and leaves the expected files, before and after a
+/// crash.
 fn stops(alloc: Global, stop: &Stop) -> Result<bool, AllocError> {
     let mut bench = worked(alloc, stop.before).stop_at(stop.at, stop.part);
     let count = made(&mut bench, stop.behind) as u64;

@@ -1,4 +1,5 @@
-// Sources and outputs in a folder of the file system. Each test has a folder of its own, beside where it runs.
+// Sources and outputs in a folder of the file system. Each test has its own folder in the working
+// directory.
 use crate::tests::calls::{Call, Row, made, reads};
 use shelf::{Bench, FolderBench, FolderShelf, Overwrite, Reasons, Shelf, ShelfFault};
 use std::fs;
@@ -6,14 +7,14 @@ use std::io::ErrorKind;
 use std::os::unix::fs::symlink;
 use std::test::Fail;
 
-/// An empty folder.
+/// Creates an empty folder.
 fn fresh_folder(rt: &HostRuntime, folder: &str) -> Result<(), Fail> {
     let _ = fs::remove_dir_all(rt, folder);
     fs::create_dir(rt, folder)?;
     Ok(())
 }
 
-/// A folder with the file `A.wav` of the bytes `abcdef`, a link to it and the folder `in`.
+/// Creates a folder with the file `A.wav` (`abcdef`), a symbolic link to it and the folder `in`.
 fn filled_folder(rt: &HostRuntime, folder: &str) -> Result<(), Fail> {
     fresh_folder(rt, folder)?;
     fs::write(rt, format!(in rt.alloc(); "{folder}/A.wav")?, "abcdef")?;
@@ -22,7 +23,7 @@ fn filled_folder(rt: &HostRuntime, folder: &str) -> Result<(), Fail> {
     Ok(())
 }
 
-/// What is read of it.
+/// Expected reads from the filled folder.
 const READ: [Row; 8] = [
     ("A.wav", 2, Ok(*b"cdef")),
     ("A.wav", 0, Ok(*b"abcd")),
@@ -34,7 +35,7 @@ const READ: [Row; 8] = [
     ("../folder_shelf/A.wav", 0, Err(ShelfFault::Device)),
 ];
 
-/// Names of no file right inside a folder.
+/// Names that denote no file directly in a folder.
 const NO_NAMES: [&str; 8] = [
     "", ".", "..", "/", "../A.wav", "in/B.wav", "A.wav/", "A.wav\0",
 ];
@@ -68,7 +69,7 @@ fn a_folder_shelf_reads_plain_files_inside_it(rt: HostRuntime) -> Result<(), Fai
     Ok(())
 }
 
-/// Whether no call goes well with a name.
+/// Whether every call with this name fails.
 fn all_fail(bench: &mut impl Bench, name: &str) -> bool {
     bench.create(name).is_err()
         & bench.append(name, &[1]).is_err()
@@ -79,7 +80,7 @@ fn all_fail(bench: &mut impl Bench, name: &str) -> bool {
         & (bench.read_at(name, 0, &mut []) == Err(ShelfFault::Device))
 }
 
-/// Whether none does with any of these names, nor with a folder.
+/// Whether every call fails with each of these names and with a folder.
 fn writes_none(bench: &mut impl Bench) -> bool {
     let mut writes_none = all_fail(bench, "in");
     for name in &NO_NAMES {
@@ -88,7 +89,7 @@ fn writes_none(bench: &mut impl Bench) -> bool {
     writes_none
 }
 
-/// Calls that go well in an empty folder.
+/// Calls that succeed in an empty folder.
 const WRITTEN: [Call; 7] = [
     Call::Create("B.wav"),
     Call::Append("B.wav", &[1, 2, 3]),
@@ -99,7 +100,7 @@ const WRITTEN: [Call; 7] = [
     Call::Sync("B.wav"),
 ];
 
-/// Calls on a file that isn't there, and outside one that is.
+/// Calls on a missing file, and outside of an existing one.
 const OUTSIDE: [Call; 5] = [
     Call::Append("C.wav", &[]),
     Call::Zeros("C.wav", 1),
@@ -131,7 +132,7 @@ fn a_folder_bench_writes_nowhere_else(rt: HostRuntime) -> Result<(), Fail> {
     Ok(())
 }
 
-/// What may not be done to a file that is there, to a folder and through a link.
+/// Forbidden calls on an existing file, on a folder and through a link.
 const REPLACED: [Call; 4] = [
     Call::Create("in"),
     Call::Append("link.wav", &[1]),
@@ -139,14 +140,13 @@ const REPLACED: [Call; 4] = [
     Call::Create("A.wav"),
 ];
 
-/// An output that may be replaced, and yet no folder or link.
+/// Calls that are forbidden even if files may be replaced: on a folder and through a link.
 const FOLLOWED: [Call; 3] = [
     Call::Create("in"),
     Call::Append("link.wav", &[1]),
     Call::Create("link.wav"),
 ];
 
-/// Whether the last failure has this reason.
 fn has_reason(bench: &impl Reasons, kind: ErrorKind) -> bool {
     match bench.reason() {
         Some(reason) => reason.error.kind() == kind,
@@ -154,8 +154,8 @@ fn has_reason(bench: &impl Reasons, kind: ErrorKind) -> bool {
     }
 }
 
-/// Whether none of these calls goes well over a file, a link to it and a folder, the last one for this reason, and the file
-/// stays as it is.
+/// Whether every call fails on a file, a link to it and a folder, the last call for the given
+/// reason, and the file is unchanged.
 fn stays(
     rt: &HostRuntime,
     overwrite: Overwrite,
@@ -176,7 +176,7 @@ fn no_file_is_replaced_and_no_link_followed(rt: HostRuntime) -> Result<(), Fail>
     Ok(())
 }
 
-/// Three appends, of which the second may break off for want of room.
+/// Three appends; the second one may run out of disk space.
 const APPENDED: [Call; 4] = [
     Call::Create("A.wav"),
     Call::Append("A.wav", &[1, 2, 3, 4]),
@@ -184,7 +184,7 @@ const APPENDED: [Call; 4] = [
     Call::Append("A.wav", &[9]),
 ];
 
-// The tests of the built program run this again on a disk with little room.
+// The end-to-end tests run this again on a nearly full disk.
 #[test]
 fn appends_go_on_behind_what_is_there(rt: HostRuntime) -> Result<(), Fail> {
     fresh_folder(&rt, "folder_appends")?;

@@ -1,4 +1,4 @@
-// Marks of a rendering over outputs in memory.
+// Marks of a rendering in memory.
 use markfile::{MarkFault, MarkedFile, RunId, mark, mark_all, open_marks, start};
 use shelf::{Bench, MemoryBench};
 use std::alloc::Global;
@@ -11,20 +11,20 @@ const RUN: RunId = RunId {
     length: 3,
 };
 
-/// The same of another list.
+/// The same rendering for another list.
 const OTHER: RunId = RunId {
     digest: [8; 32],
     blocks: 6,
     length: 3,
 };
 
-/// The bytes before the marks of the blocks: the gate, what the file is, the run, and how many blocks it has.
+/// The bytes before the block marks: the gate, the signature, the run, and the number of blocks.
 const FRONT: [u8; 44] = [
     1, b'A', b'D', b'L', b'M', b'R', b'K', b'1', 9, 9, 9, 9, 9, 9, 9, 9, 9, 9, 9, 9, 9, 9, 9, 9, 9,
     9, 9, 9, 9, 9, 9, 9, 9, 9, 9, 9, 9, 9, 9, 9, 6, 0, 0, 0,
 ];
 
-/// Whether the marks are those of the run, with these of its blocks.
+/// Whether the marks belong to the run and have the given block marks.
 fn are_marks(bench: &MemoryBench, blocks: &[u8]) -> bool {
     let Some(bytes) = bench.bytes("render.marks") else {
         return false;
@@ -32,7 +32,7 @@ fn are_marks(bench: &MemoryBench, blocks: &[u8]) -> bool {
     (bytes.get(..44) == Some(FRONT.as_slice())) & (bytes.get(44..) == Some(blocks))
 }
 
-/// Which blocks are marked, where marks are found.
+/// The marked blocks, none if there are no marks.
 fn found(alloc: Global, bench: &mut MemoryBench, run: &RunId) -> Result<[bool; 6], MarkFault> {
     let Some(marks) = open_marks(alloc, bench, run)? else {
         return Ok([false; 6]);
@@ -63,7 +63,7 @@ const FAILED: Result<(), MarkFault> = Err(MarkFault::Device {
     file: MarkedFile::Marks,
 });
 
-/// Whether this call of the device fails the start of marks or the mark of a block, at the marks.
+/// Whether a failure of this call is reported at the marks.
 fn fails_at(alloc: Global, call: u64) -> bool {
     let mut bench = MemoryBench::new(alloc).failing(call, 1);
     let started = start(alloc, &mut bench, &RUN);

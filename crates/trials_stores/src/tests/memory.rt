@@ -1,4 +1,4 @@
-// The stores in memory and of zeros, and a function over any bench.
+// The stores in memory and of zeros, and a function over any output.
 ghost use Rattle.std.specs.Prelude.{IsTrue, OnOk};
 ghost use Rattle.work_terms.specs.Disk.{Changes, IsDurable};
 ghost use Rattle.shelf.specs.Files.{IsPut};
@@ -7,7 +7,7 @@ use crate::tests::calls::{Call, Row, made, reads};
 use shelf::{Bench, DeviceFault, MemoryBench, MemoryShelf, Shelf, ShelfFault, ZeroShelf};
 use std::test::Fail;
 
-/// Puts a file on the disk.
+/// Creates a file with the given content and syncs it.
 fn put_file<B: Bench>(bench: &mut B, name: &str, bytes: &[u8]) -> Result<(), DeviceFault>
     ensures put { IsTrue (B.honest bench.old)
         → OnOk result (Changes (IsPut bytes.now) name.now (B.stored bench.old) (B.stored bench.new)) }
@@ -19,7 +19,7 @@ fn put_file<B: Bench>(bench: &mut B, name: &str, bytes: &[u8]) -> Result<(), Dev
     bench.sync(name)
 }
 
-/// What is read of a file of the bytes 10 to 15.
+/// Expected reads from a file with the bytes 10 to 15.
 const READ: [Row; 6] = [
     ("A.wav", 2, Ok([12, 13, 14, 15])),
     ("A.wav", 0, Ok([10, 11, 12, 13])),
@@ -57,10 +57,10 @@ fn a_later_file_replaces_an_earlier_one_and_chosen_calls_fail(rt: HostRuntime) -
     Ok(())
 }
 
-/// The length of a file that no memory holds.
+/// The length of a file too long for memory.
 const LONG: u64 = 10_000_000_000_000;
 
-/// What is read of a file of this length that begins with the bytes 10 to 15.
+/// Expected reads from a file of this length that begins with the bytes 10 to 15.
 const ZEROS: [Row; 8] = [
     ("A.wav", 0, Ok([10, 11, 12, 13])),
     ("A.wav", 2, Ok([12, 13, 14, 15])),
@@ -92,14 +92,14 @@ fn a_head_longer_than_its_file_is_the_file(rt: HostRuntime) -> Result<(), Fail> 
     Ok(())
 }
 
-/// Calls that add to a file and write over it.
+/// Calls that extend and overwrite a file.
 const WRITTEN: [Call; 3] = [
     Call::Append("A.wav", &[4, 5]),
     Call::Zeros("A.wav", 2),
     Call::Write("A.wav", 1, &[20, 30]),
 ];
 
-/// Calls on a file that isn't there, or outside one that is.
+/// Calls on a missing file, or outside of an existing one.
 const OUTSIDE: [Call; 5] = [
     Call::Append("B.wav", &[1]),
     Call::Zeros("B.wav", 1),
