@@ -1,4 +1,4 @@
--- Groups whose flat pieces are cut in two sound as before, and read no more.
+-- Cutting flat pieces keeps the sound of the groups and reads no additional samples.
 use Rattle.std.proofs.Common.{◌≡◌, ◌∙◌, ℕ, ◌+◌, ◌-◌, ◌<◌, ◌≤◌, Bool, true, false, List, [], ◌∷◌, ◌++◌, refl, sym, ap, arith, All}
 use Rattle.std.specs.Prelude.{pos, ◌+ℤ◌, ◌&&◌, ◌||◌, ◌==◌, nat_le, nat_lt, if◌then◌else◌}
 use Rattle.std.specs.List.{flat_map, list_all}
@@ -16,7 +16,7 @@ use Rattle.sound_terms.specs.OrderLaws.{mix_total, read_by, reads_total, sum_at,
 use Rattle.sound_terms.specs.Passes.{is_flat}
 use Rattle.trials_lists.specs.FlatCut.{behind, flat_cut, front}
 
--- a time inside a flat piece, n samples behind its start
+-- a time within a flat piece, after its start
 record IsCut (time : ℕ) (p : Piece) : Type 0 where
   flat : p.shape ≡ Flat
   begun : p.start < time
@@ -27,7 +27,7 @@ flat_is Flat e = refl
 flat_is (Rise offset den) e = cc
 flat_is (Fall offset den) e = cc
 
--- what is so of a group that stays, and of one that is cut, is so of every one
+-- a property of unchanged groups and of cut groups holds for every group
 by_cut : (time : ℕ) (P : List Piece → List (List Piece) → Type 0)
     → ((group : List Piece) → P group (group ∷ []))
     → ((p : Piece) → IsCut time p
@@ -49,7 +49,7 @@ by_cut time P stays cut (p ∷ []) =
       by_test true false c flat begun left = stays (p ∷ [])
       by_test false b c flat begun left = stays (p ∷ [])
 
--- what all groups give together
+-- totals over all groups
 module _ {A : Type 0} (add : A → A → A) (none : A) (value : List Piece → A) where
   abbrev Halves : ℕ → Type 0
   Halves time = (p : Piece) → IsCut time p → (rest : A)
@@ -65,14 +65,14 @@ module _ {A : Type 0} (add : A → A → A) (none : A) (value : List Piece → A
       (λ own. refl) (λ p is. halves p is (total add none value (flat_map (flat_cut time) groups))) group
       ∙ ap (add (value group)) (total_cut time halves groups)
 
-  -- such a total is what it was
+  -- cutting doesn't change such a total
   kept_total : (time : ℕ) → Halves time → (whole : List (List Piece) → A)
       → ((groups : List (List Piece)) → whole groups ≡ total add none value groups)
       → (groups : List (List Piece)) → whole (flat_map (flat_cut time) groups) ≡ whole groups
   kept_total time halves whole is groups =
       is (flat_map (flat_cut time) groups) ∙ total_cut time halves groups ∙ sym (is groups)
 
--- a flat piece as its first n samples and the m behind them
+-- a flat piece as its first n samples and the m samples after them
 module _ (p : Piece) (n m : ℕ) (flat : p.shape ≡ Flat) (both : p.length ≡ n + m) where
   part_halves : (r : Reading) (channel time : ℕ) → part_of r p channel time
       ≡ part_of r (front n p) channel time

@@ -1,5 +1,5 @@
-//! Tests of lists: their tokens, copies of their projects, pieces of their media, consolidations by any passes, works by
-//! the events of any workers, and works whose stores fail or stop at a chosen call, each call in turn.
+//! Tests of lists: tokens, copies of projects, pieces of media, consolidations with various passes,
+//! schedules of many workers, and runs whose stores fail or stop at each call in turn.
 #![tactic(auto)]
 
 #[cfg(test)]

@@ -1,4 +1,4 @@
-// Lists, what is made of them, and how that ends where a call of a store fails.
+// Tests of lists and of runs over them, including runs with failing stores.
 mod consolidations;
 mod copies;
 mod failing_devices;

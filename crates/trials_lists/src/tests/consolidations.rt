@@ -1,4 +1,4 @@
-// Consolidations of files in memory, by lists of passes.
+// Consolidations of files in memory with various passes.
 use crate::tests::flat_cut::FlatCut;
 use adlmodel::Project;
 use adlread::read;
@@ -10,7 +10,7 @@ use std::test::Fail;
 use trials_projects::lists::{FADED, list};
 use trials_projects::media::{head, silent_middle};
 
-/// Adds the pass of a letter.
+/// Adds the pass denoted by a letter.
 fn push_pass(alloc: Global, letter: u8, passes: &mut Vec<Box<dyn Pass>>) -> Result<(), AllocError> {
     match letter {
         b's' => passes.push(Box::new(alloc, SplitFades)?)?,
@@ -22,7 +22,7 @@ fn push_pass(alloc: Global, letter: u8, passes: &mut Vec<Box<dyn Pass>>) -> Resu
     Ok(())
 }
 
-/// The passes of these letters.
+/// The passes denoted by the letters.
 fn passes_of(alloc: Global, letters: &[u8]) -> Result<Vec<Box<dyn Pass>>, AllocError> {
     let mut passes: Vec<Box<dyn Pass>> = Vec::new(alloc);
     for letter in letters {
@@ -31,7 +31,7 @@ fn passes_of(alloc: Global, letters: &[u8]) -> Result<Vec<Box<dyn Pass>>, AllocE
     Ok(passes)
 }
 
-/// Consolidates the entry without handles, by these passes.
+/// Consolidates the entry without handles, with the given passes.
 fn written(alloc: Global, letters: &[u8], bench: &mut MemoryBench) -> Result<Written, Fail> {
     let mut shelf = MemoryShelf::new(alloc).with_file("A.wav", silent_middle(alloc)?.as_slice())?;
     let text = list(alloc, FADED)?;
@@ -39,7 +39,7 @@ fn written(alloc: Global, letters: &[u8], bench: &mut MemoryBench) -> Result<Wri
     Ok(consolidate(alloc, text.as_bytes(), 0, passes, &mut shelf, bench)?)
 }
 
-/// How many frames of 4 bytes the media have, of which there are three at most; behind the last one none.
+/// The numbers of sample frames (4 bytes each) in up to three media; 0 for missing ones.
 fn frames_of(alloc: Global, bench: &MemoryBench) -> Result<[usize; 3], Fail> {
     let head = head(alloc, 2, 12)?.len();
     let frames = |name| match bench.bytes(name) {
@@ -53,7 +53,7 @@ fn frames_of(alloc: Global, bench: &MemoryBench) -> Result<[usize; 3], Fail> {
     ])
 }
 
-/// Where the entries of a project begin, and how long they are.
+/// The start and the length of each entry of a project.
 fn spans_of(alloc: Global, project: &Project) -> Result<Vec<(u64, u64)>, AllocError> {
     let mut spans = Vec::new(alloc);
     for event in project.events() {
@@ -63,13 +63,14 @@ fn spans_of(alloc: Global, project: &Project) -> Result<Vec<(u64, u64)>, AllocEr
     Ok(spans)
 }
 
-/// So they are in the list that was written.
+/// The start and the length of each entry of the list that was written.
 fn entries_of(alloc: Global, bench: &MemoryBench) -> Result<Vec<(u64, u64)>, Fail> {
     let text = bench.bytes("consolidated.adl").ok_or("no list")?;
     Ok(spans_of(alloc, &read(alloc, text)?)?)
 }
 
-/// Passes by their letters; how many frames each medium has, and where the entries begin and how long they are.
+/// Passes by letter, the expected number of sample frames per medium, and the expected starts and
+/// lengths of entries.
 type Case = (&'static [u8], [usize; 3], &'static [(u64, u64)]);
 
 const CASES: [Case; 7] = [
@@ -78,7 +79,7 @@ const CASES: [Case; 7] = [
     (b"s", [12, 0, 0], &[(0, 4), (4, 4), (8, 4)]),
     (b"sd", [4, 4, 0], &[(0, 4), (8, 4)]),
     (b"sdjr", [4, 4, 0], &[(0, 4), (8, 4)]),
-    // a pass of a caller's own cuts the middle in two, and the fades go with both parts
+    // a custom pass cuts the middle in two, and each fade joins one part
     (b"sc", [12, 0, 0], &[(0, 4), (4, 2), (6, 2), (8, 4)]),
     (b"scr", [12, 0, 0], &[(0, 6), (6, 6)]),
 ];

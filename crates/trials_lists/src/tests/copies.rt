@@ -1,4 +1,4 @@
-// Projects that are copied, and made anew of their parts.
+// Projects that are copied, or rebuilt from their parts.
 use adlmodel::{Project, Sources};
 use adlread::read;
 use adlwrite::{text_of, write};
@@ -7,10 +7,9 @@ use std::alloc::Global;
 use std::test::Fail;
 use trials_projects::lists::list_of;
 
-/// The name of a list.
 const LIST: &str = "copy.adl";
 
-/// A list of all sections that are kept, in the form in which it is written.
+/// A list with all sections that are kept, in the form in which lists are written.
 const WRITTEN: &str = "<ADL>\r
 <VERSION>\r
 (ADL_ID) \"1234\"\r
@@ -43,12 +42,12 @@ const SHARED_FILE: &str = "(Index) 1 (F) \"URL:file://localhost/A.wav\" _ 00.00.
 (Index) 2 (F) \"URL:file://localhost/A.wav\" _ 01.00.00.00/0000 _
 ";
 
-/// An entry of each.
+/// Two entries, one for each index.
 const OF_EACH: &str = "(Entry) 1 (Cut) I 1 1 1 00.00.00.00/0100 01.00.00.00/0000 01.00.00.00/0200
 (Entry) 2 (Cut) I 2 1 1 01.00.00.00/0200 02.00.00.00/0000 02.00.00.00/0200
 ";
 
-/// Whether `write` leaves this text of a project on a bench.
+/// Whether `write` produces this text for a project.
 fn is_written(alloc: Global, project: &Project, text: &[u8]) -> Result<bool, Fail> {
     let mut bench = MemoryBench::new(alloc);
     bench.create(LIST)?;
@@ -56,19 +55,18 @@ fn is_written(alloc: Global, project: &Project, text: &[u8]) -> Result<bool, Fai
     Ok(bench.bytes(LIST) == Some(text))
 }
 
-/// Whether the project of the same parts, with its header, has this text.
+/// Whether a project rebuilt from the same parts, with its header, has this text.
 fn is_made_anew(alloc: Global, project: &Project, text: &[u8]) -> Result<bool, Fail> {
     let sources = Sources::from_slice(alloc, project.sources().as_slice())?;
     let events = Vec::from_slice(alloc, project.events())?;
     is_written(alloc, &project.with(sources, events)?, text)
 }
 
-/// Whether its copy has this text.
 fn is_copied(alloc: Global, project: &Project, text: &[u8]) -> Result<bool, Fail> {
     is_written(alloc, &project.try_copy()?, text)
 }
 
-/// Whether a project, its copy and the project of the same parts have the same text.
+/// Whether a project, its copy and its rebuilt copy have the same text.
 fn are_same(alloc: Global, project: &Project) -> Result<bool, Fail> {
     let text = text_of(alloc, project)?;
     let text = text.as_slice();

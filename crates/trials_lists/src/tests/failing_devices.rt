@@ -1,4 +1,5 @@
-// Each call of the sources and of the output fails in turn: once, twice in a row, and three times.
+// Failure of each call on the sources and the output in turn: once, twice in a row, and three
+// times.
 use crate::tests::works::{
     CONSOLIDATED as TEXT, CONSOLIDATED_BY_EVENTS, Call, Job, RENDERED_BY_EVENTS,
 };
@@ -11,17 +12,17 @@ use std::alloc::Global;
 use std::process::Abort;
 use std::test::Fail;
 
-/// How a work ends.
+/// Outcome of a run.
 #[derive(Clone, Copy, Debug, PartialEq, Eq)]
 enum Ended {
     Done,
-    /// Refused for the source, which can't be opened: 22.
+    /// The source can't be opened (refusal 22).
     Unread,
-    /// Refused for the source, which can't be asked for silence, or read for a report: 52.
+    /// The source can't be read for silence or for a report (refusal 52).
     Unheard,
-    /// Refused for an output that can't be written: 62.
+    /// An output can't be written (refusal 62).
     Unwritten(OutputFile),
-    /// Refused for a job that failed three times: 66.
+    /// A job failed three times (refusal 66).
     GivenUp(u32),
     Otherwise(u8),
 }
@@ -56,7 +57,8 @@ impl Ended {
         }
     }
 
-    /// Whether that is what stands on the bench: all files or none, and no list beside unfinished media.
+    /// Whether the output agrees with the outcome: all files or none, and no list with unfinished
+    /// media.
     fn agrees(self, job: &Job, bench: &MemoryBench) -> bool {
         match self {
             Ended::Done => job.is_whole(bench),
@@ -67,21 +69,21 @@ impl Ended {
     }
 }
 
-/// What a call of a device is for.
+/// Purpose of a call on a device.
 #[derive(Clone, Copy)]
 enum Part {
-    /// It opens the source.
+    /// Opening the source.
     Open,
-    /// It looks for silence.
+    /// Reading for silence.
     Hear,
-    /// It makes this file, or lays it out, or syncs it.
+    /// Creating, preallocating or syncing this file.
     Write(OutputFile),
-    /// It is a part of this job.
+    /// Part of this job.
     Job(u32),
 }
 
 impl Part {
-    /// How a work ends where so many calls fail, from this one on.
+    /// The outcome if `times` calls fail from this one on.
     fn ended(self, times: u64) -> Ended {
         match self {
             Part::Open => Ended::Unread,
@@ -92,7 +94,7 @@ impl Part {
         }
     }
 
-    /// How many of them are made: outside a job the first one ends all.
+    /// The number of calls that fail: outside of jobs the first failure ends the run.
     fn failures(self, times: u64) -> u64 {
         match self {
             Part::Job(_) => times,
@@ -115,21 +117,21 @@ const REPORT: Part = Part::Write(OutputFile::Report);
 
 const LIST: Part = Part::Write(OutputFile::List);
 
-/// So many calls in a row are for a part.
+/// A number of consecutive calls with the same purpose.
 type Calls = (u64, Part);
 
-/// The calls of the sources of a rendering: its list is opened, and each job reads a block.
+/// Calls on the sources of a rendering: the list is opened, and each job reads a block.
 const OPENED: [Calls; 1] = [(5, Part::Open)];
 
 const OPENED_AND_READ: [Calls; 2] = [(5, Part::Open), (1, Part::Job(0))];
 
 const REST_READ: [Calls; 2] = [(1, Part::Job(1)), (1, Part::Job(2))];
 
-/// The calls of its output: the file is made, laid out and synced, then its marks are, the gate of which is opened last.
-/// The first block is written and synced, and then marked.
+/// Calls on its output: the file is created, preallocated and synced, then the marks, whose gate is
+/// opened last. The first block is written and synced, and then marked.
 const BEGUN: [Calls; 4] = [(4, RENDERING), (8, MARKS), (2, Part::Job(0)), (2, MARKS)];
 
-/// So are the other blocks; at the end both files are synced.
+/// The other blocks are written and marked in the same way; at the end both files are synced.
 const REST_RENDERED: [Calls; 6] = [
     (2, Part::Job(1)),
     (2, MARKS),
@@ -139,21 +141,23 @@ const REST_RENDERED: [Calls; 6] = [
     (1, MARKS),
 ];
 
-/// Where it goes on behind its first block, both files are asked for their lengths and synced, and the marks are read.
+/// Calls of a resumed rendering after its first block: the lengths of both files are queried, both
+/// files are synced, and the marks are read.
 const RESUMED: [Calls; 2] = [(2, RENDERING), (4, MARKS)];
 
-/// The calls of the sources of a consolidation: its list is opened, and both fades and what lies between them are asked
-/// for silence, in one read.
+/// Calls on the sources of a consolidation: the list is opened, and both fades and the part between
+/// them are read for silence at once.
 const HEARD: [Calls; 2] = [(5, Part::Open), (1, Part::Hear)];
 
-/// Where a report is asked for, the frames of the first medium are read for it, then the length and the bytes of the
-/// source as a whole, and then the frames of the second.
+/// Calls on the sources with a report: in addition, the samples of the first medium are read, then
+/// length and content of the whole source, and then the samples of the second medium.
 const HEARD_TWICE: [Calls; 2] = [(5, Part::Open), (5, Part::Hear)];
 
-/// Each job reads its frames.
+/// Calls on the sources by the jobs: each reads its samples.
 const FRAMES_READ: [Calls; 2] = [(1, Part::Job(0)), (1, Part::Job(1))];
 
-/// The calls of its output: both media are made and laid out, their pieces are written, and they are synced.
+/// Calls on the output: both media are created and preallocated, their pieces are written, and they
+/// are synced.
 const MEDIA: [Calls; 6] = [
     (3, FIRST),
     (3, SECOND),
@@ -163,19 +167,21 @@ const MEDIA: [Calls; 6] = [
     (1, SECOND),
 ];
 
-/// Then the list is made, written and synced, behind the checksums and the report if there are any.
+/// Calls after the media: the list is created, written and synced, after the checksums and the
+/// report if requested.
 const LISTED: [Calls; 1] = [(3, LIST)];
 
 const REPORTED: [Calls; 3] = [(3, SUMS), (3, REPORT), (3, LIST)];
 
-/// A device whose calls fail.
+/// A device with failing calls.
 #[derive(Clone, Copy, Debug)]
 enum Device {
     Sources,
     Output,
 }
 
-/// Does a job over a device of whose calls so many fail behind so many; tells how it ended, and how many failed.
+/// Runs a job with `times` failing calls of a device after `from` calls. Returns the outcome and
+/// the number of failures.
 fn fail(
     rt: &impl Abort,
     job: &Job,
@@ -194,7 +200,8 @@ fn fail(
     Ok((ended, shelf.failures().saturating_add(bench.failures())))
 }
 
-/// Fails each of these calls of a device of a job, the first of so many in a row; tells how many are made by then.
+/// Lets each of these calls be the first of `times` failing ones. Returns the number of calls so
+/// far.
 fn fail_each(
     rt: &impl Abort,
     job: &Job,
@@ -215,7 +222,8 @@ fn fail_each(
     Ok(from)
 }
 
-/// Fails each call of a device of a job, which are these and no others: once, twice in a row, and three times.
+/// Lets each call of a device fail, once, twice in a row, and three times. Checks that exactly
+/// these calls are made.
 fn fail_all(
     rt: &impl Abort,
     job: &Job,
@@ -265,8 +273,8 @@ fn each_call_of_a_consolidation_with_a_report_fails(rt: HostRuntime) -> Result<(
     fail_all(&rt, &job, Device::Output, &MEDIA, &REPORTED)
 }
 
-/// Writes the list where a call of its output fails behind so many. Tells whether none does; then all of it stands there,
-/// and else a part.
+/// Writes the list with a failing call after `from` calls. Returns whether no call failed; the file
+/// then has the whole list, otherwise a part.
 fn is_written(alloc: Global, project: &Project, from: u64) -> Result<bool, Fail> {
     let mut bench = MemoryBench::new(alloc).failing(from, 1);
     bench.create("a.adl")?;
@@ -290,7 +298,7 @@ fn each_part_of_a_list_fails(rt: HostRuntime) -> Result<(), Fail> {
     let project = read(rt.alloc(), TEXT)?;
     for from in 1..1_000 {
         if is_written(rt.alloc(), &project, from)? {
-            // a part at least for each line
+            // at least one call per line
             assert!(rt; from > 18, "{from}");
             return Ok(());
         }

@@ -1,11 +1,12 @@
-// Renderings by the events of several workers, as they are worked out by hand.
+// Renderings by the events of several workers, with outcomes worked out by hand.
 use crate::tests::works::{BLOCK, Call, Job, round, rounds};
 use consolidate::{BoardEvent, Progress};
 use std::alloc::{AllocError, Global};
 use std::process::Abort;
 use std::test::Fail;
 
-/// The first job is taken back from the first worker, the second one delivers it, and the first does the others.
+/// The first job is reclaimed from the first worker and delivered by the second; the first worker
+/// does the rest.
 const TAKEN_BACK: [BoardEvent; 13] = [
     BoardEvent::Give(1),
     BoardEvent::Reclaim(0),
@@ -22,7 +23,7 @@ const TAKEN_BACK: [BoardEvent; 13] = [
     BoardEvent::Deliver(1),
 ];
 
-/// Three workers make a block each, and then one does all that is open.
+/// Three workers render one block each, and then one worker does all open jobs.
 fn three_at_once(alloc: Global) -> Result<Vec<BoardEvent>, AllocError> {
     let mut events = Vec::new(alloc);
     for worker in 1..4 {
@@ -52,8 +53,8 @@ fn a_block_that_was_taken_back_is_delivered_twice(rt: HostRuntime) -> Result<(),
     Ok(())
 }
 
-/// Goes on with a rendering whose first job was taken back from its worker and delivered by another: no sample of the block
-/// is read again.
+/// Resumes a rendering whose first job was reclaimed and delivered by another worker: the samples
+/// of that block aren't read again.
 fn goes_on(rt: &impl Abort, job: &Job) -> Result<(), Fail> {
     let mut shelf = job.recorded()?;
     let mut bench = job.bench()?;
@@ -72,7 +73,7 @@ fn a_rendering_goes_on_behind_its_events(rt: HostRuntime) -> Result<(), Fail> {
     goes_on(&rt, &Job::new(rt.alloc(), Call::Render)?)
 }
 
-/// How often these events read samples, and between which of their bytes.
+/// The number of reads of samples during these events, and the range of bytes read.
 fn read_by(job: &Job, events: &[BoardEvent]) -> Result<(u32, Option<(u64, u64)>), Fail> {
     let mut shelf = job.recorded()?;
     let mut bench = job.bench()?;
@@ -91,8 +92,8 @@ fn only_work_reads_samples(rt: HostRuntime) -> Result<(), Fail> {
     Ok(())
 }
 
-/// Whether these events end a rendering of 200 blocks, whole, where three calls of the sources fail behind so many: it is
-/// refused where these are calls that open its list.
+/// Whether these events complete a rendering of 200 blocks if three source calls fail after `from`
+/// calls. The rendering is refused if the failing calls belong to opening the list.
 fn is_done_behind(
     rt: &impl Abort,
     job: &Job,
@@ -115,7 +116,7 @@ fn three_blocks_of_many_that_fail_once_are_made_again(rt: HostRuntime) -> Result
     let events = three_at_once(rt.alloc())?;
     let job = Job::of_many_blocks(rt.alloc())?;
     for from in 0..100 {
-        // the first three calls that don't fail the opening of the list are those of the three workers
+        // the first three calls after the list is open are made by the three workers
         if is_done_behind(&rt, &job, events.as_slice(), from)? {
             return Ok(());
         }

@@ -1,4 +1,4 @@
-// A pass of a caller's own, which cuts flat groups at a time.
+// A custom pass that cuts flat groups at a time.
 ghost use Rattle.std.specs.Prelude.{◌≡◌, ◌++◌, ◌∷◌, [], false, MatchOption, IfOk, IfSome, OnOk};
 ghost use Rattle.std.specs.List.{flat_map};
 ghost use Rattle.sound_terms.specs.Groups.{IsPiece};
@@ -8,13 +8,13 @@ use groups::{Group, Intervals, Piece, Shape, group_pieces};
 use passes::{Pass, PassFault};
 use std::alloc::{AllocError, Global};
 
-/// Cuts each group of one flat piece that goes on over a time in two.
+/// Pass that cuts each group of one flat piece at a time.
 #[derive(Drop)]
 pub(crate) struct FlatCut {
     pub(crate) time: u64,
 }
 
-/// What a group is cut into, where it is one flat piece over this time.
+/// The two halves of a group that is one flat piece across the time.
 fn halves(time: u64, group: &Group) -> Option<(Piece, Piece)>
     ensures cut { MatchOption result (spec.flat_cut time group.now ≡ group.now ∷ [])
         (λ halves. spec.flat_cut time group.now ≡ (halves.0 ∷ []) ∷ (halves.1 ∷ []) ∷ []) }
@@ -43,7 +43,7 @@ fn halves(time: u64, group: &Group) -> Option<(Piece, Piece)>
     }
 }
 
-/// Adds what a group is cut into.
+/// Adds a group, cut if possible.
 fn push_cut(time: u64, group: Group, groups: &mut Vec<Group>) -> Result<(), AllocError>
     ensures { OnOk result (groups.new.items ≡ groups.old.items ++ spec.flat_cut time group) }
 {
@@ -58,7 +58,7 @@ fn push_cut(time: u64, group: Group, groups: &mut Vec<Group>) -> Result<(), Allo
     Ok(())
 }
 
-/// The groups, each flat one cut in two.
+/// All groups, cut if possible.
 fn cut(time: u64, alloc: Global, intervals: Intervals) -> Result<Vec<Group>, AllocError>
     ensures { IfOk result (λ groups. groups.items ≡ flat_map (spec.flat_cut time) intervals) }
 {

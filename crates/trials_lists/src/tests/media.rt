@@ -1,4 +1,4 @@
-// Pieces of media: copied, and what a source or a medium that fails leaves.
+// Copies of pieces of media, including failures of the source or the medium.
 use adlread::read;
 use mediacopy::{CopyFault, CopyJob, copy_piece, is_piece, lay_out, length_of, medium_name};
 use mediaset::Run;
@@ -14,7 +14,7 @@ use wavwrite::{Bext, Depth, SoundInfo, fits};
 const ENTRY: &str = "(Entry) 1 (Cut) I 1 1 1 00.00.00.00/0000 01.00.00.00/0000 01.00.00.00/0010
 ";
 
-/// Runs of the file, of which the second has five frames from the third on.
+/// Runs of the file; the second has five samples from the third on.
 const RUNS: [Run; 2] = [
     Run {
         file: 0,
@@ -28,14 +28,14 @@ const RUNS: [Run; 2] = [
     },
 ];
 
-/// The three frames in the middle of the second.
+/// The three middle samples of the second run.
 const MIDDLE: CopyJob = CopyJob {
     run: 1,
     from: 1,
     frames: 3,
 };
 
-/// A mono file of 16 bits with ten frames: the bytes of the samples are 1 to 20.
+/// A 16-bit mono file of ten samples with the bytes 1 to 20.
 fn source(alloc: Global) -> Result<MemoryShelf, Fail> {
     let mut file = b"RIFF\x38\0\0\0WAVE\
         fmt \x10\0\0\0\x01\0\x01\0\x80\xbb\0\0\0\x77\x01\0\x02\0\x10\0data\x14\0\0\0"
@@ -103,8 +103,8 @@ fn has_samples(bench: &MemoryBench, before: &MemoryBench, samples: &[u8; 10]) ->
         && medium.iter().take(690).eq(blank.iter().take(690))
 }
 
-/// How many bytes are written before the medium fails, if it does; whether the source fails; the answer, and the samples
-/// of the medium.
+/// Number of bytes written before the medium fails, if it does; whether the source fails; the
+/// result, and the samples of the medium.
 type Case = (Option<u64>, bool, Result<(), CopyFault>, [u8; 10]);
 
 const CASES: [Case; 4] = [
@@ -119,7 +119,7 @@ const CASES: [Case; 4] = [
     ),
 ];
 
-/// Whether the piece is copied so.
+/// Whether copying the piece has the expected result.
 fn is_copied_so(
     rt: &impl Abort,
     alloc: Global,

@@ -1,10 +1,11 @@
-// Works that find memory for all, or else are refused. The tests of the built program run these again, with each
-// allocation failing in turn.
+// Runs that either get all their memory or are refused. The end-to-end tests repeat these runs with
+// each allocation failing in turn.
 use crate::tests::works::{CONSOLIDATED_BY_EVENTS, Job, RENDERED_BY_EVENTS};
 use consolidate::Fault;
 use std::test::Fail;
 
-/// Does a work: `None` where it is done, and else the number of its refusal, where nothing was written by then.
+/// Runs a job. Returns the refusal number, or `None` if it is done. A refused run must have written
+/// nothing.
 fn refusal(job: &Job) -> Result<Option<u8>, Fail> {
     let mut shelf = job.shelf(0, 0)?;
     let mut bench = job.bench()?;
@@ -16,7 +17,7 @@ fn refusal(job: &Job) -> Result<Option<u8>, Fail> {
         };
     };
     let number = fault.number();
-    // a worker's memory is taken as it comes, and the bench takes memory for what it is given
+    // workers allocate late, and the output allocates for its content
     let is_late = matches!(
         fault,
         Fault::WorkerMemory | Fault::BlockMemory | Fault::Output(_)
@@ -28,7 +29,7 @@ fn refusal(job: &Job) -> Result<Option<u8>, Fail> {
     }
 }
 
-/// Does a work, and prints the number of its refusal.
+/// Runs a job and prints its refusal number, if any.
 fn tell(rt: &HostRuntime, job: &Job) -> Result<(), Fail> {
     if let Some(number) = refusal(job)? {
         println!(rt; "refused {number}")?;

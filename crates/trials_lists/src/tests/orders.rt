@@ -1,4 +1,4 @@
-// Works whose jobs go by time and by source.
+// Runs with jobs in order of time and in order of source.
 ghost use Rattle.rendering.specs.Rendering.{HaveChannels};
 
 use crate::tests::works::round;
@@ -10,19 +10,20 @@ use std::test::Fail;
 use trials_projects::lists::list;
 use trials_projects::media::head;
 
-/// The frames of a block.
+/// Sample frames per block.
 const BLOCK: usize = 4_096;
 
-/// A list whose first entry plays the second block of `A.wav`, and whose second one plays the first block behind it.
+/// A list whose first entry plays the second block of `A.wav`, and whose second entry then plays
+/// the first block.
 const ENTRIES: &str = "(Entry) 1 (Cut) I 1 1 1 00.00.00.02/0256 00.00.00.00/0000 00.00.00.02/0256
 (Entry) 2 (Cut) I 1 1 1 00.00.00.00/0000 00.00.00.02/0256 00.00.00.04/0512
 ";
 
-/// A list whose only entry plays the first block of `A.wav` behind a block of silence.
+/// A list whose only entry plays the first block of `A.wav` after a block of silence.
 const LATE: &str = "(Entry) 1 (Cut) I 1 1 1 00.00.00.00/0000 00.00.00.02/0256 00.00.00.04/0512
 ";
 
-/// All from midnight on, at 16 bits.
+/// Options for the range from midnight on, at 16 bits.
 fn by(order: Order) -> Options
     ensures { HaveChannels result }
 {
@@ -35,7 +36,7 @@ fn by(order: Order) -> Options
     }
 }
 
-/// A file of two blocks of one channel, the samples of each of which are this one.
+/// A mono file of two blocks, each of one repeated sample.
 fn two_blocks(alloc: Global, samples: [u8; 2]) -> Result<Vec<u8>, Fail> {
     let mut file = head(alloc, 1, 8_192)?;
     for frame in 0..2 * BLOCK {
@@ -44,7 +45,8 @@ fn two_blocks(alloc: Global, samples: [u8; 2]) -> Result<Vec<u8>, Fail> {
     Ok(file)
 }
 
-/// Renders a list over a file of ones by one round of one worker: how many jobs wait, and how many are done.
+/// Renders a list over a file of ones by one round of one worker. Returns the numbers of open and
+/// done jobs.
 fn begun(
     alloc: Global,
     entries: &str,
@@ -80,11 +82,11 @@ fn one_round_does_the_first_job_of_the_order(rt: HostRuntime) -> Result<(), Fail
     Ok(())
 }
 
-/// An entry that plays one frame of ten seconds.
+/// An entry that plays one sample of ten seconds.
 const MOMENT: &str = "(Entry) 1 (Cut) I 1 1 1 00.00.05.00/0000 00.00.00.00/0000 00.00.00.00/0001
 ";
 
-/// Consolidates it with ten frames on either side, by one round.
+/// Consolidates the entry with a handle of ten samples, by one round.
 fn consolidated(alloc: Global, order: Order) -> Result<MemoryBench, Fail> {
     let mut file = head(alloc, 1, 480_000)?;
     for _ in 0..480_000 {

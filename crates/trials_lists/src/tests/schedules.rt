@@ -6,10 +6,10 @@ use std::process::Abort;
 use std::test::Fail;
 use trials_projects::media::sound;
 
-/// As many as the jobs of any of these works, or more.
+/// Upper bound of the number of jobs of these runs.
 const JOBS: u32 = 3;
 
-/// What stands once three jobs are planned.
+/// Progress after three jobs are planned.
 const BEGUN: Progress = Progress {
     idle: 3,
     out: 0,
@@ -18,7 +18,7 @@ const BEGUN: Progress = Progress {
     finished: false,
 };
 
-/// Numbers that look drawn at random, the same in each run.
+/// Pseudorandom numbers with a fixed seed.
 #[derive(Drop)]
 struct Draws {
     state: u64,
@@ -29,7 +29,7 @@ impl Draws {
         Draws { state }
     }
 
-    /// A number below this one.
+    /// A number below `end`.
     fn below(&mut self, end: u32) -> u32 {
         self.state = self
             .state
@@ -39,7 +39,7 @@ impl Draws {
         if end == 0 { 0 } else { drawn % end }
     }
 
-    /// An event of one of 64 workers, or a job taken back.
+    /// An event of one of 64 workers, or the reclaiming of a job.
     fn event(&mut self) -> BoardEvent {
         let worker = self.below(64);
         match self.below(12) {
@@ -52,7 +52,7 @@ impl Draws {
     }
 }
 
-/// Events that finish what is left: each job is taken back, and the worker 99 does it.
+/// Appends events that finish all jobs: each job is reclaimed, and worker 99 does it.
 fn put_end(events: &mut Vec<BoardEvent>) -> Result<(), Fail> {
     for job in 0..JOBS {
         events.push(BoardEvent::Reclaim(job))?;
@@ -63,7 +63,7 @@ fn put_end(events: &mut Vec<BoardEvent>) -> Result<(), Fail> {
     Ok(())
 }
 
-/// Fewer events than `most`, drawn at random, and behind them so many times those that finish what is left.
+/// Fewer than `most` random events, followed `ends` times by events that finish all jobs.
 fn drawn(alloc: Global, draws: &mut Draws, most: u32, ends: u32) -> Result<Vec<BoardEvent>, Fail> {
     let mut events = Vec::new(alloc);
     for _ in 0..draws.below(most) {
@@ -75,7 +75,7 @@ fn drawn(alloc: Global, draws: &mut Draws, most: u32, ends: u32) -> Result<Vec<B
     Ok(events)
 }
 
-/// A thousand schedules of a work, each of which ends with the files that it has to leave.
+/// Runs a thousand schedules and checks that each ends with the expected files.
 fn ends_the_same(rt: &impl Abort, job: &Job, seed: u64) -> Result<(), Fail> {
     let mut draws = Draws::new(seed);
     for turn in 0..1000 {
@@ -87,7 +87,7 @@ fn ends_the_same(rt: &impl Abort, job: &Job, seed: u64) -> Result<(), Fail> {
     Ok(())
 }
 
-/// How a schedule ends whose devices fail.
+/// Outcome of a schedule with failing devices.
 #[derive(Clone, Copy)]
 enum Ended {
     Whole,
@@ -107,8 +107,8 @@ impl Ended {
     }
 }
 
-/// How events that are drawn end over devices of whose calls some fail that are drawn, too; and whether all files are
-/// left.
+/// The outcome of random events with random failures of the devices, and whether all files are
+/// complete.
 fn end_of_draw(job: &Job, draws: &mut Draws) -> Result<(Ended, bool), Fail> {
     let events = drawn(job.alloc, draws, 40, 2)?;
     let from = u64::from(draws.below(40));
@@ -119,8 +119,8 @@ fn end_of_draw(job: &Job, draws: &mut Draws) -> Result<(Ended, bool), Fail> {
     Ok((Ended::of(&answer), job.is_done(&bench)))
 }
 
-/// A thousand schedules of a work over devices that fail: where all jobs are done, the files are those that it has to
-/// leave.
+/// Runs a thousand schedules with failing devices and checks that the files are complete whenever
+/// all jobs are done.
 fn ends_right(rt: &impl Abort, job: &Job, seed: u64) -> Result<(), Fail> {
     let mut draws = Draws::new(seed);
     let mut seen = [0u32; 4];
@@ -129,16 +129,16 @@ fn ends_right(rt: &impl Abort, job: &Job, seed: u64) -> Result<(), Fail> {
         assert!(rt; is_done || !matches!(ended, Ended::Whole), "{turn}");
         seen[ended as usize] = seen[ended as usize].saturating_add(1);
     }
-    // most end whole, and each other end is met
+    // most schedules complete, and every other outcome occurs
     assert!(rt; (seen[0] > 200) & (seen[2] > 0) & (seen[3] > 0), "{seen:?}");
     Ok(())
 }
 
-/// One cut of 65,537 frames.
+/// A cut of 65,537 samples.
 const LONG: &str = "(Entry) 1 (Cut) I 1 1 1 00.00.00.00/0000 00.00.00.00/0000 00.00.01.09/0257
 ";
 
-/// Events, and how far they bring a rendering.
+/// Events, and the resulting progress of a rendering.
 type Move = (&'static [BoardEvent], Progress);
 
 const MOVES: [Move; 6] = [

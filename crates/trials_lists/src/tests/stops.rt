@@ -1,4 +1,5 @@
-// Renderings that are stopped at each of their calls, and again once they are gone on with, until they are whole.
+// Renderings interrupted at each of their calls, and interrupted again after a resume, until they
+// are complete.
 use crate::tests::works::{Call, Job, MARKS, RENDERED_BY_EVENTS, SOUND, bench_of};
 use shelf::MemoryBench;
 use std::alloc::{AllocError, Global};
@@ -6,19 +7,19 @@ use std::process::Abort;
 use std::test::Fail;
 use trials_projects::recorded::Recorded;
 
-/// More than the calls of the output of any of them.
+/// Upper bound of the number of output calls.
 const MANY: u64 = 1_000;
 
-/// What a crash leaves of the bytes of each call since the last sync of its file.
+/// Effect of a crash on the bytes of each call since the last sync of its file.
 #[derive(Clone, Copy)]
 struct Left {
-    /// So many of the first stand as they were written.
+    /// Number of leading bytes kept.
     kept: u64,
-    /// Each other is this one.
+    /// Value of all other bytes.
     fill: u8,
 }
 
-/// Nothing, a byte and all, over zeros, marks and what is neither.
+/// No bytes, one byte and all bytes kept; filled with zeros, with marks and with neither.
 const LEFT: [Left; 7] = [
     Left { kept: 0, fill: 0 },
     Left { kept: 0, fill: 1 },
@@ -32,14 +33,13 @@ const LEFT: [Left; 7] = [
     },
 ];
 
-/// The files of a rendering as they stand on the disk.
+/// The files of a rendering on disk.
 #[derive(PartialEq, Eq, Drop)]
 struct Files {
     sound: Option<Vec<u8>>,
     marks: Option<Vec<u8>>,
 }
 
-/// A copy of the bytes, where they are there.
 fn copied(alloc: Global, bytes: Option<&[u8]>) -> Result<Option<Vec<u8>>, AllocError> {
     match bytes {
         Some(bytes) => Ok(Some(bytes.to_vec(alloc)?)),
@@ -68,7 +68,7 @@ impl Files {
         bench_of(alloc, sound, marks)
     }
 
-    /// The marks of the blocks, one a byte, where the marks are started.
+    /// The marks of the blocks, one byte each, if there are marks.
     fn blocks(&self) -> Option<&[u8]> {
         let marks = self.marks.as_ref()?;
         if *marks.first()? == 1 {
@@ -78,7 +78,7 @@ impl Files {
         }
     }
 
-    /// How many blocks are marked.
+    /// The number of marked blocks.
     fn marked(&self) -> u64 {
         match self.blocks() {
             Some(blocks) => blocks.iter().filter(|block| **block == 1).count() as u64,
@@ -87,7 +87,7 @@ impl Files {
     }
 }
 
-/// One of seven in turn.
+/// One of seven, in turn.
 fn one_of(lefts: &[Left], turn: u64) -> &[Left] {
     let place = (turn % 7) as usize;
     lefts.get(place..place + 1).unwrap_or(&[])
@@ -98,10 +98,11 @@ fn one_of(lefts: &[Left], turn: u64) -> &[Left] {
 struct Runs {
     job: Job,
     shelf: Recorded,
-    /// The first of its calls once it is gone on with that is stopped, and how many lie between two that are.
+    /// The first call of a resumed run that is interrupted, and the distance between interrupted
+    /// calls.
     first: u64,
     every: u64,
-    /// How many renderings were gone on with to their end.
+    /// Number of resumed renderings that were completed.
     ended: u32,
 }
 
@@ -117,7 +118,8 @@ impl Runs {
         })
     }
 
-    /// What a crash leaves of a run over these files that is stopped at a call of the output; `None` where it has none.
+    /// The files after a run over these files is interrupted at a call and crashes, or `None` if
+    /// the run has fewer calls.
     fn stopped(
         &mut self,
         files: &Files,
@@ -134,7 +136,8 @@ impl Runs {
         Ok(Some(Files::of(alloc, &bench)?))
     }
 
-    /// Goes on with these files to the end: the rendering is whole, and no sample of a block that is marked was read.
+    /// Resumes with these files and checks that the rendering is complete and that no sample of a
+    /// marked block was read.
     fn ends(&mut self, rt: &impl Abort, files: &Files) -> Result<(), Fail> {
         let mut bench = files.bench(self.job.alloc)?;
         let marked = files.marked();
@@ -152,8 +155,8 @@ impl Runs {
         Ok(())
     }
 
-    /// Stops a run over these files that goes on, and what was left of it goes on to its end. Where not each call is
-    /// stopped one of these is left, in turn.
+    /// Interrupts a resumed run over these files, then resumes it to its end. Tries all of `lefts`
+    /// if every call is interrupted, otherwise one of them in turn.
     fn stop_again(&mut self, rt: &impl Abort, files: &Files, lefts: &[Left]) -> Result<(), Fail> {
         for turn in 0..MANY {
             let call = self.first.saturating_add(turn.saturating_mul(self.every));
@@ -167,7 +170,7 @@ impl Runs {
                     self.first = self.first.saturating_add(1) % self.every.max(1);
                     return Ok(());
                 };
-                // what is left is often the same
+                // the files are often unchanged
                 if again != *files {
                     self.ends(rt, &again)?;
                 }
@@ -176,9 +179,9 @@ impl Runs {
         Err("it never ends".into())
     }
 
-    /// Stops a new run at each call, goes on with what was left, and stops that too. Where not each call of that is
-    /// stopped it is left alone while no marks are started, since it begins anew, and while there are none at all one of
-    /// these is left, in turn.
+    /// Interrupts a new run at each call, resumes it, and interrupts that run too. If not every
+    /// call is interrupted, a run without marks isn't interrupted again, as it starts over, and as
+    /// long as no marks file exists only one of `lefts` is tried.
     fn stop_each(&mut self, rt: &impl Abort, by: Call, lefts: &[Left]) -> Result<u64, Fail> {
         let mut is_begun = self.every == 1;
         for call in 0..MANY {
@@ -202,13 +205,13 @@ impl Runs {
     }
 }
 
-/// Stops the rendering of three blocks, by rounds and by events, at each call, and what goes on with it at each call
-/// again, with each of these left.
+/// Interrupts the rendering of three blocks, by rounds and by events, at each call, and the resumed
+/// run at each call again, with each of these effects of a crash.
 fn sweep(rt: &impl Abort, alloc: Global, lefts: &[Left]) -> Result<(), Fail> {
     for by in [Call::Render, RENDERED_BY_EVENTS] {
         let mut runs = Runs::new(Job::new(alloc, by)?, 1)?;
         let calls = runs.stop_each(rt, by, lefts)?;
-        // the files are made, and each block is written, synced, marked and synced
+        // the files are created, and each block is written, synced, marked and synced
         assert!(rt; calls > 20, "{calls}");
         assert!(rt; runs.ended > 100, "{}", runs.ended);
     }

@@ -1,8 +1,8 @@
-// Tokens of a line, cut one after another.
+// The tokens of a line.
 use adltoken::{Span, Token, TokenFault, TokenKind, Tokens};
 use std::test::Fail;
 
-/// Whether a token is of this kind, has this content, and stands so in its line.
+/// Whether a token has the given kind, content and position in its line.
 fn is_token(
     token: Option<Token<'_>>,
     kind: TokenKind,

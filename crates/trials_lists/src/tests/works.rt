@@ -1,4 +1,4 @@
-// Works over files in memory, each call of the product that does one, and the files that it has to leave.
+// Runs over files in memory: the call that makes each, and the files expected from it.
 ghost use Rattle.rendering.specs.Rendering.{HaveChannels};
 
 use consolidate::{
@@ -14,30 +14,30 @@ use trials_projects::lists::{FADED, list};
 use trials_projects::media::{LOUD, head_at, sample, silent_middle, sound};
 use trials_projects::recorded::Recorded;
 
-/// The frames of a rendering of three blocks.
+/// Sample frames of a rendering of three blocks.
 pub(crate) const FRAMES: u64 = 12_000;
 
-/// The bytes of a block of 4,096 frames of one channel of 16 bits.
+/// Bytes of a block of 4,096 samples, mono at 16 bits.
 pub(crate) const BLOCK: u64 = 8_192;
 
 pub(crate) const SOUND: &str = "render.wav";
 
 pub(crate) const MARKS: &str = "render.marks";
 
-/// An entry that plays all frames of three blocks where they stand in `A.wav`, from midnight on.
+/// An entry that plays three blocks of `A.wav` at their original time, from midnight on.
 const THREE_BLOCKS: &str =
     "(Entry) 1 (Cut) I 1 1 1 00.00.00.00/0000 00.00.00.00/0000 00.00.00.06/0480
 ";
 
-/// The frames of 200 blocks.
+/// Sample frames of 200 blocks.
 const MANY_FRAMES: u64 = 819_200;
 
-/// An entry that plays as many frames so.
+/// An entry that plays 200 blocks of `A.wav` at their original time.
 const MANY_BLOCKS: &str =
     "(Entry) 1 (Cut) I 1 1 1 00.00.00.00/0000 00.00.00.00/0000 00.00.17.01/1280
 ";
 
-/// What is left over two media of an entry with a silent middle.
+/// The list over two media of an entry with a silent middle.
 pub(crate) const CONSOLIDATED: &[u8] = b"<ADL>\r
 <SEQUENCE>\r
 (SEQ_SAMPLE_RATE) S48000\r
@@ -56,14 +56,14 @@ pub(crate) const CONSOLIDATED: &[u8] = b"<ADL>\r
 </ADL>\r
 ";
 
-/// The program that asks for a report of this.
+/// The report requested.
 const ASKED: ReportChoice<'static> = ReportChoice {
     program: "trials",
     version: "1.2",
     digests: true,
 };
 
-/// The report, in which the SHA-256 of the media, of their source and of both lists are those of another program.
+/// The expected report; its SHA-256 digests were computed by another program.
 const REPORT: &[u8] =
     b"{\"entries\":[{\"entry\":1,\"group\":0},{\"entry\":2,\"group\":0}],\"form\":6,\
 \"given_list_sha256\":\"b58928c762d83f96f5d166d1012337a63e022741b949beca6d2555c0955e3f1a\",\
@@ -80,7 +80,7 @@ const REPORT: &[u8] =
 \"notices\":[],\"program\":\"trials\",\"version\":\"1.2\"}
 ";
 
-/// The checksums of all that, as `sha256sum` prints them.
+/// The expected checksums, in the format of `sha256sum`.
 const SUMS: &[u8] = b"\
 c375e3651a9458f0dc99102df3b6a7d54a9b733b3ace72081d2010a3b508a958  M00001.wav
 8e81d770610a480fd7fd16e43074903a8adff6822f43a41b24f881b00da2d3ec  M00002.wav
@@ -537,13 +537,13 @@ fn first_block_on(alloc: Global, bench: &MemoryBench) -> Result<Files, Fail> {
     Ok(files)
 }
 
-/// The bytes of the file of a name.
+/// The content of the named file.
 fn bytes_in<'a>(files: &'a Files, name: &str) -> Option<&'a [u8]> {
     let (_, bytes) = files.iter().find(|(other, _)| *other == name)?;
     Some(bytes.as_slice())
 }
 
-/// Puts a file on the disk. Want of memory is the only error.
+/// Creates a file on disk. Fails only if out of memory.
 fn put(bench: &mut MemoryBench, name: &str, bytes: &[u8]) -> Result<(), AllocError> {
     if bench.create(name).is_err()
         || bench.append(name, bytes).is_err()
@@ -554,7 +554,7 @@ fn put(bench: &mut MemoryBench, name: &str, bytes: &[u8]) -> Result<(), AllocErr
     Ok(())
 }
 
-/// The output with the files of a rendering, where they are there.
+/// Returns an output with the given files of a rendering.
 pub(crate) fn bench_of(
     alloc: Global,
     sound: Option<&[u8]>,
@@ -570,7 +570,7 @@ pub(crate) fn bench_of(
     Ok(bench)
 }
 
-/// The marks of the blocks, one a byte.
+/// Returns the marks of the blocks, one byte each.
 pub(crate) fn marks_on(bench: &MemoryBench) -> &[u8] {
     match bench.bytes(MARKS) {
         Some(marks) => marks.get(44..).unwrap_or(&[]),
