@@ -1,4 +1,4 @@
--- What an execution of the listed work leaves.
+-- Results of an execution of this run.
 use Rattle.std.proofs.Common.{◌≡◌, ◌∙◌, ℕ, ◌+◌, ◌<◌, false, Err, List, [], ◌∷◌, ◌≢◌, codes, length, get_or, replicate, refl, sym, ap, subst, inl, inr, arith}
 use Rattle.std.proofs.lemmas.Bool.{cases_lt}
 use Rattle.std.proofs.lemmas.List.{get_or-replicate, length-replicate}
@@ -34,7 +34,7 @@ are-apart sources j k there also other same = elim (cases_lt j k) [
   | inr ge ↦ inr (omega (arith, ge, other))
 ]
 
--- no job of a fresh board is done
+-- no job of a new board is done
 pub none-yet : (board : Board) (order : List ℕ) → board ≡ fresh_board 64 order
     → ((k : ℕ) → k < 64 → done_of board k ≡ false) → (k : ℕ) → k < length board.jobs → done_of board k ≡ false
 none-yet board order is none k lt = none k (subst (λ (n : ℕ). k < n) (ap (λ (b : Board). length b.jobs) is
@@ -43,7 +43,7 @@ none-yet board order is none k lt = none k (subst (λ (n : ℕ). k < n) (ap (λ 
 pub list-stays : Stays plan_of (codes "list")
 list-stays = record { jobs = λ k lt e. cc; marks = λ sources m is. cc }
 
--- an execution that fails at no list ended before it
+-- an execution that fails on another file than the list ended before the list
 pub is-before : (o o2 : OutputView) (f : ExecutionFault) → HasFailed plan_of o o2 (Err f) → f ≢ fault.Output 1
     → IsBefore (Err f) 1
 is-before o o2 fault.Memory failed other = tt

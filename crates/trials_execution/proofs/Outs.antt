@@ -1,4 +1,4 @@
--- Two files on a bench.
+-- Two files of an output.
 use Rattle.std.proofs.Common.{◌≡◌, ◌≢◌, ◌∙◌, ℕ, ◌+◌, ◌<◌, IsTrue, Option, Some, List, [], ◌∷◌, ◌++◌, codes, replicate, ◌^◌, inl, inr, refl, sym, ap, subst, arith}
 use Rattle.std.specs.Prelude.{⊤}
 use Rattle.std.proofs.lemmas.Bool.{cases_lt}
@@ -9,19 +9,19 @@ use Rattle.devices.specs.declared.bench.Bench as bench
 use Rattle.execution.specs.Plan.{AreBlank, IsForeign, IsLast, IsOwn, OfJob, OfMarks, Stays}
 use Rattle.trials_execution.specs.Listed.{plan_of}
 
--- files that the jobs don't write are not "out"
+-- a file that the jobs don't write is not "out"
 pub no-out : (n : List ℕ) → Stays plan_of n → n ≢ codes "out"
 no-out n s e = s.jobs 0 (omega arith) (sym e)
 
--- files that the work doesn't write are not "list"
+-- a file that the run doesn't write is not "list"
 pub no-list : (n : List ℕ) → IsForeign plan_of n → n ≢ codes "list"
 no-list n f e = f.last 1 (omega arith, omega arith) (sym e)
 
--- the one that comes last is "list"
+-- the file written last is "list"
 pub last-one : (i : ℕ) → IsLast plan_of i → i ≡ 1
 last-one i last = omega (arith, last.0, last.1)
 
--- the only other one is "out"
+-- the only other file is "out"
 pub own-out : (n : List ℕ) → IsOwn plan_of n → n ≡ codes "out"
 own-out n (OfJob k lt e) = sym e
 own-out n (OfMarks sources m is e) = absurd (cc)
@@ -29,7 +29,7 @@ own-out n (OfMarks sources m is e) = absurd (cc)
 pub out-list : codes "out" ≢ codes "list"
 out-list e = cc
 
--- none comes after it
+-- no file is written after the list
 pub no-more : (i : ℕ) → IsLast plan_of i → 1 < i → ⊥
 no-more i last after = omega (arith, last.0, last.1, after)
 
@@ -43,7 +43,7 @@ pub list-durable : (files : Files) (may_leave : Files → Type 0) (i : ℕ) → 
 list-durable files may_leave i last durable = subst (λ (k : ℕ). IsDurable (plan_of.output k) files may_leave)
     (sym (last-one i last)) durable
 
--- the same cause, where fewer answers are quiet and fewer tell a device fault
+-- the cause of a weaker outcome
 caused : {before now : ℕ} {quiet device quiet' device' : Type 0} → (quiet' → quiet) → (device' → device)
     → HasCause before now quiet device → HasCause before now quiet' device'
 caused is_quiet is_device cause = record {
@@ -53,7 +53,7 @@ caused is_quiet is_device cause = record {
 }
 
 module _ {B : Type 0} (g : bench.Ghosts B) where
-  -- fewer files stay
+  -- a weaker statement about the files that are unchanged
   pub wider : (P Q : List ℕ → Type 0) → ((n : List ℕ) → Q n → P n) → {old new : B} {q d f q' d' f' : Type 0}
       → (q' → q) → (d' → d) → f'
       → HasWritten g.stored g.honest g.failures g.failed_at g.may_leave P old new q d f
@@ -67,7 +67,7 @@ module _ {B : Type 0} (g : bench.Ghosts B) where
     failed_there = failed;
   }
 
-  -- one call, and then another
+  -- one call after another
   pub both : (Q : List ℕ → Type 0) → {old mid new : B} {q d f : Type 0}
       → HasWritten g.stored g.honest g.failures g.failed_at g.may_leave Q old mid ⊤ ⊥ ⊤
       → HasWritten g.stored g.honest g.failures g.failed_at g.may_leave Q mid new q d f
@@ -86,7 +86,7 @@ module _ {B : Type 0} (g : bench.Ghosts B) where
     failed_there = b.failed_there;
   }
 
-  -- a call that only reads, and lets fewer outcomes be
+  -- a call that only reads, with a weaker outcome
   pub read-only : (Q : List ℕ → Type 0) → {old new : B} {q d f q' d' f' : Type 0} → (q' → q) → (d' → d) → f'
       → ((c : Files) → g.may_leave new c → g.may_leave old c)
       → HasRead g.stored g.honest g.failures g.failed_at old new q d f
@@ -100,7 +100,7 @@ module _ {B : Type 0} (g : bench.Ghosts B) where
     failed_there = failed;
   }
 
-  -- what the work owns stays where "list" alone is written behind a call that only reads
+  -- the run's other files are unchanged if only "list" is written after a call that only reads
   pub own-stays : {old mid new : B} {q d f q' d' f' : Type 0}
       → HasRead g.stored g.honest g.failures g.failed_at old mid q d f
       → HasWritten g.stored g.honest g.failures g.failed_at g.may_leave (λ n. n ≢ codes "list") mid new q' d' f'
@@ -110,7 +110,7 @@ module _ {B : Type 0} (g : bench.Ghosts B) where
       (subst (λ (name : List ℕ). name ≢ codes "list") (sym (own-out n own)) out-list)
       ∙ ap (λ (files : Files). files n) read.same
 
--- created, and then 64 zeros after nothing
+-- an output file after it is created and 64 zeros are appended
 pub blank-out : (old mid new sources : Files) → Changes IsCreated (codes "out") old mid
     → Changes (IsAppended (replicate 64 0)) (codes "out") mid new
     → AreBlank (jobs_over plan_of.jobs sources) (plan_of.whole sources) new

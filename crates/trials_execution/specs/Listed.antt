@@ -1,8 +1,8 @@
--- 64 bytes that are 7, and a list over them.
+-- A run that writes 64 bytes of value 7, and then a list.
 use Rattle.std.specs.Prelude.{false, None, [], ◌∷◌, ◌==◌, bytes_eq, codes, cond, replicate}
 use Rattle.execution.specs.Plan.{JobPlan}
 
--- each job writes one byte of "out"; then "list" comes last
+-- each job writes one byte of "out", and "list" is written last
 abbrev pub plan_of : JobPlan
 plan_of = record {
   jobs = record {

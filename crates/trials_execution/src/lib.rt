@@ -1,5 +1,5 @@
-//! The least works that `execution` can do, so that its code stands once at a concrete type: one of 64 jobs, with a file
-//! that comes last.
+//! The smallest use of `execution`, so that its generic code is checked at a concrete type: 64
+//! jobs, and a file that is written last.
 #![tactic(auto)]
 
 mod listed;

@@ -1,4 +1,4 @@
-// 64 bytes that are 7, and a list over them.
+// A run that writes 64 bytes of value 7, and then a list.
 ghost use Rattle.std.specs.Prelude.{◌≡◌, ◌≢◌, ◌∷◌, [], IfErr, IsTrue, OnOk, Some, codes, replicate, ⊤};
 ghost use Rattle.work_terms.specs.Disk.{IsDurable};
 ghost use Rattle.devices.specs.Frame.{OnlyWrites};
@@ -10,17 +10,17 @@ use execution::{Execution, ExecutionFault, JobMaker, OutputFault, PlaceFault, in
 use job_terms::Progress;
 use std::alloc::Global;
 
-/// The output of the jobs.
+/// The file that the jobs write.
 const OUT: &str = "out";
 
-/// The list, which comes last.
+/// The file that is written last.
 const LIST: &str = "list";
 
-/// Nothing to remember.
+/// A job maker without state.
 #[derive(Clone, Copy, Debug, Drop, PartialEq, Eq)]
 pub struct Listed;
 
-/// Writes the list, and syncs it.
+/// Writes the list and syncs it.
 fn write_list<B: Bench>(bench: &mut B) -> Result<(), DeviceFault>
     ensures written { IsTrue (B.honest bench.old)
         → OnOk result (B.stored bench.new (codes "list") ≡ Some (1 ∷ [])) }
@@ -107,7 +107,8 @@ impl JobMaker for Listed {
     }
 }
 
-/// Writes all of it, by rounds of one worker.
+/// Writes both files, by rounds of one worker. Returns `ExecutionFault` if a device fails or memory
+/// runs out.
 pub fn write_listed<S: Shelf, B: Bench, T: Watch>(
     alloc: Global,
     shelf: &mut S,
