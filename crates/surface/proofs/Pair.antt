@@ -2,7 +2,7 @@
 use Rattle.std.proofs.Common.{◌≡◌, ◌∙◌, ℕ, zero, suc, ◌-◌, ◌<◌, [], ◌∷◌, slice_index_or, refl, subst, sym, arith}
 use Rattle.workboard.specs.Indexed.{IsOrder}
 
--- the second job, then the first
+-- the second job before the first
 pub second_first : IsOrder 2 (1 ∷ 0 ∷ [])
 second_first = record {
   few = omega arith;

@@ -1,4 +1,4 @@
-// Callers of what is public, crate by crate.
+// Callers of the public functions, crate by crate.
 pub mod blocks;
 pub mod boards;
 pub mod calls;

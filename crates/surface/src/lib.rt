@@ -1,7 +1,7 @@
-//! The public calls as a caller writes them: each type named, each call made once, with its arguments and its answer.
-//! That it is proved, with the tests, keeps these names, arguments and answers as they are. A consolidation and a rendering
-//! are made of their parts here, too. The tests are of these, and of the program as a call, over stores in memory: the
-//! status, and all that is printed.
+//! The public functions as callers use them: every type is named and every function is called once,
+//! with its arguments and result, so that changes of the public interface fail here. A
+//! consolidation and a rendering are also made from their parts. The tests cover these callers, and
+//! the program as a function over stores in memory: its exit status and all its output.
 #![tactic(auto)]
 
 #[cfg(test)]

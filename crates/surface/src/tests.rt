@@ -1,4 +1,4 @@
-// The program as a call, and its parts.
+// Tests of the program as a function, and of its parts.
 mod boards;
 mod parts;
 mod rows;

@@ -1,4 +1,4 @@
-// Blocks of a rendering: their plan, their programs, the machine.
+// Blocks of a rendering: plan, programs and machine.
 use anyhow::Result;
 use blockmachine::Machine;
 use interval::from_checked;
@@ -8,7 +8,7 @@ use sampletime::SampleTime;
 use shelf::Shelf;
 use std::alloc::Global;
 
-/// How many instructions of a program add a sound.
+/// Returns the number of instructions that add sound.
 pub fn additions_in(program: &Program) -> usize {
     program
         .as_slice()
@@ -20,7 +20,7 @@ pub fn additions_in(program: &Program) -> usize {
         .count()
 }
 
-/// How many instructions of a block add a sound, by a program that is made for it; `None` behind the last block.
+/// Returns the number of instructions of block `k` that add sound, or `None` past the last block.
 pub fn additions_of(alloc: Global, plan: &Plan, k: u64) -> Result<Option<usize>, PlanFault> {
     if k >= plan.blocks() {
         return Ok(None);
@@ -29,7 +29,7 @@ pub fn additions_of(alloc: Global, plan: &Plan, k: u64) -> Result<Option<usize>,
     Ok(Some(additions_in(&program)))
 }
 
-/// The file and the frame at which the sound of a project's first block begins, on two channels.
+/// Returns the source of a project's first block, on two channels: its file and first sample.
 pub fn first_source(
     alloc: Global,
     checked: &Checked,
@@ -47,8 +47,8 @@ pub fn first_source(
     Ok(plan.source_of(0))
 }
 
-/// The samples of a project from midnight up to a time, on two channels at 24 bits, block by block. All blocks have one
-/// program, in turn.
+/// Returns the samples of a project from midnight to `end`, on two channels at 24 bits. All blocks
+/// share one program buffer.
 pub fn samples_of<S: Shelf>(
     alloc: Global,
     checked: &Checked,

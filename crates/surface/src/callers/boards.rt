@@ -1,21 +1,22 @@
-// The board of jobs.
+// Boards of jobs.
 use anyhow::Result;
 use std::alloc::Global;
 use workboard::{Board, BoardFault, Counts, Ticket};
 
-/// A board of two open jobs, the second of which is given first.
+/// Creates a board of two open jobs, the second of which is dispatched first.
 pub fn new_board(alloc: Global) -> Result<Board> {
     let board = Board::new(alloc, 2, vec![in alloc; 1, 0]?)?;
     Ok(board)
 }
 
-/// The same, where the first job is done.
+/// Creates a board of two jobs, the first of which is done.
 pub fn resumed_board(alloc: Global) -> Result<Board> {
     let board = Board::with_done(alloc, 2, vec![in alloc; 1, 0]?, &[true, false])?;
     Ok(board)
 }
 
-/// A worker's round: a job is handed out, and delivered where nobody took it back.
+/// Makes one round of a worker: a job is dispatched, and delivered unless it was reclaimed. Returns
+/// whether all jobs are done.
 pub fn round(board: &mut Board, worker: u32) -> Result<bool, BoardFault> {
     let ticket: Ticket = board.give(worker)?;
     if board.is_current(&ticket) {
@@ -24,14 +25,14 @@ pub fn round(board: &mut Board, worker: u32) -> Result<bool, BoardFault> {
     Ok(board.finished())
 }
 
-/// A worker's job fails, and another one's is taken back.
+/// Lets a job of a worker fail and reclaims another job.
 pub fn failed(board: &mut Board, worker: u32, job: u32) -> Result<bool, BoardFault> {
     let ticket = board.give(worker)?;
     board.fault(ticket)?;
     Ok(board.reclaim(job))
 }
 
-/// How many jobs are open, handed out and done.
+/// Returns the numbers of open, dispatched and done jobs.
 pub fn counted(board: &Board) -> [u32; 3] {
     let Counts { idle, out, done } = board.counts();
     [idle, out, done]

@@ -1,4 +1,4 @@
-// The calls of the product: a list is checked, consolidated, rendered, gone on with, or done by the events of workers.
+// The main functions: check, consolidate, render, resume, and schedules of workers.
 use consolidate::{
     Accepted, BoardEvent, Depth, Fault, Options, Order, Progress, Rendered, Resumed, Work, Written,
     check_project, consolidate, render, resume, run_schedule,
@@ -7,12 +7,12 @@ use passes::Pass;
 use shelf::{Bench, Shelf};
 use std::alloc::Global;
 
-/// A list is checked.
+/// Checks a list.
 pub fn checked<S: Shelf>(alloc: Global, list: &[u8], shelf: &mut S) -> Result<Accepted, Fault> {
     check_project(alloc, list, shelf)
 }
 
-/// A list is consolidated, with a second before and after what is played.
+/// Consolidates a list with a handle of one second.
 pub fn consolidated<S: Shelf, B: Bench>(
     alloc: Global,
     list: &[u8],
@@ -23,7 +23,7 @@ pub fn consolidated<S: Shelf, B: Bench>(
     consolidate(alloc, list, 48_000, passes, shelf, bench)
 }
 
-/// All of a list is rendered, on two channels at 24 bits.
+/// Renders a whole list, on two channels at 24 bits.
 pub fn rendered<S: Shelf, B: Bench>(
     alloc: Global,
     list: &[u8],
@@ -37,7 +37,7 @@ pub fn rendered<S: Shelf, B: Bench>(
     render(alloc, list, &options, shelf, bench)
 }
 
-/// The same is gone on with after a stop.
+/// Resumes the rendering of a whole list.
 pub fn resumed<S: Shelf, B: Bench>(
     alloc: Global,
     list: &[u8],
@@ -51,7 +51,8 @@ pub fn resumed<S: Shelf, B: Bench>(
     resume(alloc, list, &options, shelf, bench)
 }
 
-/// Two workers take a piece of a consolidation each. The first one's fails, and the second is lost with its piece.
+/// Runs a consolidation with two workers: the job of the first fails, and the second is lost with
+/// its job.
 pub fn consolidated_in_part<S: Shelf, B: Bench>(
     alloc: Global,
     list: &[u8],
@@ -74,7 +75,8 @@ pub fn consolidated_in_part<S: Shelf, B: Bench>(
     run_schedule(alloc, work, &events, shelf, bench)
 }
 
-/// A worker renders the first block at 16 bits, and then one that is taken back from it.
+/// Runs a rendering at 16 bits with one worker, which renders the first block and loses another to
+/// a reclaim.
 pub fn rendered_in_part<S: Shelf, B: Bench>(
     alloc: Global,
     list: &[u8],
@@ -95,7 +97,7 @@ pub fn rendered_in_part<S: Shelf, B: Bench>(
     run_schedule(alloc, Work::Render { list, options }, &events, shelf, bench)
 }
 
-/// The number of a refusal.
+/// Returns a refusal number.
 pub fn number_of(fault: &Fault) -> u8 {
     fault.number()
 }

@@ -1,4 +1,4 @@
-// The fields of the types that calls take and answer, each read once.
+// The fields of argument and result types, each read once.
 use adlmodel::{Event, Header, KeptLines, Project, Source};
 use consolidate::{Accepted, Progress, Rendered, Resumed, Written};
 use interval::{Piece, Placed, Shape};
@@ -13,12 +13,12 @@ use sourceindex::BoundIndex;
 use wavread::{Depth, Sound};
 use workboard::Ticket;
 
-/// The header of a project, the rate of frames of its times, and their separators.
+/// Returns the header of a project, and the frame rate and separators of its times.
 pub fn of_project(project: &Project) -> (&Header, Rate, Separators) {
     (project.header(), project.rate(), project.separators())
 }
 
-/// How many lines of a section are kept, where it is there.
+/// The number of lines kept of a section, if it exists.
 fn kept_in(section: &Option<KeptLines>) -> Option<usize> {
     match section {
         Some(lines) => Some(lines.as_slice().len()),
@@ -26,7 +26,7 @@ fn kept_in(section: &Option<KeptLines>) -> Option<usize> {
     }
 }
 
-/// How many lines are kept of VERSION, PROJECT, SYSTEM, SEQUENCE and TRACKLIST.
+/// Returns the numbers of lines kept of VERSION, PROJECT, SYSTEM, SEQUENCE and TRACKLIST.
 pub fn of_header(header: &Header) -> [Option<usize>; 5] {
     [
         kept_in(&header.version),
@@ -37,7 +37,7 @@ pub fn of_header(header: &Header) -> [Option<usize>; 5] {
     ]
 }
 
-/// The number, the URL, the identifier, the start and the length of a source.
+/// Returns number, URL, identifier, start and length of a source.
 pub fn of_source(source: &Source) -> (u32, &[u8], &[u8], [Option<SampleTime>; 2]) {
     (
         source.number(),
@@ -47,7 +47,7 @@ pub fn of_source(source: &Source) -> (u32, &[u8], &[u8], [Option<SampleTime>; 2]
     )
 }
 
-/// The number, the index, the channels, the times and the fades of an entry.
+/// Returns number, index, channels, times and fades of an entry.
 pub fn of_event(event: &Event) -> ([u32; 2], [u8; 4], [SampleTime; 5]) {
     (
         [event.number, event.index],
@@ -67,13 +67,14 @@ pub fn of_event(event: &Event) -> ([u32; 2], [u8; 4], [SampleTime; 5]) {
     )
 }
 
-/// The kind of a notice, and the line or the index that it is about.
+/// Returns the kind of a notice, and the line or index that it is about.
 pub fn of_notice(notice: &Notice) -> (u8, u64) {
     let Notice { kind, at } = *notice;
     (kind, at)
 }
 
-/// Where the chunks of a file lie: `fmt `, `data`, and `bext` if it is there; whether it has others, and how many heads.
+/// Returns the positions of the chunks `fmt `, `data` and `bext` (if present), whether there are
+/// others, and the number of chunk headers.
 pub fn of_chunks(chunks: &Chunks) -> ([u64; 4], Option<(u64, u64)>, bool, u64) {
     let bext = match chunks.bext {
         Some(bext) => Some((bext.at, bext.length)),
@@ -92,13 +93,13 @@ pub fn of_chunks(chunks: &Chunks) -> ([u64; 4], Option<(u64, u64)>, bool, u64) {
     )
 }
 
-/// The channels and the depth of a format.
+/// Returns the channels and the depth of a format.
 pub fn of_format(format: Format) -> (u8, Depth) {
     let Format { channels, depth } = format;
     (channels, depth)
 }
 
-/// The fields of `ds64`.
+/// Returns the fields of `ds64`.
 pub fn of_sizes(sizes: Ds64) -> ([u64; 3], u32) {
     let Ds64 {
         riff_size,
@@ -109,7 +110,7 @@ pub fn of_sizes(sizes: Ds64) -> ([u64; 3], u32) {
     ([riff_size, data_size, samples], entries)
 }
 
-/// The channels, the depth, the frames and the CodingHistory of a file, and what its user should know of.
+/// Returns channels, depth, length, CodingHistory and notice flags of a sound file.
 pub fn of_sound(sound: &Sound) -> (u8, Depth, u64, &[u8], [bool; 4]) {
     (
         sound.channels(),
@@ -125,12 +126,12 @@ pub fn of_sound(sound: &Sound) -> (u8, Depth, u64, &[u8], [bool; 4]) {
     )
 }
 
-/// The media name of a file.
+/// Returns the name of a sound file.
 pub fn name_of(sound: &Sound) -> &str {
     sound.name()
 }
 
-/// The number and the file of a bound index, its base and the frames that can be addressed.
+/// Returns number, file, base and addressable length of a bound index.
 pub fn of_bound_index(index: &BoundIndex) -> ([u32; 2], [u64; 2]) {
     let BoundIndex {
         number,
@@ -141,7 +142,7 @@ pub fn of_bound_index(index: &BoundIndex) -> ([u32; 2], [u64; 2]) {
     ([number, file], [base, addressable])
 }
 
-/// The times, the file, the channels and the shape of a piece.
+/// Returns times, file, channels and shape of a piece.
 pub fn of_piece(piece: &Piece) -> ([u64; 3], u32, [u8; 3], Option<(u64, u64)>) {
     let Piece {
         start,
@@ -160,7 +161,7 @@ pub fn of_piece(piece: &Piece) -> ([u64; 3], u32, [u8; 3], Option<(u64, u64)>) {
     ([start, length, frame], file, [first, dest, width], ramp)
 }
 
-/// The times, the file, the channels and the fades of a group's event.
+/// Returns times, file, channels and fades of a group's event.
 pub fn of_placed(placed: &Placed) -> ([u64; 5], u32, [u8; 3]) {
     let Placed {
         start,
@@ -180,7 +181,8 @@ pub fn of_placed(placed: &Placed) -> ([u64; 5], u32, [u8; 3]) {
     )
 }
 
-/// A run's file, its first frame and its frames, and the whole of it as a piece of its medium, where it isn't too long.
+/// Returns file, first sample and length of a run, and the job that copies all of it if it isn't
+/// too long.
 pub fn of_run(place: u32, run: &Run) -> (u32, u64, CopyJob) {
     let Run {
         file,
@@ -195,7 +197,7 @@ pub fn of_run(place: u32, run: &Run) -> (u32, u64, CopyJob) {
     (file, first, job)
 }
 
-/// The digest of a rendering, its blocks, and the bytes of its file.
+/// Returns digest, number of blocks and file length of a rendering.
 pub fn of_run_id(run: &RunId) -> ([u8; 32], u32, u64) {
     let RunId {
         digest,
@@ -205,13 +207,13 @@ pub fn of_run_id(run: &RunId) -> ([u8; 32], u32, u64) {
     (digest, blocks, length)
 }
 
-/// The job and the serial number of a ticket.
+/// Returns job and serial number of a ticket.
 pub fn of_ticket(ticket: Ticket) -> [u32; 2] {
     let Ticket { job, serial } = ticket;
     [job, serial]
 }
 
-/// How far a schedule has come.
+/// Returns the progress of a schedule.
 pub fn of_progress(progress: Progress) -> ([u32; 3], u64, bool) {
     let Progress {
         idle,
@@ -223,7 +225,7 @@ pub fn of_progress(progress: Progress) -> ([u32; 3], u64, bool) {
     ([idle, out, done], stale, finished)
 }
 
-/// The entries and the indexes of a list that was checked, and its notices.
+/// Returns the numbers of entries and indexes of an accepted list, and its notices.
 pub fn of_accepted(accepted: &Accepted) -> (u32, u32, &[Notice]) {
     (
         accepted.entries,
@@ -232,12 +234,12 @@ pub fn of_accepted(accepted: &Accepted) -> (u32, u32, &[Notice]) {
     )
 }
 
-/// The media and the entries of a consolidation, and its notices.
+/// Returns the numbers of media and entries of a consolidation, and its notices.
 pub fn of_written(written: &Written) -> (u32, u32, &[Notice]) {
     (written.media, written.entries, written.notices.as_slice())
 }
 
-/// The frames and the channels of a rendering, and its notices.
+/// Returns the numbers of sample frames and channels of a rendering, and its notices.
 pub fn of_rendered(rendered: &Rendered) -> (u64, u32, &[Notice]) {
     (
         rendered.frames,
@@ -246,7 +248,8 @@ pub fn of_rendered(rendered: &Rendered) -> (u64, u32, &[Notice]) {
     )
 }
 
-/// The frames of a rendering that was gone on with, how many blocks were marked before, and its notices.
+/// Returns the numbers of sample frames and of previously marked blocks of a resumed rendering, and
+/// its notices.
 pub fn of_resumed(resumed: &Resumed) -> (u64, u32, &[Notice]) {
     (resumed.frames, resumed.marked, resumed.notices.as_slice())
 }

@@ -1,4 +1,4 @@
-// Sound files: their chunks, their fields, their samples, their headers.
+// Sound files: chunks, fields, samples and headers.
 
 use bext::{Bext, bytes_of, read_bext};
 use rf64::{Ds64, ds64_bytes, read_ds64};
@@ -8,29 +8,29 @@ use std::alloc::Global;
 use wavread::{Sound, open};
 use wavwrite::{Depth, HeaderFault, SoundInfo, fits, header};
 
-/// The chunks of a file that count.
+/// Returns the relevant chunks of a file.
 pub fn read_chunks<S: Shelf>(shelf: &mut S, name: &str) -> Result<Chunks, MediaFault> {
     walk(shelf, name)
 }
 
-/// The contents of `fmt `.
+/// Parses the content of `fmt `.
 pub fn read_format(bytes: &[u8]) -> Result<Format, MediaFault> {
     read_fmt(bytes)
 }
 
-/// The contents of `bext` as they are written again.
+/// Parses the content of `bext` and writes it again.
 pub fn texts_of(bytes: &[u8]) -> Option<[u8; 602]> {
     let bext: Bext = read_bext(bytes)?;
     Some(bytes_of(&bext))
 }
 
-/// The contents of `ds64` as they are written again.
+/// Parses the content of `ds64` and writes it again.
 pub fn ds64_both_ways(bytes: &[u8; 28], size: u32) -> Option<[u8; 28]> {
     let sizes: Ds64 = read_ds64(bytes, size)?;
     Some(ds64_bytes(sizes.riff_size, sizes.data_size, sizes.samples))
 }
 
-/// The first sample of a file on its first channel; `None` of a file without frames.
+/// Returns the first sample of a file on its first channel, or `None` if the file is empty.
 pub fn first_sample<S: Shelf>(
     alloc: Global,
     shelf: &mut S,
@@ -46,12 +46,12 @@ pub fn first_sample<S: Shelf>(
     Ok(Some(samples[0]))
 }
 
-/// What a sound file of so many mono frames tells.
+/// Creates the description of a 24-bit mono file of `frames` samples.
 pub fn info_of(alloc: Global, frames: u64, bext: Bext) -> Option<SoundInfo> {
     SoundInfo::new(1, Depth::TwentyFour, frames, bext, Vec::new(alloc))
 }
 
-/// The bytes before the samples, of a file that isn't too long.
+/// Returns the header of a file, or `None` if the file would be too long.
 pub fn header_of(alloc: Global, info: &SoundInfo) -> Result<Option<Vec<u8>>, HeaderFault> {
     if !fits(info) {
         return Ok(None);

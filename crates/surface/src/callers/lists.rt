@@ -1,4 +1,4 @@
-// Lists: their text, their times, their names, what they are bound to.
+// Lists: text, times, names and bindings.
 
 use adlmodel::{Channels, Event, Fade, Place, Project, Source, Sources, place_of};
 use adlread::{AdlFault, rate_of, read};
@@ -12,19 +12,20 @@ use shelf::{Bench, Shelf};
 use sourceindex::{Bound, bind};
 use std::alloc::{AllocError, Global};
 
-/// A time's text, read and written again.
+/// Parses the text of a time and writes it again.
 pub fn spelt_again(text: &[u8]) -> Option<[u8; 16]> {
     let (time, separators): (SampleTime, Separators) = parse_time(text, Rate::Frames25)?;
     Some(text_of(time, separators, Rate::Frames25))
 }
 
-/// The first line of a text.
+/// Returns the first line of a text.
 pub fn first_line(text: &[u8]) -> Option<&[u8]> {
     let mut lines = Lines::new(text);
     lines.next_line()
 }
 
-/// The kind of the first token of a line, its first byte in the line, its length, and that of its content.
+/// Returns the kind, the position and the length of the first token of a line, and the length of
+/// its content.
 pub fn first_token(line: &[u8]) -> Result<Option<(TokenKind, usize, usize, usize)>, TokenFault> {
     let mut tokens = Tokens::new(line);
     let next: Option<Token> = tokens.next_token()?;
@@ -35,34 +36,35 @@ pub fn first_token(line: &[u8]) -> Result<Option<(TokenKind, usize, usize, usize
     Ok(Some((token.kind, span.at, span.length, token.content.len())))
 }
 
-/// The rate of frames that a list is read at.
+/// Returns the frame rate of a list.
 pub fn rate_in(text: &[u8]) -> Rate {
     rate_of(text)
 }
 
-/// A list.
+/// Reads a list.
 pub fn read_list(alloc: Global, text: &[u8]) -> Result<Project, AdlFault> {
     read(alloc, text)
 }
 
-/// A list, written at the end of a file that is there.
+/// Writes a list at the end of an existing file.
 pub fn write_list<B: Bench>(project: &Project, bench: &mut B) -> Result<(), WriteFault> {
     write(project, bench, "L.adl")
 }
 
-/// A copy of a project.
+/// Copies a project.
 pub fn copied(project: &Project) -> Result<Project, AllocError> {
     project.try_copy()
 }
 
-/// A project of the same sources and events.
+/// Rebuilds a project from its sources and events.
 pub fn made_anew(alloc: Global, project: &Project) -> Result<Project, AllocError> {
     let sources = Sources::from_slice(alloc, project.sources().as_slice())?;
     let events = Vec::from_slice(alloc, project.events())?;
     project.with(sources, events)
 }
 
-/// Whether a project has an index of this number, and how many indexes, entries and notices it has.
+/// Returns whether a project has an index with this number, and its numbers of indexes, entries and
+/// notices.
 pub fn counts_of(project: &Project, number: u32) -> (bool, usize, usize, usize) {
     let sources: &Sources = project.sources();
     let source: Option<&Source> = sources.get(number);
@@ -74,12 +76,12 @@ pub fn counts_of(project: &Project, number: u32) -> (bool, usize, usize, usize) 
     )
 }
 
-/// The channels, the time and the fade-in of an entry.
+/// Returns the channels, the start time and the fade-in of an entry.
 pub fn parts_of(event: &Event) -> (Channels, SampleTime, Fade) {
     (event.dest, event.dest_in, event.rise)
 }
 
-/// How long the path and the name are that a URL names.
+/// Returns the lengths of the path and of the file name in a URL.
 pub fn lengths_of(alloc: Global, url: &[u8]) -> Result<Option<(usize, usize)>, AllocError> {
     let found: Option<Place> = place_of(alloc, url)?;
     let Some(location) = found else {
@@ -88,7 +90,7 @@ pub fn lengths_of(alloc: Global, url: &[u8]) -> Result<Option<(usize, usize)>, A
     Ok(Some((location.path().len(), location.name().len())))
 }
 
-/// A project over its files, checked.
+/// Binds a project to its files and checks it.
 pub fn bound_and_checked<S: Shelf>(
     alloc: Global,
     project: Project,
@@ -99,7 +101,7 @@ pub fn bound_and_checked<S: Shelf>(
     Ok(checked)
 }
 
-/// How many entries a checked project has, and how many files it is bound to.
+/// Returns the number of entries of a checked project, and the number of its files.
 pub fn sizes_of_checked(checked: &Checked) -> (usize, usize) {
     (
         checked.project().events().len(),
@@ -107,7 +109,7 @@ pub fn sizes_of_checked(checked: &Checked) -> (usize, usize) {
     )
 }
 
-/// The files of a binding, its indexes and its notices, and the base of its first file.
+/// Returns the numbers of files, indexes and notices of a binding, and the base of its first file.
 pub fn sizes_of(bound: &Bound) -> (usize, usize, usize, Option<u64>) {
     let base = match bound.home(0) {
         Some(home) => Some(home.base),

@@ -1,4 +1,4 @@
-// The marks of a rendering.
+// Marks of a rendering.
 use markfile::{
     FreshMarks, MarkFault, MarkedFile, Marks, RunId, RunRange, mark, mark_all, open_marks, start,
     start_fresh,
@@ -6,29 +6,29 @@ use markfile::{
 use shelf::{Bench, DeviceFault};
 use std::alloc::{AllocError, Global};
 
-/// The run of a list: this range, in so many blocks, to a file of so many bytes.
+/// Returns the identity of a rendering: list, range, number of blocks and file length.
 pub fn run_of(list: &[u8], range: &RunRange, blocks: u32, length: u64) -> RunId {
     RunId::new(list, range, blocks, length)
 }
 
-/// New marks of a run, of which the first one and the next seven are set.
+/// Creates the marks of a run; sets the first mark, and then the next seven.
 pub fn marked<B: Bench>(alloc: Global, bench: &mut B, run: &RunId) -> Result<(), MarkFault> {
     start(alloc, bench, run)?;
     mark(bench, 0)?;
     mark_all(bench, 1, 8)
 }
 
-/// The marks of a run, for which memory is taken before anything is written.
+/// Returns marks of a run in memory, to be written later.
 pub fn fresh_marks(alloc: Global, run: &RunId) -> Result<FreshMarks, AllocError> {
     FreshMarks::of(alloc, run)
 }
 
-/// New marks that take no memory.
+/// Writes new marks without allocating.
 pub fn started<B: Bench>(bench: &mut B, fresh: &FreshMarks) -> Result<(), DeviceFault> {
     start_fresh(bench, fresh)
 }
 
-/// Which blocks of a run are marked, one for each; `None` where no marks are started.
+/// Returns the marks of a run, one flag per block, or `None` if there are no marks.
 pub fn marked_before<B: Bench>(
     alloc: Global,
     bench: &mut B,
@@ -38,7 +38,7 @@ pub fn marked_before<B: Bench>(
     Ok(found.map(|marks| marks.marked))
 }
 
-/// The number of a fault, and the file at which the device failed.
+/// Returns the number of an error, and the file on which the device failed.
 pub fn number_and_file(fault: &MarkFault) -> (u8, Option<MarkedFile>) {
     let file = match fault {
         MarkFault::Device { file } => Some(*file),

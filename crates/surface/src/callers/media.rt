@@ -1,4 +1,5 @@
-// A consolidation by its parts: media that are laid out and filled piece by piece, and the list over them.
+// A consolidation made from its parts: media that are preallocated and filled piece by piece, and
+// the list over them.
 use adlwrite::write;
 use anyhow::{Context, Result, bail};
 use interval::from_checked;
@@ -15,13 +16,13 @@ use std::alloc::Global;
 use wavread::Sound;
 use wavwrite::{Bext, SoundInfo, fits};
 
-/// How many frames are copied at once.
+/// Sample frames per piece.
 const PIECE: u64 = 65_536;
 
-/// The name of the list.
+/// Name of the list.
 const LIST: &str = "consolidated.adl";
 
-/// What the medium of a run tells of itself, where the source's first frame stands at `base`.
+/// The description of the medium of a run; the source's first sample is at time `base`.
 fn info_of(alloc: Global, sound: &Sound, base: u64, run: &Run) -> Result<SoundInfo> {
     let text = match sound.bext() {
         Some(bext) => bext.text,
@@ -37,7 +38,7 @@ fn info_of(alloc: Global, sound: &Sound, base: u64, run: &Run) -> Result<SoundIn
     )
 }
 
-/// The medium of run `k`, with all its samples zero.
+/// Preallocates the medium of run `k` with samples of zero.
 pub fn laid_out<B: Bench>(
     alloc: Global,
     bench: &mut B,
@@ -55,8 +56,8 @@ pub fn laid_out<B: Bench>(
     Ok(())
 }
 
-/// Copies a piece of a medium; false where it is none. Each other piece goes by its halves, the second of which another
-/// worker may do.
+/// Copies a piece of a medium. Returns false if there is no such piece. Every other piece is split
+/// in two steps, the second of which another worker may perform.
 pub fn copied<S: Shelf, B: Bench>(
     alloc: Global,
     shelf: &mut S,
@@ -79,7 +80,7 @@ pub fn copied<S: Shelf, B: Bench>(
     Ok(true)
 }
 
-/// Lays out the medium of run `k` and fills it.
+/// Preallocates and fills the medium of run `k`.
 fn copy_run<S: Shelf, B: Bench>(
     alloc: Global,
     shelf: &mut S,
@@ -106,7 +107,7 @@ fn copy_run<S: Shelf, B: Bench>(
     Ok(())
 }
 
-/// Writes media of what a project plays, with so many samples before and after it, and last the list over them.
+/// Writes the media of a project with a handle in samples, and then the list over them.
 pub fn consolidated_by_parts<S: Shelf, B: Bench>(
     alloc: Global,
     checked: &Checked,

@@ -1,4 +1,4 @@
-// The number of each fault.
+// Refusal numbers of all errors.
 
 use adlread::{AdlFault, Location, TextFault};
 use adltoken::TokenFault;
@@ -17,12 +17,13 @@ use sourceindex::BindFault;
 use wavwrite::HeaderFault;
 use workboard::BoardFault;
 
-/// The numbers of faults of a list, and where they lie.
+/// Returns the refusal numbers of errors in a list.
 pub fn of_lists(token: &TokenFault, list: &AdlFault, written: &WriteFault) -> [u8; 3] {
     [token.number(), list.number(), written.number()]
 }
 
-/// The line that can't be cut into tokens, and whether it has a byte that no list may have.
+/// Returns the line that can't be split into tokens, and whether it has a byte that lists must not
+/// contain.
 pub fn line_of_token(fault: &TokenFault) -> (u64, bool) {
     let is_byte = match fault {
         TokenFault::BadByte { .. } => true,
@@ -31,7 +32,7 @@ pub fn line_of_token(fault: &TokenFault) -> (u64, bool) {
     (fault.line(), is_byte)
 }
 
-/// Where a list lacks a field.
+/// Returns the location of a missing field.
 pub fn missing_field(fault: &AdlFault) -> Option<Location> {
     match fault {
         AdlFault::Text {
@@ -43,17 +44,17 @@ pub fn missing_field(fault: &AdlFault) -> Option<Location> {
     }
 }
 
-/// The line of a list's fault, and its entry or index.
+/// Returns the line of an error in a list, and its entry or index.
 pub fn place_in_list(fault: &AdlFault) -> (u64, Option<u32>, Option<u32>) {
     (fault.line(), fault.entry(), fault.index())
 }
 
-/// The numbers of faults of devices.
+/// Returns the refusal numbers of errors of devices.
 pub fn of_devices(source: &ShelfFault, output: &DeviceFault) -> [u8; 2] {
     [source.number(), output.number()]
 }
 
-/// The numbers of faults of files and entries.
+/// Returns the refusal numbers of errors of files and entries.
 pub fn of_files(
     media: &MediaFault,
     bound: &BindFault,
@@ -68,7 +69,7 @@ pub fn of_files(
     ]
 }
 
-/// The numbers of faults of groups and media.
+/// Returns the refusal numbers of errors of groups and media.
 pub fn of_groups(
     interval: &IntervalFault,
     pass: &PassFault,
@@ -85,7 +86,7 @@ pub fn of_groups(
     ]
 }
 
-/// The numbers of faults of renderings and boards.
+/// Returns the refusal numbers of errors of renderings and boards.
 pub fn of_work(plan: &PlanFault, machine: &MachineFault, board: &BoardFault) -> [u8; 3] {
     [plan.number(), machine.number(), board.number()]
 }

@@ -1,8 +1,8 @@
-// Samples: their bytes, their shares under a fade, their sums.
+// Samples: bytes, fades and sums.
 use pcm::{Depth, all_zero, pack, unpack};
 use soundlaw::{contribution, finish, widen};
 
-/// The bytes of two samples, read and written again, and whether both are zero.
+/// Unpacks two samples and packs them again; also returns whether both are zero.
 pub fn pair_of_samples(bytes: &[u8; 6]) -> ([u8; 6], bool) {
     let mut samples = [0; 2];
     unpack(Depth::TwentyFour, bytes, &mut samples);
@@ -11,7 +11,8 @@ pub fn pair_of_samples(bytes: &[u8; 6]) -> ([u8; 6], bool) {
     (again, all_zero(&samples))
 }
 
-/// What two 32-bit samples are at 16 bits where the one is in a quarter of its fade and the other in three.
+/// Crossfades two 32-bit samples to a 16-bit sample: three quarters of `out` plus a quarter of
+/// `into`.
 pub fn crossfaded(out: i32, into: i32) -> i32 {
     let out = contribution(widen(out, Depth::ThirtyTwo), 3, 4);
     let into = contribution(widen(into, Depth::ThirtyTwo), 1, 4);

@@ -1,4 +1,4 @@
-// The sound as groups of pieces, and what passes leave of it.
+// Groups of pieces, and the effects of passes.
 use anyhow::Result;
 use interval::{Group, IntervalFault, Intervals, Piece, Pieces, Placed, Shape, group_pieces};
 use passes::{DropSilent, JoinCuts, Pass, PassFault, Regroup, Samples, SplitFades, run, silent_of};
@@ -6,7 +6,8 @@ use sampletime::SampleTime;
 use shelf::ShelfFault;
 use std::alloc::{AllocError, Global};
 
-/// The first second of the first file, at midnight on the first channel.
+/// Creates a list of one group: the first second of the first file, at midnight on the first
+/// channel.
 pub fn one_second(alloc: Global) -> Result<Intervals, AllocError> {
     let piece = Piece {
         start: 0,
@@ -22,18 +23,18 @@ pub fn one_second(alloc: Global) -> Result<Intervals, AllocError> {
     Ok(Intervals::of(groups))
 }
 
-/// The pieces of the first group.
+/// Returns the pieces of the first group.
 pub fn first_pieces(intervals: &Intervals) -> Option<Pieces> {
     let group = intervals.groups().first()?;
     Some(group_pieces(group))
 }
 
-/// Groups cut at a time.
+/// Cuts groups at a time.
 pub fn cut(intervals: Intervals, time: SampleTime) -> Result<Intervals, IntervalFault> {
     intervals.cut_at(time)
 }
 
-/// The events of groups without a cut ramp.
+/// Returns the events of groups, or `None` if a fade is cut.
 pub fn placed(intervals: &Intervals) -> Result<Option<Vec<Placed>>, IntervalFault> {
     if !intervals.whole() {
         return Ok(None);
@@ -42,12 +43,12 @@ pub fn placed(intervals: &Intervals) -> Result<Option<Vec<Placed>>, IntervalFaul
     Ok(Some(events))
 }
 
-/// Whether the first second of a stereo file is silent.
+/// Returns whether the first second of a stereo file is silent.
 pub fn begins_silent<P: Samples>(samples: &mut P) -> Result<bool, ShelfFault> {
     samples.all_zero(0, 1, 2, 0, 48_000)
 }
 
-/// Which pieces are silent.
+/// Returns the silence flags of all pieces.
 pub fn silences<P: Samples>(
     alloc: Global,
     intervals: &Intervals,
@@ -56,7 +57,7 @@ pub fn silences<P: Samples>(
     silent_of(alloc, intervals, samples)
 }
 
-/// What the standard passes leave.
+/// Applies the standard passes.
 pub fn after_passes<P: Samples>(
     alloc: Global,
     intervals: Intervals,
@@ -71,7 +72,7 @@ pub fn after_passes<P: Samples>(
     Ok(left)
 }
 
-/// Whether a pass looks at samples, and the groups that it leaves.
+/// Applies a pass; also returns whether it needs the silence flags.
 pub fn after_pass<P: Pass>(
     alloc: Global,
     pass: &mut P,

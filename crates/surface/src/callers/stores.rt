@@ -1,4 +1,4 @@
-// The stores: sources and outputs in memory, in folders, and of zeros.
+// Stores: sources and outputs in memory, in folders, and of zeros.
 
 use shelf::{
     Bench, DeviceFault, FolderBench, FolderShelf, MemoryBench, MemoryShelf, Overwrite, Shelf,
@@ -8,7 +8,7 @@ use std::alloc::{AllocError, Global};
 use std::fs::Files;
 use std::os::unix::fs::FileExt;
 
-/// The length of a source and its first byte.
+/// Returns the length and the first byte of a source.
 pub fn looked_at<S: Shelf>(shelf: &mut S, name: &str) -> Result<(u64, u8), ShelfFault> {
     let length = shelf.length(name)?;
     let mut bytes = [0; 1];
@@ -16,7 +16,7 @@ pub fn looked_at<S: Shelf>(shelf: &mut S, name: &str) -> Result<(u64, u8), Shelf
     Ok((length, bytes[0]))
 }
 
-/// An output that is made, lengthened, written over and synced.
+/// Creates, extends, overwrites and syncs an output.
 pub fn written<B: Bench>(bench: &mut B, name: &str) -> Result<(), DeviceFault> {
     bench.create(name)?;
     bench.append(name, b"abcd")?;
@@ -26,7 +26,7 @@ pub fn written<B: Bench>(bench: &mut B, name: &str) -> Result<(), DeviceFault> {
     Ok(())
 }
 
-/// The length of an output and its first byte.
+/// Returns the length and the first byte of an output.
 pub fn read_back<B: Bench>(bench: &mut B, name: &str) -> Result<(u64, u8), ShelfFault> {
     let length = bench.length(name)?;
     let mut bytes = [0; 1];
@@ -34,24 +34,24 @@ pub fn read_back<B: Bench>(bench: &mut B, name: &str) -> Result<(u64, u8), Shelf
     Ok((length, bytes[0]))
 }
 
-/// Sources in memory whose third call fails, twice.
+/// Creates sources in memory with two failing calls after the third.
 pub fn memory_sources(alloc: Global, name: &str, bytes: &[u8]) -> Result<MemoryShelf, AllocError> {
     let shelf = MemoryShelf::new(alloc).with_file(name, bytes)?;
     Ok(shelf.failing(3, 2))
 }
 
-/// Outputs in memory as a crash leaves them, after a call that stopped half way.
+/// Creates outputs in memory after an interrupted call and a crash.
 pub fn memory_outputs(alloc: Global) -> Result<MemoryBench, AllocError> {
     let bench = MemoryBench::new(alloc).failing(9, 1).stop_at(3, 2);
     bench.after_crash(1, 7)
 }
 
-/// A source of zeros after its head.
+/// Creates a source of zeros after a header.
 pub fn zeros(name: String, head: Vec<u8>, length: u64) -> ZeroShelf {
     ZeroShelf::new(name, head, length)
 }
 
-/// The sources of a folder, and the outputs of another.
+/// Creates the sources of one folder and the outputs of another.
 pub fn folders<R: Files + Drop, T: Files + Drop>(
     alloc: Global,
     sources: R,

@@ -1,4 +1,4 @@
-// The words of the program, and the program as a call.
+// The command line of the program, and the program as a function.
 use answers::{HeldLines, answer};
 use clap::Command;
 use commandline::{VERSION, command};
@@ -6,17 +6,17 @@ use passes::Pass;
 use shelf::{Bench, Reasons, Shelf};
 use std::alloc::{AllocError, Global};
 
-/// The program's command line.
+/// Returns the program's command line.
 pub fn program<'a>(alloc: Global) -> Result<Command<'a>, AllocError> {
     command(alloc)
 }
 
-/// The program's version.
+/// Returns the program's version.
 pub fn version() -> &'static str {
     VERSION
 }
 
-/// The words behind the program's name are answered, by a status and by what is printed on standard output and standard
+/// Runs the program with the given arguments. Returns its exit status, standard output and standard
 /// error.
 pub fn answered<S: Shelf + Reasons, B: Bench + Reasons>(
     alloc: Global,

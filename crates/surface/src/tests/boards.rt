@@ -1,4 +1,4 @@
-// A board of two jobs, as workers meet it.
+// A board of two jobs, as workers see it.
 use crate::callers::boards::{counted, failed, new_board, resumed_board, round};
 use std::test::Fail;
 use workboard::{BoardFault, Ticket};

@@ -1,4 +1,5 @@
-// A consolidation and a rendering that a caller makes of their parts, beside those of the calls.
+// A consolidation and a rendering made from their parts, compared with the results of the main
+// functions.
 use crate::callers::blocks::{first_source, samples_of};
 use crate::callers::calls::rendered;
 use crate::callers::lists::bound_and_checked;
@@ -14,21 +15,21 @@ use std::test::Fail;
 use trials_projects::lists::list;
 use trials_projects::media::{head_with, with_samples};
 
-/// Two entries on two channels, the second of which fades in while the first one sounds.
+/// Two entries on two channels; the second fades in while the first is audible.
 const ENTRIES: &str = "(Entry) 1 (Cut) I 1 1 1 00.00.00.00/0003 00.00.00.00/0000 00.00.02.00/0000
 (Entry) 2 (Cut) I 1 1 2 00.00.02.05/0400 00.00.01.24/0000 00.00.02.01/0005
 (Infade) 00.00.00.01/0000 LIN _ _ _
 ";
 
-/// How many frames the file has, and where the second entry ends.
+/// Number of samples of the file, and end of the second entry.
 const FRAMES: u64 = 110_000;
 
 const END: u64 = 97_925;
 
-/// Where the samples of a written file begin.
+/// Offset of the samples in a written file.
 const SAMPLES_AT: usize = 690;
 
-/// The file.
+/// The sources.
 fn sources(alloc: Global) -> Result<MemoryShelf, Fail> {
     let bext = Bext {
         text: [7; 338],
@@ -39,7 +40,7 @@ fn sources(alloc: Global) -> Result<MemoryShelf, Fail> {
     Ok(MemoryShelf::new(alloc).with_file("A.wav", &file)?)
 }
 
-/// The list, checked.
+/// The checked list.
 fn checked(alloc: Global, shelf: &mut MemoryShelf) -> Result<Checked, Fail> {
     let text = list(alloc, ENTRIES)?;
     let project = read(alloc, text.as_bytes())?;
@@ -49,7 +50,7 @@ fn checked(alloc: Global, shelf: &mut MemoryShelf) -> Result<Checked, Fail> {
     Ok(checked)
 }
 
-/// What a caller makes of its parts, with ten frames on either side.
+/// The consolidation made from its parts, with a handle of ten samples.
 fn made_of_parts(alloc: Global, shelf: &mut MemoryShelf) -> Result<MemoryBench, Fail> {
     let mut bench = MemoryBench::new(alloc);
     let checked = checked(alloc, shelf)?;
@@ -59,7 +60,7 @@ fn made_of_parts(alloc: Global, shelf: &mut MemoryShelf) -> Result<MemoryBench, 
     Ok(bench)
 }
 
-/// What the call makes.
+/// The consolidation made by `consolidate`.
 fn made_by_call(alloc: Global, shelf: &mut MemoryShelf) -> Result<MemoryBench, Fail> {
     let mut bench = MemoryBench::new(alloc);
     let text = list(alloc, ENTRIES)?;
@@ -74,7 +75,7 @@ fn made_by_call(alloc: Global, shelf: &mut MemoryShelf) -> Result<MemoryBench, F
     Ok(bench)
 }
 
-/// Whether both have this file, with the same bytes.
+/// Whether both outputs have this file, with the same content.
 fn have_same(one: &MemoryBench, other: &MemoryBench, name: &str) -> bool {
     one.bytes(name).is_some() & (one.bytes(name) == other.bytes(name))
 }
@@ -91,7 +92,7 @@ fn parts_make_the_media_and_the_list_of_the_call(rt: HostRuntime) -> Result<(), 
     Ok(())
 }
 
-/// Whether these bytes are those of the samples at 24 bits.
+/// Whether the bytes encode the samples at 24 bits.
 fn are_bytes_of(bytes: &[u8], samples: &[i32]) -> bool {
     bytes.len() / 3 == samples.len()
         && bytes.chunks_exact(3).zip(samples.iter()).all(|(bytes, sample)| match bytes {
@@ -100,7 +101,7 @@ fn are_bytes_of(bytes: &[u8], samples: &[i32]) -> bool {
         })
 }
 
-/// The samples that a caller makes of its blocks.
+/// The samples of a rendering made from its blocks.
 fn samples_of_blocks(alloc: Global, shelf: &mut MemoryShelf) -> Result<Vec<i32>, Fail> {
     let end = SampleTime::new(END).ok_or("no time")?;
     let checked = checked(alloc, shelf)?;
@@ -110,7 +111,7 @@ fn samples_of_blocks(alloc: Global, shelf: &mut MemoryShelf) -> Result<Vec<i32>,
     }
 }
 
-/// Whether these are the samples that the call renders.
+/// Whether `render` produces these samples.
 fn are_rendered(alloc: Global, samples: &[i32], shelf: &mut MemoryShelf) -> Result<bool, Fail> {
     let mut bench = MemoryBench::new(alloc);
     let text = list(alloc, ENTRIES)?;

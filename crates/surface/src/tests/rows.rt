@@ -1,4 +1,4 @@
-// Lists of one entry, answered whole.
+// The program as a function on lists of one entry.
 use answers::{HeldLines, answer};
 use passes::Pass;
 use shelf::{Bench, MemoryBench, MemoryShelf};
@@ -7,11 +7,11 @@ use std::process::Abort;
 use std::test::Fail;
 use trials_projects::lists::list;
 
-/// An entry of four frames.
+/// An entry of four samples.
 const SHORT_ENTRY: &str =
     "(Entry) 0001 (Cut) I 0001 1 1 00.00.00.00/0000 01.00.00.00/0000 01.00.00.00/0004\n";
 
-/// One of ten frames, whose in-fade has six, and whose out-fade has this length.
+/// An entry of ten samples with a fade-in of six and a fade-out of the given length.
 fn faded_entry(alloc: Global, out_fade: &str) -> Result<String, AllocError> {
     format!(in alloc;
         "(Entry) 0007 (Cut) I 0001 1 1 00.00.00.00/0000 01.00.00.00/0000 01.00.00.00/0010
@@ -21,27 +21,28 @@ fn faded_entry(alloc: Global, out_fade: &str) -> Result<String, AllocError> {
     )
 }
 
-/// The head of a mono file of 16 bits, up to its length of data.
+/// The header of a 16-bit mono file, up to the length of its data.
 const HEAD: &[u8] =
     b"RIFF\x2c\0\0\0WAVEfmt \x10\0\0\0\x01\0\x01\0\x80\xbb\0\0\0\x77\x01\0\x02\0\x10\0data";
 
-/// The samples 1000, -1000, 32767 and -32768, behind their length.
+/// The samples 1000, -1000, 32767 and -32768, after their length.
 const FOUR_SAMPLES: &[u8] = b"\x08\0\0\0\xe8\x03\x18\xfc\xff\x7f\0\x80";
 
-/// Twelve samples, behind their length; the file has a head that says less of its own length, which nothing rests on.
+/// Twelve samples, after their length. The file's header states a shorter total length, which is
+/// ignored.
 const TWELVE_SAMPLES: &[u8] = b"\x18\0\0\0\0\0\0\0\0\0\0\0\0\0\0\0\0\0\0\0\0\0\0\0\0\0\0\0";
 
-/// Where the samples of a rendered file begin.
+/// Offset of the samples in a rendered file.
 const SAMPLES_AT: usize = 690;
 
-/// A folder with `A.wav`, of these samples behind their length.
+/// A folder with `A.wav`, made of the given data length and samples.
 fn folder(alloc: Global, samples: &[u8]) -> Result<MemoryShelf, AllocError> {
     let mut wave = HEAD.to_vec(alloc)?;
     wave.extend_from_slice(samples)?;
     MemoryShelf::new(alloc).with_file("A.wav", wave.as_slice())
 }
 
-/// What was answered, and all that was printed.
+/// Exit status and output of the program.
 #[derive(Drop)]
 struct Answered {
     status: u8,
@@ -49,7 +50,7 @@ struct Answered {
     err: HeldLines,
 }
 
-/// Answers the words over a list of these entries and the files of a folder, by no passes.
+/// Runs the program on a list of these entries and the files of a folder, without passes.
 fn answer_over(
     alloc: Global,
     words: &[&str],
@@ -75,14 +76,14 @@ fn answer_over(
     Ok(Answered { status, out, err })
 }
 
-/// Fails unless the status and both texts are these.
+/// Checks exit status and output.
 fn require(rt: &impl Abort, answered: Answered, status: u8, out: &str, err: &str) {
     assert_eq!(rt; answered.status, status);
     assert!(rt; answered.out.text() == Some(out.as_bytes()));
     assert!(rt; answered.err.text() == Some(err.as_bytes()));
 }
 
-/// Answers the words over the entry of four frames.
+/// Runs the program on the entry of four samples.
 fn answer_four(
     alloc: Global,
     words: &[&str],
@@ -92,7 +93,7 @@ fn answer_four(
     answer_over(alloc, words, SHORT_ENTRY, folder, bench)
 }
 
-/// Whether a file on a bench has the four samples, and so many bytes.
+/// Whether a file of the output has the four samples and the given length.
 fn has_four(bench: &MemoryBench, name: &str, length: usize) -> bool {
     let file = bench.bytes(name).unwrap_or(&[]);
     file.len() == length && file.get(SAMPLES_AT..) == FOUR_SAMPLES.get(4..)
@@ -119,13 +120,13 @@ fn four_samples_are_consolidated(rt: HostRuntime) -> Result<(), Fail> {
     Ok(())
 }
 
-/// What is answered where such a list is checked.
+/// Checks a list of these entries.
 fn checked(alloc: Global, entries: &str, folder: MemoryShelf) -> Result<Answered, AllocError> {
     let mut bench = MemoryBench::new(alloc);
     answer_over(alloc, &["check", "L.adl", "M"], entries, folder, &mut bench)
 }
 
-/// What is answered where a list is checked of the entry whose out-fade has this length.
+/// Checks a list of the entry with a fade-out of the given length.
 fn checked_with_fades(alloc: Global, out_fade: &str) -> Result<Answered, AllocError> {
     let entry = faded_entry(alloc, out_fade)?;
     checked(alloc, entry.as_str(), folder(alloc, TWELVE_SAMPLES)?)
