@@ -140,7 +140,7 @@ by_sums depth sums channels frames out values are long each =
     (λ k below. each k below ∙ sym (get_or-map (quantized depth) values k (pos 0) (pos 0) (omega (arith, below, long))))
     ∙ ap (map (quantized depth)) are ∙ sym (block_mapped depth sums channels 0 frames)
 
--- the same for samples emitted from the stored sums
+-- samples that equal the rounded stored sums one by one are the samples of the block
 pub handed_out : (depth : ℕ) (all : ℕ → ℕ → ℤ) (kept : BlockSums) (frames : ℕ) (out : List ℤ) → AreSums kept all
     → length kept.values ≡ kept.extent.frames * kept.extent.channels → FillFrames kept.extent out
     → length out ≡ frames * kept.extent.channels
@@ -155,7 +155,7 @@ handed_out depth all kept frames out are whole fills long each =
     (λ k below. each k below
     ∙ ap (quantized depth) (sym (get_or-take n kept.values k (pos 0) (omega (arith, below, long)))))
 
--- the same for all samples emitted at the depth of storage
+-- samples emitted one by one from sums kept at a depth are all the rounded sums
 pub each_handed_out : (depth : ℕ) (sums out : List ℤ) → length out ≡ length sums
     → ((k : ℕ) → k < length out
     → get_or out k (pos 0) ≡ quantized depth (full_scale depth (get_or sums k (pos 0))))

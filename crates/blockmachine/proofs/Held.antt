@@ -65,7 +65,7 @@ pub record AreRead (files : Files) (sounds : List SoundFacts) (facts : SoundFact
 module _ (files : Files) (sounds : List SoundFacts) (facts : SoundFacts) (part : Stretch) (bytes : List ℕ)
     (are : AreRead files sounds facts part bytes)
   where
-    -- these samples are the ones that the stretch plays
+    -- the samples in the bytes are the ones that the stretch plays
     pub held_plays : Plays (reading_by files sounds) part facts.channels (bits_of facts.depth)
         (samples_in (bits_of facts.depth) (part.length * facts.channels) bytes)
     held_plays =

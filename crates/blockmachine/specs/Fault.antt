@@ -4,6 +4,7 @@ use Rattle.sound_terms.specs.Sounds.{SoundFacts}
 use Rattle.blockmachine.specs.declared.fault.MachineFault.{MachineFault}
 use Rattle.blockmachine.specs.declared.fault.MachineFault.TheVariants.{Memory, Source}
 
+-- the refusal number of an error
 abbrev pub number_of : MachineFault → ℕ
 number_of Memory = 57
 number_of (Source file) = 22

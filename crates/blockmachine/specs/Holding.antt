@@ -16,7 +16,7 @@ AreHeld files sounds held bytes = (facts : SoundFacts) → slice_get sounds held
     → IsRange (files facts.name) (facts.offset + held.frame * frame_length facts)
     (take (held.length * frame_length facts) bytes)
 
--- so they do, if the buffer has any content and the bytes read are the stored ones
+-- the buffer's content is correct, if it has any and the bytes read are the stored ones
 abbrev pub Holds : (honest : Bool) → Files → List SoundFacts → Option Held → List ℕ → Type 0
 Holds honest files sounds None bytes = ⊤
 Holds honest files sounds (Some held) bytes = IsTrue honest → AreHeld files sounds held bytes

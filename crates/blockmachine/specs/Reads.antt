@@ -30,7 +30,7 @@ pub record IsReady (honest : Bool) (files : Files) (sounds : List SoundFacts) (e
   pub plays : CanPlay sounds extent stretch shape
   pub held : Holds honest files sounds now bytes
 
--- in addition, the stretch is short enough for one read, as samples and as bytes
+-- the stretch can be played, and is short enough for one read, as samples and as bytes
 pub record IsPart (honest : Bool) (files : Files) (sounds : List SoundFacts) (extent : Extent) (part : Stretch)
     (shape : Shape) (now : Option Held) (bytes : List ℕ) (samples : ℕ) : Type 0 where
   pub ready : IsReady honest files sounds extent part shape now bytes

@@ -11,7 +11,7 @@ use crate::slope::Slope;
 use sound_terms::{Depth, Shape};
 use soundlaw::{Gain, Scale, added, two_added};
 
-/// Sample `k` of the row at full scale.
+/// Returns sample `k` of the row at full scale.
 #[inline(always)]
 fn full_sample(row: &Row, k: usize) -> i64
     requires { k < length row.now.samples.now }

@@ -10,7 +10,7 @@ use clipping::Clips;
 use sound_terms::Depth;
 use soundlaw::widen;
 
-/// The minimum and the maximum of the samples.
+/// Returns the minimum and the maximum of the samples.
 fn bounds_of(samples: &[i32]) -> (i32, i32)
     ensures { All (λ sample. (result.0 ≤ℤ sample) × (sample ≤ℤ result.1)) samples.now }
 {
@@ -23,7 +23,7 @@ fn bounds_of(samples: &[i32]) -> (i32, i32)
     (least, greatest)
 }
 
-/// Whether a sample is at either end of the range, as every clipped sample is.
+/// Returns whether a sample is at either end of the range, as every clipped sample is.
 fn may_be_clipped(samples: &[i32], depth: Depth) -> bool
     ensures { result ≡ false → All (IsBetween (bits_of depth)) samples.now }
 {
@@ -36,7 +36,7 @@ fn may_be_clipped(samples: &[i32], depth: Depth) -> bool
 }
 
 impl Sums {
-    /// The sum at index `k`, at full scale.
+    /// Returns the sum at index `k`, at full scale.
     fn sum_at(&self, k: usize) -> i64
         requires { k < self.now.extent.frames * self.now.extent.channels }
         ensures { result ≡ slice_index_or self.now.values k (pos 0) }

@@ -21,8 +21,8 @@ use devices::Shelf;
 use sound_terms::{Depth, Format, Instruction, Shape, Stretch};
 use wavread::Sound;
 
-/// The stretch of the first instruction, if it fills the block unchanged at the block's depth and
-/// fits in one read.
+/// Returns the stretch of the first instruction, if it fills the block unchanged at the block's
+/// depth and fits in one read.
 fn first_layer(
     lines: &[Instruction],
     depth: Depth,

@@ -36,7 +36,7 @@ pub fn is_layer(played: &Played, channels: usize, depth: Depth) -> bool
     is_run(played, channels) && source.bits() <= depth.bits() && depth.bits() <= 24
 }
 
-/// A sample at the depth of the block.
+/// Returns a sample at the depth of the block.
 #[inline(always)]
 fn at_depth(layer: &Layer, sample: i32) -> i32
     requires { FitsDepth (bits_of layer.now.frames.depth) sample }
@@ -181,7 +181,7 @@ fn set_wide_to_zero(sums: &mut [i64])
     }
 }
 
-/// A sum at its own depth, clipped to the range of the depth.
+/// Returns a sum at its own depth, clipped to the range of the depth.
 #[inline(always)]
 fn clipped(sum: i32, depth: Depth) -> i32
     ensures { result ≡ quantized (bits_of depth) (full_scale (bits_of depth) sum) }

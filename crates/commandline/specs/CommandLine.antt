@@ -38,6 +38,7 @@ over_media name =
     let places = with_rule (with_rule (new_app name) (place_rule (codes "LIST"))) (place_rule (codes "MEDIA")) in
     with_rule (with_rule places (flag_rule (codes "all"))) (flag_rule (codes "search"))
 
+-- the command `check`
 abbrev pub check_shape : Shape
 check_shape = (with_rule (over_media (codes "check")) (flag_rule (codes "report"))).top
 
@@ -45,6 +46,7 @@ check_shape = (with_rule (over_media (codes "check")) (flag_rule (codes "report"
 abbrev pub with_times : App → App
 with_times app = with_rule (with_rule app (option_rule (codes "from"))) (option_rule (codes "to"))
 
+-- the command `show`
 abbrev pub show_shape : Shape
 show_shape =
     (with_times (with_rule (over_media (codes "show")) (default_rule (codes "handle") (codes "48000")))).top
@@ -53,6 +55,7 @@ show_shape =
 abbrev pub over_folders : Text → App
 over_folders name = with_rule (over_media name) (place_rule (codes "OUT"))
 
+-- the command `consolidate`
 abbrev pub consolidate_shape : Shape
 consolidate_shape =
     let handled = with_rule (over_folders (codes "consolidate")) (default_rule (codes "handle") (codes "48000")) in
@@ -78,6 +81,7 @@ abbrev pub over_both : App
 over_both =
     with_rule (with_rule (over_media (codes "compare")) (place_rule (codes "LIST2"))) (place_rule (codes "MEDIA2"))
 
+-- the command `compare`
 abbrev pub compare_shape : Shape
 compare_shape = (with_range (with_rule over_both (flag_rule (codes "report")))).top
 
@@ -170,6 +174,7 @@ media_report rows =
     then Some (if is_set (codes "digests") rows then WithDigests else Plain)
     else if is_set (codes "digests") rows then None else Some NoReport
 
+-- the bit depth that a text names: 16, 24 or 32
 abbrev pub depth_in : Text → Option Depth
 depth_in text =
     if bytes_eq text (codes "16") then Some Sixteen
@@ -177,6 +182,7 @@ depth_in text =
     else if bytes_eq text (codes "32") then Some ThirtyTwo
     else None
 
+-- the job order that a text names: `time` or `source`
 abbrev pub order_in : Text → Option Order
 order_in text =
     if bytes_eq text (codes "time") then Some ByTime
@@ -188,6 +194,7 @@ abbrev pub channels_in : Option Text → Option (Option ℕ)
 channels_in None = Some None
 channels_in (Some text) = option_map (λ channels. Some channels) (number_in 1 64 text)
 
+-- the options of a rendering, from its depth, channels and order
 abbrev pub chosen_by : List Row → Depth → Option ℕ → Order → Chosen
 chosen_by rows depth channels order = record {
   from = first_of (codes "from") rows;
@@ -203,11 +210,13 @@ abbrev pub ordered_by : List Row → Depth → Option ℕ → Option Chosen
 ordered_by rows depth channels =
     option_map (chosen_by rows depth channels) (option_and_then order_in (first_of (codes "order") rows))
 
+-- the options of a rendering, if all values are valid
 abbrev pub chosen_of : List Row → Option Chosen
 chosen_of rows =
     option_and_then (λ depth. option_and_then (ordered_by rows depth) (channels_in (first_of (codes "channels") rows)))
     (option_and_then depth_in (first_of (codes "depth") rows))
 
+-- the options of a comparison, from its channels
 abbrev pub selected_by : List Row → Option ℕ → Selected
 selected_by rows channels = record {
   from = first_of (codes "from") rows;
@@ -216,9 +225,11 @@ selected_by rows channels = record {
   report = is_set (codes "report") rows;
 }
 
+-- the options of a comparison, if all values are valid
 abbrev pub selected_of : List Row → Option Selected
 selected_of rows = option_map (selected_by rows) (channels_in (first_of (codes "channels") rows))
 
+-- the options of a picture
 abbrev pub drawn_of : List Row → Drawn
 drawn_of rows = record { from = first_of (codes "from") rows; to = first_of (codes "to") rows }
 
@@ -232,6 +243,7 @@ compare_by list media other other_media rows =
     if are_both_input list other then None
     else option_map (λ selected. Compare list media other other_media selected) (selected_of rows)
 
+-- the request to compare a list with the one named by the further arguments
 abbrev pub asked_compare : (list media : Text) → List Row → Option Asked
 asked_compare list media rows =
     option_and_then (λ other. option_and_then (λ other_media. compare_by list media other other_media rows)
@@ -256,6 +268,7 @@ asked_by name list media rows =
     else if bytes_eq name (codes "compare") then asked_compare list media rows
     else option_and_then (λ out. asked_to name list media out rows) (first_of (codes "OUT") rows)
 
+-- the request of the named command on the list and media folder among its arguments
 abbrev pub asked_over : Text → List Row → Option Asked
 asked_over name rows = option_and_then (λ list. option_and_then (λ media. asked_by name list media rows)
     (first_of (codes "MEDIA") rows)) (first_of (codes "LIST") rows)

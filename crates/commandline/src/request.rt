@@ -103,7 +103,7 @@ pub fn parse<'a>(alloc: Global, words: &'a [&'a str]) -> Result<Parsed<'a>, Erro
 /// Message for an invalid number of channels.
 const FEW_CHANNELS: &str = "there are 1 to 64 channels";
 
-/// The command that the arguments name, whose usage is shown with a mistake.
+/// Returns the command that the arguments name, whose usage is shown with a mistake.
 fn command_in<'a>(alloc: Global, matches: &ArgMatches<'_>) -> Result<Command<'a>, AllocError> {
     match matches.subcommand() {
         Some((name, _)) => command_named(alloc, name),
@@ -111,7 +111,7 @@ fn command_in<'a>(alloc: Global, matches: &ArgMatches<'_>) -> Result<Command<'a>
     }
 }
 
-/// The message for arguments that clap accepts but that make no valid request.
+/// Returns the message for arguments that clap accepts but that make no valid request.
 fn mistake_of(matches: &ArgMatches<'_>) -> &'static str {
     match matches.subcommand() {
         Some(("consolidate", words)) if handle_in(words).is_some() => {
@@ -124,7 +124,7 @@ fn mistake_of(matches: &ArgMatches<'_>) -> &'static str {
     }
 }
 
-/// The message for invalid options of a rendering.
+/// Returns the message for invalid options of a rendering.
 fn mistake_of_rendering(words: &ArgMatches<'_>) -> &'static str {
     if words.get_str("depth").and_then(depth_in).is_none() {
         "a depth is 16, 24 or 32"
@@ -135,7 +135,7 @@ fn mistake_of_rendering(words: &ArgMatches<'_>) -> &'static str {
     }
 }
 
-/// The message for invalid arguments of a comparison.
+/// Returns the message for invalid arguments of a comparison.
 fn mistake_of_comparison(words: &ArgMatches<'_>) -> &'static str {
     match (words.get_str("LIST"), words.get_str("LIST2")) {
         (Some("-"), Some("-")) => "standard input can be one of the lists, and not both",
@@ -143,7 +143,7 @@ fn mistake_of_comparison(words: &ArgMatches<'_>) -> &'static str {
     }
 }
 
-/// Whether the named flag is set, in any command.
+/// Returns whether the named flag is set, in any command.
 fn asks_for(id: &str, matches: &ArgMatches<'_>) -> bool
     ensures { result ≡ option_map_or (line.is_flagged id.now) (subcommand_rows_of matches.now) false }
 {
@@ -153,7 +153,7 @@ fn asks_for(id: &str, matches: &ArgMatches<'_>) -> bool
     }
 }
 
-/// Whether the named flag is set in the arguments of a command.
+/// Returns whether the named flag is set in the arguments of a command.
 fn is_set(id: &str, words: &ArgMatches<'_>) -> bool
     ensures { result ≡ line.is_set id.now (rows_of (found_of words.now)) }
 {
@@ -163,7 +163,7 @@ fn is_set(id: &str, words: &ArgMatches<'_>) -> bool
     }
 }
 
-/// The request in parsed arguments.
+/// Returns the request in parsed arguments.
 fn request_in<'a>(matches: &ArgMatches<'a>) -> Option<Request<'a>>
     ensures { option_map asked_of result ≡ option_and_then asked (subcommand_rows_of matches.now) }
 {
@@ -171,7 +171,7 @@ fn request_in<'a>(matches: &ArgMatches<'a>) -> Option<Request<'a>>
     request_by(name, words)
 }
 
-/// The request of the named command.
+/// Returns the request of the named command.
 fn request_by<'a>(name: &str, words: &ArgMatches<'a>) -> Option<Request<'a>>
     ensures { option_map asked_of result ≡ asked (name.now, rows_of (found_of words.now)) }
 {
@@ -183,7 +183,7 @@ fn request_by<'a>(name: &str, words: &ArgMatches<'a>) -> Option<Request<'a>>
     request_over(name, words)
 }
 
-/// The request to explain a refusal number, or after `notice` a notice number.
+/// Returns the request to explain a refusal number, or after `notice` a notice number.
 fn explained<'a>(what: Option<&'a str>, number: Option<&'a str>) -> Option<Request<'a>>
     ensures { option_map asked_of result
         ≡ line.explained (option_map (λ text. text.now) what.entry) (option_map (λ text. text.now) number.entry) }
@@ -200,7 +200,7 @@ fn explained<'a>(what: Option<&'a str>, number: Option<&'a str>) -> Option<Reque
     }
 }
 
-/// The request of the named command, which takes a list and a media folder.
+/// Returns the request of the named command, which takes a list and a media folder.
 fn request_over<'a>(name: &str, words: &ArgMatches<'a>) -> Option<Request<'a>>
     ensures { option_map asked_of result ≡ asked_over name.now (rows_of (found_of words.now)) }
 {
@@ -219,7 +219,7 @@ fn request_over<'a>(name: &str, words: &ArgMatches<'a>) -> Option<Request<'a>>
     request_to(name, Places { list, media, out }, words)
 }
 
-/// The request to check a list, with or without a report.
+/// Returns the request to check a list, with or without a report.
 fn checked<'a>(list: &'a str, media: &'a str, words: &ArgMatches<'_>) -> Request<'a>
     ensures { asked_of result ≡ (if line.is_set (codes "report") (rows_of (found_of words.now))
         then line.Report list.entry.now media.entry.now else line.Check list.entry.now media.entry.now) }
@@ -231,7 +231,7 @@ fn checked<'a>(list: &'a str, media: &'a str, words: &ArgMatches<'_>) -> Request
     }
 }
 
-/// The request to draw a list.
+/// Returns the request to draw a list.
 fn shown<'a>(list: &'a str, media: &'a str, words: &ArgMatches<'a>) -> Option<Request<'a>>
     ensures { option_map asked_of result
         ≡ option_map
@@ -242,7 +242,7 @@ fn shown<'a>(list: &'a str, media: &'a str, words: &ArgMatches<'a>) -> Option<Re
     Some(Request::Show(list, media, handle, drawn_in(words)))
 }
 
-/// The options of a picture.
+/// Returns the options of a picture.
 fn drawn_in<'a>(words: &ArgMatches<'a>) -> Drawn<'a>
     ensures { spec.drawn_of result ≡ line.drawn_of (rows_of (found_of words.now)) }
 {
@@ -252,7 +252,7 @@ fn drawn_in<'a>(words: &ArgMatches<'a>) -> Drawn<'a>
     }
 }
 
-/// The request to compare two lists.
+/// Returns the request to compare two lists.
 fn compared<'a>(list: &'a str, media: &'a str, words: &ArgMatches<'a>) -> Option<Request<'a>>
     ensures { option_map asked_of result
         ≡ line.asked_compare list.entry.now media.entry.now (rows_of (found_of words.now)) }
@@ -277,7 +277,7 @@ fn are_both_input(list: &str, other: &str) -> bool
     list == "-" && other == "-"
 }
 
-/// The options of a comparison.
+/// Returns the options of a comparison.
 fn selected_in<'a>(words: &ArgMatches<'a>) -> Option<Selected<'a>>
     ensures { option_map spec.selected_of result ≡ line.selected_of (rows_of (found_of words.now)) }
 {
@@ -290,7 +290,7 @@ fn selected_in<'a>(words: &ArgMatches<'a>) -> Option<Selected<'a>>
     })
 }
 
-/// The request to consolidate a list.
+/// Returns the request to consolidate a list.
 fn consolidated<'a>(places: Places<'a>, handle: u64, words: &ArgMatches<'_>) -> Option<Request<'a>>
     ensures { option_map asked_of result
         ≡ option_map (line.Consolidate places.entry.list.now places.entry.media.now places.entry.out.now handle)
@@ -300,7 +300,7 @@ fn consolidated<'a>(places: Places<'a>, handle: u64, words: &ArgMatches<'_>) -> 
     Some(Request::Consolidate(places, handle, report))
 }
 
-/// The kind of report to write, or `None` if digests are requested without a report.
+/// Returns the kind of report to write, or `None` if digests are requested without a report.
 fn media_report(words: &ArgMatches<'_>) -> Option<MediaReport>
     ensures { result ≡ line.media_report (rows_of (found_of words.now)) }
 {
@@ -314,7 +314,7 @@ fn media_report(words: &ArgMatches<'_>) -> Option<MediaReport>
     }
 }
 
-/// The request of the named command, which also takes an output folder.
+/// Returns the request of the named command, which also takes an output folder.
 fn request_to<'a>(name: &str, places: Places<'a>, words: &ArgMatches<'a>) -> Option<Request<'a>>
     ensures { option_map asked_of result
         ≡ line.asked_to name.now places.entry.list.now places.entry.media.now places.entry.out.now
@@ -328,14 +328,14 @@ fn request_to<'a>(name: &str, places: Places<'a>, words: &ArgMatches<'a>) -> Opt
     }
 }
 
-/// The handle in samples.
+/// Returns the handle in samples.
 fn handle_in(words: &ArgMatches<'_>) -> Option<u64>
     ensures { result ≡ line.handle_of (rows_of (found_of words.now)) }
 {
     number_in(0, 4_147_200_000, words.get_str("handle")?)
 }
 
-/// The options of a rendering.
+/// Returns the options of a rendering.
 fn chosen_in<'a>(words: &ArgMatches<'a>) -> Option<Chosen<'a>>
     ensures { option_map spec.chosen_of result ≡ line.chosen_of (rows_of (found_of words.now)) }
 {
@@ -373,7 +373,7 @@ fn order_in(text: &str) -> Option<Order>
     }
 }
 
-/// The optional number of channels, 1 to 64.
+/// Returns the optional number of channels, 1 to 64.
 fn channels_in(text: Option<&str>) -> Option<Option<u8>>
     ensures read { result ≡ line.channels_in (option_map (λ text. text.now) text.entry) }
     ensures few { IfSome result (λ channels. are_few channels ≡ true) }
@@ -384,7 +384,7 @@ fn channels_in(text: Option<&str>) -> Option<Option<u8>>
     }
 }
 
-/// The number from `low` to `high` in a decimal numeral with an optional plus sign.
+/// Returns the number from `low` to `high` in a decimal numeral with an optional plus sign.
 fn number_in(low: u64, high: u64, text: &str) -> Option<u64>
     ensures value { result ≡ line.number_in low high text.now }
     ensures within { IfSome result (λ number. (low ≤ number) × (number ≤ high)) }

@@ -16,9 +16,11 @@ use Rattle.comparing.specs.declared.compare_fault.ListFault.TheVariants.{Project
 use Rattle.comparing.specs.declared.compare_fault.CompareFault.{CompareFault}
 use Rattle.comparing.specs.declared.compare_fault.CompareFault.TheVariants.{EmptyRange, First, Second}
 
+-- a refusal that is returned before anything is written
 abbrev early : ℕ → Where → Refusal
 early number place = record { number = number; location = place; late = false }
 
+-- the refusal that reports an error of a list
 abbrev pub refusal_of : ListFault → Refusal
 refusal_of (Project fault) = opening_faults.refusal_of fault
 refusal_of Intervals = early 47 Nowhere
@@ -88,11 +90,13 @@ IsReportedAs sounds (side.Source file) (Source name) =
     (facts : SoundFacts) → slice_get sounds file ≡ Some facts → string_bytes name ≡ facts.name
 IsReportedAs sounds (side.Source file) _ = ⊥
 
+-- the file that an error of either list's sums names is open
 abbrev pub IsOpenedOfTwo : (sounds others : List SoundFacts) → of_sums.CompareFault → Type 0
 IsOpenedOfTwo sounds others sums.EmptyRange = ⊤
 IsOpenedOfTwo sounds others (sums.First fault) = IsOpened sounds fault
 IsOpenedOfTwo sounds others (sums.Second fault) = IsOpened others fault
 
+-- the error of the comparison that reports an error of either list's sums
 abbrev pub IsReportedOfTwo : (sounds others : List SoundFacts) → of_sums.CompareFault → CompareFault → Type 0
 IsReportedOfTwo sounds others sums.EmptyRange reported = reported ≡ EmptyRange
 IsReportedOfTwo sounds others (sums.First fault) (First reported) = IsReportedAs sounds fault reported

@@ -46,7 +46,7 @@ AnswersFirst due (Err (First fault)) = IsDue (refusal_of fault) due
 AnswersFirst due (Err (Second fault)) = due ≡ None
 AnswersFirst due (Err EmptyRange) = due ≡ None
 
--- the same for the second list, except that errors of opening the first list take precedence
+-- the result agrees with the second list's first error, but errors of opening the first list take precedence
 abbrev pub AnswersSecond : {X : Type 0} → Option Refusal → Result X CompareFault → Type 0
 AnswersSecond due (Ok x) = due ≡ None
 AnswersSecond due (Err (First fault)) = IsOfSums fault → due ≡ None

@@ -54,7 +54,7 @@ module _ (reading other : Reading) where
       (subst (λ (n : ℕ). IsSameAt whole.file n whole.other_file (part.other_frame + i) channel) here
       (subst (λ (n : ℕ). IsSameAt whole.file (whole.frame + j) whole.other_file n channel) other_here found)))
 
-  -- the same for equal caches and ranges
+  -- transport along equal caches and ranges
   pub both_same : (new old : List Match) (changed whole : Match) → new ≡ old → changed ≡ whole
       → All (AreSameFrames reading other) old → AreSameFrames reading other whole
       → (All (AreSameFrames reading other) new) × AreSameFrames reading other changed

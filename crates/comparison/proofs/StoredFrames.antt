@@ -128,7 +128,7 @@ same_frames reading other found depth other_depth bytes others same mine theirs 
       held.2,
     )
 
--- so do the bytes read from both files if they are equal
+-- equal bytes read from both files form a match
 pub match_same : (reading other : Reading) (found : Match) (facts other_facts : SoundFacts) (channels : ℕ)
     (depth other_depth : Depth) (bytes others : List ℕ) → channels ≡ found.channels → facts.channels ≡ found.channels
     → other_facts.channels ≡ found.channels → depth ≡ facts.depth → other_depth ≡ other_facts.depth

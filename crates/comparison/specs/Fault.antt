@@ -6,6 +6,7 @@ use Rattle.comparison.specs.declared.fault.SideFault.TheVariants.{Intervals, Mem
 use Rattle.comparison.specs.declared.fault.CompareFault.{CompareFault}
 use Rattle.comparison.specs.declared.fault.CompareFault.TheVariants.{EmptyRange, First, Second}
 
+-- the refusal number of an error
 abbrev pub number_of : SideFault → ℕ
 number_of Intervals = 47
 number_of Memory = 57

@@ -55,8 +55,8 @@ fn are_equal(bytes: u8x16, others: u8x16) -> bool
     bytes.simd_ne(others).to_bitmask() == 0
 }
 
-/// The number of leading samples known to be equal at full scale. Compares four at a time while
-/// eight remain.
+/// Returns the number of leading samples known to be equal at full scale. Compares four at a time
+/// while eight remain.
 #[inline(always)]
 fn same_lanes(pair: &Counterparts) -> usize
     ensures some { result ≤ pair.now.count }
@@ -81,7 +81,7 @@ fn same_lanes(pair: &Counterparts) -> usize
     done
 }
 
-/// Sample `i`, unpacked and scaled to 32 bits.
+/// Returns sample `i`, unpacked and scaled to 32 bits.
 fn sample_at(depth: Depth, bytes: &[u8], i: usize) -> i32
     requires { (i + 1) * (bits_of depth / 8) ≤ length bytes.now }
     ensures { full_scale 32 result
@@ -97,7 +97,7 @@ fn sample_at(depth: Depth, bytes: &[u8], i: usize) -> i32
     }
 }
 
-/// Whether all samples are equal at full scale: compares four at a time, then one by one.
+/// Returns whether all samples are equal at full scale: compares four at a time, then one by one.
 #[inline(always)]
 fn are_same_in(pair: &Counterparts) -> bool
     ensures { IsTrue result → SoundSame pair.now }

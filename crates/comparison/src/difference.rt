@@ -15,7 +15,7 @@ pub struct Difference {
     pub second: i64,
 }
 
-/// Whether all sums are equal. The loop has no early exit, so that it is vectorised.
+/// Returns whether all sums are equal. The loop has no early exit, so that it is vectorised.
 #[inline(always)]
 fn are_same(block: &BlockSums) -> bool
     ensures { IsTrue result → (k : ℕ) → k < length block.now.sums.now
@@ -29,7 +29,7 @@ fn are_same(block: &BlockSums) -> bool
     same
 }
 
-/// The index of the first sum that differs.
+/// Returns the index of the first sum that differs.
 fn first_differing(block: &BlockSums) -> Option<usize>
     ensures { IsFirstDiffering block.now.sums.now block.now.others.now (length block.now.sums.now) result }
 {

@@ -10,7 +10,8 @@ use crate::difference::{Difference, first_difference};
 use crate::sides::Sides;
 use devices::{Shelf, Watch};
 
-/// The first difference in block `k`. Sums nothing if the sides are seen to be equal without.
+/// Returns the first difference in block `k`. Sums nothing if the sides are seen to be equal
+/// without.
 fn compare_block<S: Shelf, T: Shelf>(
     k: u64,
     sides: &mut Sides,

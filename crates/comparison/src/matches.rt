@@ -32,8 +32,8 @@ const NONE: Match = Match {
     channels: 0,
 };
 
-/// Whether the later range begins within the earlier one or at its end, at the same distance in
-/// both files.
+/// Returns whether the later range begins within the earlier one or at its end, at the same
+/// distance in both files.
 fn follows(earlier: &Match, later: &Match) -> bool
     ensures { IsTrue result → Follows earlier.now later.now }
 {

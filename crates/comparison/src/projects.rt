@@ -49,7 +49,7 @@ pub enum Comparison {
     },
 }
 
-/// The plan of a region of a project.
+/// Creates the plan of a region of a project.
 fn plan_of(alloc: Global, checked: &Checked, region: &Region) -> Result<Plan, SideFault>
     ensures from { IfOk result (λ plan. plan.range.from ≡ region.now.from) }
     ensures to { IfOk result (λ plan. plan.range.to ≡ region.now.to) }
@@ -76,7 +76,7 @@ fn plan_of(alloc: Global, checked: &Checked, region: &Region) -> Result<Plan, Si
     }
 }
 
-/// One side of a comparison, and a buffer for the stored samples of its files.
+/// Creates one side of a comparison, and a buffer for the stored samples of its files.
 fn side_of<'a>(
     alloc: Global,
     checked: &'a Checked,
@@ -125,7 +125,7 @@ pub fn sides_of<'a, 'b>(
     })
 }
 
-/// The first difference of two projects in a region.
+/// Returns the first difference of two projects in a region.
 fn compare_in<S: Shelf, T: Shelf, W: Watch>(
     alloc: Global,
     first: &Checked,

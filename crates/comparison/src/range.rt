@@ -54,7 +54,7 @@ pub struct Region {
     ghost few_channels: { channels ≤ 64 },
 }
 
-/// The start of the first entry of either project, or 0 if there are no entries.
+/// Returns the start of the first entry of either project, or 0 if there are no entries.
 fn first_in_both(first: &Project, second: &Project) -> SampleTime
     ensures { result ≡ least_of (λ event. event.dest_in) (first.now.events ++ second.now.events) }
 {

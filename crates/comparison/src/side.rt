@@ -162,7 +162,7 @@ impl<'a> Side<'a> {
         self.plan.format().channels
     }
 
-    /// The number of sums of block `k`: one per sample frame and channel.
+    /// Returns the number of sums of block `k`: one per sample frame and channel.
     fn sums_of(&self, k: u64) -> usize
         requires { HasBlock self.now.work k }
         ensures sums { result ≡ block_frames self.now.work.planned.range k * self.now.work.planned.range.channels }
@@ -185,7 +185,7 @@ impl<'a> Side<'a> {
         (self.frames_up_to(k), self.frames_up_to(last))
     }
 
-    /// The number of sample frames up to and including block `k`.
+    /// Returns the number of sample frames up to and including block `k`.
     fn frames_up_to(&self, k: u64) -> u64 {
         k.saturating_mul(u64::from(BLOCK_LENGTH))
             .saturating_add(self.frames_of(k) as u64)

@@ -35,7 +35,7 @@ pub struct Stored {
     pub matches: Matches,
 }
 
-/// Whether the bytes are equal. The loop has no early exit, so that it is vectorised.
+/// Returns whether the bytes are equal. The loop has no early exit, so that it is vectorised.
 #[inline(always)]
 fn are_same(bytes: &[u8], others: &[u8]) -> bool
     ensures { IsTrue result → bytes.now ≡ others.now }
@@ -81,7 +81,7 @@ fn width_of(depth: Depth) -> usize
     usize::from(depth.bits() / 8)
 }
 
-/// Whether all samples of a pair are equal at full scale.
+/// Returns whether all samples of a pair are equal at full scale.
 fn are_counterparts(pair: &Counterparts) -> bool
     ensures { IsTrue result → SoundSame pair.now }
 {
@@ -144,8 +144,8 @@ fn read_match<S: Shelf, T: Shelf>(
     }))
 }
 
-/// Whether two stretches cover the same samples and channels of a block and read the same channels
-/// of their files.
+/// Returns whether two stretches cover the same samples and channels of a block and read the same
+/// channels of their files.
 fn are_laid_alike(stretch: &Stretch, part: &Stretch) -> bool
     ensures laid { IsTrue result → part.now
         ≡ record stretch.now { file = part.now.file; frame = part.now.frame } }
@@ -159,8 +159,8 @@ fn are_laid_alike(stretch: &Stretch, part: &Stretch) -> bool
     stretch.first >= 1 && *part == moved
 }
 
-/// The range of both files that two such stretches read, if the files have the same number of
-/// channels.
+/// Returns the range of both files that two such stretches read, if the files have the same number
+/// of channels.
 fn match_of(stretch: &Stretch, part: &Stretch, files: &Files) -> Option<Match>
     requires lies { LiesInFile files.now.sounds.now stretch.now.file stretch.now.first stretch.now.width
         stretch.now.frame stretch.now.length }
@@ -187,8 +187,8 @@ fn match_of(stretch: &Stretch, part: &Stretch, files: &Files) -> Option<Match>
     })
 }
 
-/// Whether two stretches add the same samples, by their stored form. Ranges in the cache aren't
-/// read again.
+/// Returns whether two stretches add the same samples, by their stored form. Ranges in the cache
+/// aren't read again.
 fn play_alike<S: Shelf, T: Shelf>(
     stretch: &Stretch,
     part: &Stretch,
@@ -223,7 +223,7 @@ fn play_alike<S: Shelf, T: Shelf>(
     Ok(true)
 }
 
-/// The stretch that an instruction adds, and its shape.
+/// Returns the stretch that an instruction adds, and its shape.
 fn addition(line: &Instruction) -> Option<(Stretch, Shape)>
     ensures { result ≡ addition_of line.now }
 {
@@ -243,7 +243,7 @@ fn addition(line: &Instruction) -> Option<(Stretch, Shape)>
     }
 }
 
-/// Whether both instructions start a block, or both end one.
+/// Returns whether both instructions start a block, or both end one.
 fn are_ends(line: &Instruction, counterpart: &Instruction) -> bool
     ensures { IsTrue result → (reading other : Reading) → AddAlike reading other line.now counterpart.now }
 {
@@ -254,8 +254,8 @@ fn are_ends(line: &Instruction, counterpart: &Instruction) -> bool
     }
 }
 
-/// Whether two instructions have the same effect on sums: they add the same samples under the same
-/// shape.
+/// Returns whether two instructions have the same effect on sums: they add the same samples under
+/// the same shape.
 fn add_alike<S: Shelf, T: Shelf>(
     line: &Instruction,
     counterpart: &Instruction,

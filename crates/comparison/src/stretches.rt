@@ -42,7 +42,7 @@ impl DifferingCounts {
     }
 }
 
-/// The part of an extent of at most `frames` samples from a time on.
+/// Returns the part of an extent of at most `frames` samples from a time on.
 fn stretch_in(extent: &Extent, from: SampleTime, frames: u64) -> Extent
     ensures from { result.from ≡ max extent.now.from from }
     ensures to { result.to ≡ min extent.now.to (from + frames) }
@@ -56,7 +56,7 @@ fn stretch_in(extent: &Extent, from: SampleTime, frames: u64) -> Extent
     }
 }
 
-/// A count of zero for each channel.
+/// Returns a count of zero for each channel.
 fn zeros_for(alloc: Global, channels: u8) -> Result<Vec<u32>, AllocError>
     ensures wide { IfOk result (λ counts. length counts.items ≡ channels) }
     ensures zero { IfOk result (λ counts. (k : ℕ) → slice_index_or counts.items k 0 ≡ 0) }

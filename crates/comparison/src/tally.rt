@@ -10,7 +10,7 @@ use crate::block::BlockSums;
 use crate::sides::Sides;
 use devices::{Shelf, Watch};
 
-/// The number of differing samples of a channel (from 0) in a block.
+/// Returns the number of differing samples of a channel (from 0) in a block.
 #[tactic(auto, using(crate::proofs::Counts::same_more, crate::proofs::Counts::apart_more))]
 fn count_channel(block: &BlockSums, channel: usize) -> u32
     requires { channel < block.now.channels }

@@ -17,7 +17,8 @@ pub fn is_unseen(character: char) -> bool
     character.is_control() || is_mark(u32::from(character))
 }
 
-/// Whether a code point is a bidirectional formatting character, or a line or paragraph separator.
+/// Returns whether a code point is a bidirectional formatting character, or a line or paragraph
+/// separator.
 fn is_mark(code: u32) -> bool
     ensures { result ≡ lines.is_mark code }
 {

@@ -106,7 +106,7 @@ fn put_digits<C: Console>(console: &mut C, number: u64)
     console.put(b".wav");
 }
 
-/// The leading zeros that make up five digits.
+/// Returns the leading zeros that make up five digits.
 fn zeros_before(digits: usize) -> &'static [u8]
     ensures { result.now ≡ replicate (5 - digits) 48 }
 {

@@ -4,6 +4,7 @@ use Rattle.sound_terms.specs.Sounds.{SoundFacts}
 use Rattle.digests.specs.declared.fault.ReportFault.{ReportFault}
 use Rattle.digests.specs.declared.fault.ReportFault.TheVariants.{Device, Memory}
 
+-- the error of a device
 abbrev pub IsDevice : ReportFault → Type 0
 IsDevice (Device file) = ⊤
 IsDevice Memory = ⊥

@@ -10,6 +10,7 @@ use Rattle.digests.specs.declared.medium.Medium.{Medium}
 abbrev pub sum_line : (digest name : List ℕ) → List ℕ
 sum_line digest name = encode_lower digest ++ (codes "  " ++ (name ++ 10 ∷ []))
 
+-- the line of a medium
 abbrev pub medium_line : Medium → List ℕ
 medium_line medium = sum_line medium.digest (media_name medium.number)
 

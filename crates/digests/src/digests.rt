@@ -23,8 +23,8 @@ use wavread::Sound;
 /// Size in bytes of the longest header (with 65,536 bytes of CodingHistory) and of each read.
 pub(crate) const ROOM: usize = 66_226;
 
-/// The number of bytes of a sample frame, 2 to 256. Also shows that the number of sample frames
-/// fits in 64 bits.
+/// Returns the number of bytes of a sample frame, 2 to 256. Also shows that the number of sample
+/// frames fits in 64 bits.
 fn frame_of(sound: &Sound) -> usize
     ensures value { result ≡ frame_length sound.now }
     ensures bounded { sound.now.frames < 2 ^ 64 }
@@ -83,7 +83,7 @@ fn hash_run<S: Shelf>(
     Ok(())
 }
 
-/// The SHA-256 of the medium of a run: header, samples and padding.
+/// Returns the SHA-256 of the medium of a run: header, samples and padding.
 fn digest_of<S: Shelf>(
     shelf: &mut S,
     kept: &Kept,
@@ -108,7 +108,7 @@ fn digest_of<S: Shelf>(
     Ok(hasher.finalize())
 }
 
-/// The medium of the given number, with the digest of its source if given.
+/// Returns the medium of the given number, with the digest of its source if given.
 fn hashed_medium<S: Shelf>(
     shelf: &mut S,
     sounds: &[Sound],

@@ -17,9 +17,9 @@ use sha2::{Digest, Sha256};
 use sound_terms::Run;
 use wavread::Sound;
 
-/// The length of the named file in bytes. If the file is missing, reads it, so that its shelf
-/// counts a failure. If that read succeeds after all, the result is longer than any file, so that a
-/// later read fails.
+/// Returns the length of the named file in bytes. If the file is missing, reads it, so that its
+/// shelf counts a failure. If that read succeeds after all, the result is longer than any file, so
+/// that a later read fails.
 fn length_of<S: Shelf>(shelf: &mut S, name: &str) -> Result<u64, DeviceFault>
     ensures length { IsTrue (S.honest shelf.old)
         → IfOk result (λ n. length (content (S.stored shelf.old) name.now) ≡ n) }
@@ -59,7 +59,7 @@ fn hash_bytes<S: Shelf>(
     }
 }
 
-/// The SHA-256 of the whole named file, read by way of `room`.
+/// Returns the SHA-256 of the whole named file, read by way of `room`.
 fn file_digest<S: Shelf>(
     shelf: &mut S,
     name: &str,

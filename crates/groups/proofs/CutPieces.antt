@@ -97,7 +97,7 @@ none_before time p (q ∷ qs) group le =
     let next = next_start p q group.0 in
     rw e (none_before time q qs group.1 (omega arith))
 
--- such a group is entirely after the time
+-- a group that starts at or after the time is entirely after it
 all_behind : (time : ℕ) (p : Piece) (ps : List Piece) → IsGroup (p ∷ ps) → time ≤ p.start → back time (p ∷ ps) ≡ p ∷ ps
 all_behind time p [] group le = let e : nat_le time p.start ≡ true = grind (arith, nat_tests) in rw e refl
 all_behind time p (q ∷ qs) group le =

@@ -11,7 +11,7 @@ use Rattle.sound_terms.specs.Passes.{is_followed_by}
 use Rattle.groups.specs.Packed.{fall_in, flat_in, part_in, piece_in, pieces_in, rise_in}
 use Rattle.groups.specs.declared.packed.Packed.{Packed}
 
--- a group continues a piece: the piece is no fade-out, the group has no fade-in, and at most one of them is flat
+-- a group continues a piece: the piece is no fade-out, the group has no fade-in, and no flat part after a flat piece
 record GoesOn (p : Piece) (later : Packed) : Type 0 where
   pub start : later.start ≡ p.start + p.length
   pub frame : later.frame ≡ p.frame + p.length

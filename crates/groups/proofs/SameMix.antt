@@ -52,7 +52,7 @@ part_cut r cut p channel time low high =
           let samples : (cut - p.start) + (time - cut) ≡ time - p.start = omega arith in
           rw (frames, fraction_behind p.shape (cut - p.start) (time - cut), samples) refl
 
--- the same for a piece that may be on one side of the time
+-- the parts of any piece before and after the cut add the samples of the piece
 piece_cut : (r : Reading) (cut : ℕ) (p : Piece) (channel time : ℕ)
     → sum_of r (piece_before cut p) channel time +ℤ sum_of r (piece_behind cut p) channel time
     ≡ part_of r p channel time

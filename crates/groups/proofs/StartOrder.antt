@@ -81,7 +81,7 @@ apart time own group groups rest false here before same =
     let there : filter (begins_at time) rest ≡ filter (begins_at time) groups = rw here at same in
     rw (here, there) refl
 
--- inserting a group in order doesn't change the groups at any other time
+-- inserting a group in order keeps the groups that start at each time
 put_keeps : (time : ℕ) (own : List Piece) (groups : List (List Piece))
     → filter (begins_at time) (put_by_start own groups) ≡ filter (begins_at time) (own ∷ groups)
 put_keeps time own [] = refl

@@ -18,13 +18,15 @@ piece_in group at n shape = record {
   shape = shape;
 }
 
--- the fade-in, the flat part and the fade-out of the group; each may be empty
+-- the fade-in of the group, which may be empty
 abbrev pub rise_in : Packed → Piece
 rise_in group = piece_in group 0 group.rise.length (Rise group.rise.offset group.rise.den)
 
+-- the flat part of the group, which may be empty
 abbrev pub flat_in : Packed → Piece
 flat_in group = piece_in group group.rise.length group.middle Flat
 
+-- the fade-out of the group, which may be empty
 abbrev pub fall_in : Packed → Piece
 fall_in group =
     piece_in group (group.rise.length + group.middle) group.fall.length (Fall group.fall.offset group.fall.den)

@@ -11,7 +11,7 @@ use crate::{Group, IntervalFault, Intervals, Piece};
 use sampletime::SampleTime;
 use std::alloc::AllocError;
 
-/// The part of a piece before `time`, if any.
+/// Returns the part of a piece before `time`, if any.
 fn before(piece: &Piece, time: u64) -> Option<Piece>
     requires { IsPiece piece.now }
     ensures { option_to_list result ≡ piece_before time piece.now }
@@ -28,7 +28,7 @@ fn before(piece: &Piece, time: u64) -> Option<Piece>
     }
 }
 
-/// The part of a piece from `time` on, if any.
+/// Returns the part of a piece from `time` on, if any.
 fn after(piece: &Piece, time: u64) -> Option<Piece>
     requires { IsPiece piece.now }
     ensures { option_to_list result ≡ piece_behind time piece.now }

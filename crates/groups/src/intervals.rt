@@ -105,7 +105,7 @@ impl Intervals {
     }
 }
 
-/// Whether every fade of the group is uncut.
+/// Returns whether every fade of the group is uncut.
 fn is_whole_group(group: &Group) -> bool
     ensures { result ≡ list_all spec.is_whole group.now }
 {
@@ -113,7 +113,7 @@ fn is_whole_group(group: &Group) -> bool
     pieces.as_slice().iter().all(is_whole)
 }
 
-/// Whether the piece is flat or an uncut fade.
+/// Returns whether the piece is flat or an uncut fade.
 fn is_whole(piece: &Piece) -> bool
     ensures { result ≡ spec.is_whole piece.now }
 {

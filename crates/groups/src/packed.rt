@@ -140,7 +140,8 @@ impl Packed {
         }
     }
 
-    /// The piece of `length` samples and the given shape that starts at sample `at` of the group.
+    /// Returns the piece of `length` samples and the given shape that starts at sample `at` of the
+    /// group.
     #[inline(always)]
     fn part(&self, at: u64, length: u32, shape: Shape) -> Piece
         requires { at < 2 ^ 63 }

@@ -34,7 +34,7 @@ fn whole_ramp(samples: u64) -> Ramp
     }
 }
 
-/// The pieces of an entry, packed.
+/// Returns the pieces of an entry, packed.
 fn parts_of(entry: &Entry) -> Packed
     ensures { pieces_in result ≡ entries.parts_of entry.now.index.now entry.now.event.now }
 {

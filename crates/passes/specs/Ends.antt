@@ -43,6 +43,7 @@ flat_alone (p ∷ q ∷ ps) = None
 abbrev pub flat_end : List Piece → Option End
 flat_end group = option_map end_of (flat_alone group)
 
+-- the last piece of a group
 abbrev pub last_piece : List Piece → Option Piece
 last_piece [] = None
 last_piece (p ∷ []) = Some p
@@ -58,6 +59,7 @@ is_same a b =
     a.rank == b.rank && (a.start == b.start && (a.frame == b.frame && (a.file == b.file
     && (a.first == b.first && (a.dest == b.dest && a.width == b.width)))))
 
+-- the mark is this end
 abbrev pub is_end : End → Option End → Bool
 is_end end None = false
 is_end end (Some mark) = is_same end mark
@@ -98,6 +100,7 @@ end_cmp a b =
     (ordering_then (nat_cmp a.rank b.rank) (ordering_then (nat_cmp a.first b.first)
     (ordering_then (nat_cmp a.dest b.dest) (nat_cmp a.width b.width))))))
 
+-- order of index entries: by end, then by position
 abbrev pub place_cmp : End × ℕ → End × ℕ → Ordering
 place_cmp a b = ordering_then (end_cmp a.0 b.0) (nat_cmp a.1 b.1)
 

@@ -12,6 +12,7 @@ use Rattle.passes.specs.declared.fault.PassFault.TheVariants.{Memory, Device}
 abbrev pub is_silent_in : Reading → Piece → Bool
 is_silent_in reading p = are_zero reading p.file p.first p.width p.frame p.length
 
+-- the silence flags of the pieces, in order
 abbrev pub silences_of : Reading → List Piece → List Bool
 silences_of reading pieces = map (is_silent_in reading) pieces
 

@@ -28,7 +28,7 @@ pub(crate) struct End {
     width: u8,
 }
 
-/// The position of a shape within a group: fade-in, flat part, fade-out.
+/// Returns the position of a shape within a group: fade-in, flat part, fade-out.
 fn rank_of(shape: Shape) -> u8
     ensures { result ≡ spec.rank_of shape }
 {

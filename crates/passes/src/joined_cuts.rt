@@ -16,7 +16,7 @@ use crate::{Pass, PassFault};
 use groups::{Group, Intervals, Piece, Shape};
 use std::alloc::{AllocError, Global};
 
-/// The piece of a group that consists of one flat piece.
+/// Returns the piece of a group that consists of one flat piece.
 fn flat_alone(group: &Group) -> Option<Piece>
     ensures alone { result ≡ ends.flat_alone group.now }
     ensures sound { All IsPiece group.now }

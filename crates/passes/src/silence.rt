@@ -14,14 +14,14 @@ fn are_true(flags: &[bool]) -> bool
     flags.iter().all(|flag| *flag)
 }
 
-/// Whether the next `count` pieces exist in `silent` and are all silent.
+/// Returns whether the next `count` pieces exist in `silent` and are all silent.
 fn is_called(count: usize, silent: &[bool]) -> bool
     ensures { result ≡ spec.is_called count silent.now }
 {
     count <= silent.len() && are_true(&silent[..count])
 }
 
-/// The groups with at least one piece that isn't marked silent.
+/// Returns the groups with at least one piece that isn't marked silent.
 fn sounding(intervals: Intervals, silent: &[bool]) -> Result<Vec<Group>, AllocError>
     ensures { IfOk result (λ groups. groups.items ≡ without_silent intervals silent.now) }
 {

@@ -43,7 +43,7 @@ impl Part {
     }
 }
 
-/// The samples from the first In to the last Out, or an empty span if there are no entries.
+/// Returns the samples from the first In to the last Out, or an empty span if there are no entries.
 fn whole_of(events: &[Event]) -> (u64, u64) {
     let mut span = (u64::MAX, 0);
     for event in events {

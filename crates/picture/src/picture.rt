@@ -156,7 +156,7 @@ impl<'a> Picture<'a> {
         }
     }
 
-    /// The bars of the files at `top` pixels, if there are any.
+    /// Returns the bars of the files at `top` pixels, if there are any.
     fn bars(&self, top: u64) -> Option<SourceBars<'_>> {
         let bound = self.shown.bound?;
         let files = self.files.as_ref()?;
@@ -169,7 +169,7 @@ impl<'a> Picture<'a> {
         })
     }
 
-    /// The end of the part below the lanes, in pixels from the top.
+    /// Returns the end of the part below the lanes, in pixels from the top.
     fn bottom(&self, top: u64) -> u64 {
         match self.bars(top) {
             Some(bars) => bars.bottom(),

@@ -42,7 +42,7 @@ pub fn draw_refused<S: Shelf, O: Console>(
     }
 }
 
-/// The indexes of faulty files, with their refusal numbers.
+/// Returns the indexes of faulty files, with their refusal numbers.
 fn bad_files_of<S: Shelf>(
     alloc: Global,
     list: &[u8],

@@ -25,7 +25,7 @@ impl fmt::Display for TimeCode<'_> {
     }
 }
 
-/// The interval between marks for a span: a number of frames, seconds, minutes or hours, in
+/// Returns the interval between marks for a span: a number of frames, seconds, minutes or hours, in
 /// samples.
 fn step_of(length: u64, frame: u64) -> u64 {
     let frames = [1, 2, 5, 10];
@@ -74,7 +74,7 @@ pub fn put_ruler<W: fmt::Write>(
     put_times(f, project, span, step)
 }
 
-/// The first multiple of `step` at or after `from`.
+/// Returns the first multiple of `step` at or after `from`.
 fn first_of(from: u64, step: u64) -> u64 {
     let before = from.checked_div(step).unwrap_or(0).saturating_mul(step);
     if before < from {

@@ -77,8 +77,8 @@ impl<'a> Shown<'a> {
     }
 }
 
-/// The samples before the first and after the last of an index, among `length` samples from `from`
-/// on.
+/// Returns the samples before the first and after the last of an index, among `length` samples from
+/// `from` on.
 fn missing_in(index: BoundIndex, from: u64, length: u64) -> Missing {
     let before = index.base.saturating_sub(from).min(length);
     let first = from.saturating_sub(index.base);

@@ -22,7 +22,7 @@ pub struct SourceBars<'a> {
     pub top: u64,
 }
 
-/// The number of samples of a file in runs.
+/// Returns the number of samples of a file in runs.
 fn frames_in(runs: &[Run], file: usize) -> u64 {
     let mut frames: u64 = 0;
     for run in runs {
@@ -33,7 +33,7 @@ fn frames_in(runs: &[Run], file: usize) -> u64 {
     frames
 }
 
-/// A number of samples in seconds.
+/// Returns a number of samples in seconds.
 fn seconds(frames: u64) -> Tenths {
     Tenths(frames / 4_800)
 }

@@ -60,7 +60,7 @@ impl<'a> Timeline<'a> {
         }
     }
 
-    /// Whether the entry is drawn: always, or if it reaches into the selected part.
+    /// Returns whether the entry is drawn: always, or if it reaches into the selected part.
     fn draws(self, event: &Event) -> bool {
         let (from, to) = self.span;
         !self.is_part || (event.dest_in.get() < to && from < event.dest_out.get())
@@ -77,7 +77,7 @@ impl<'a> Timeline<'a> {
         count
     }
 
-    /// The top of a channel's lane, in pixels.
+    /// Returns the top of a channel's lane, in pixels.
     fn lane(self, channel: u8) -> u64 {
         TOP + u64::from(channel.saturating_sub(self.channels.0)) * LANE
     }
@@ -285,7 +285,7 @@ fn put_cut<W: fmt::Write>(
     writeln!(f, " {right},{bottom}'/>")
 }
 
-/// The height of an entry's shape at a sample, in tenths of a pixel.
+/// Returns the height of an entry's shape at a sample, in tenths of a pixel.
 fn height_at(event: &Event, sample: u64) -> u64 {
     let whole = HIGH * 10;
     let risen = sample.saturating_sub(event.dest_in.get());
@@ -295,13 +295,14 @@ fn height_at(event: &Event, sample: u64) -> u64 {
     up.min(down)
 }
 
-/// The height after the given number of samples of a fade.
+/// Returns the height after the given number of samples of a fade.
 fn share_of(whole: u64, samples: u64, length: u64) -> u64 {
     let share = samples.min(length).saturating_mul(whole);
     share.checked_div(length).unwrap_or(whole)
 }
 
-/// The text row of an entry: one further down for each of the preceding entries that overlaps it.
+/// Returns the text row of an entry: one further down for each of the preceding entries that
+/// overlaps it.
 fn row_of(event: &Event, before: &[Event]) -> u64 {
     let mut together: u64 = 0;
     for other in before {
@@ -312,7 +313,7 @@ fn row_of(event: &Event, before: &[Event]) -> u64 {
     together % ROWS
 }
 
-/// Whether two entries sound at the same time on the first channel of the first one.
+/// Returns whether two entries sound at the same time on the first channel of the first one.
 fn sound_together(event: &Event, other: &Event) -> bool {
     let channel = event.dest.first;
     other.dest.first <= channel

@@ -9,6 +9,7 @@ pub record AskedReport : Type 0 where
   pub list : List ℕ
   pub digests : Bool
 
+-- the options in a contract's terms
 abbrev pub asked_of : ReportOn → AskedReport
 asked_of on = record {
   program = on.program.now;

@@ -64,7 +64,7 @@ origin_data facts first source digest =
     (member (codes "sha256") (known_digest digest)
     (member (codes "url") (told (λ s. text_data s.url) source) no_members))))))
 
--- a medium of an open file; the first sample of the file is at time `base`
+-- a medium of an open file, with its origin; the first sample of the medium is at time `base`
 abbrev pub medium_data : SoundFacts → (base : ℕ) → Data → Medium → Data
 medium_data facts base origin medium =
     object (member (codes "base") (count base)
@@ -75,6 +75,7 @@ medium_data facts base origin medium =
     (member (codes "sha256") (digest_data medium.digest)
     (member (codes "source") origin no_members)))))))
 
+-- a medium with its origin, from the line of the source index for the home index of its file
 abbrev pub medium_told : List Source → List BoundIndex → List SoundFacts → List Home → Medium → Data
 medium_told sources indexes sounds homes medium =
     let file = medium.run.file in
@@ -123,10 +124,11 @@ pub record Told : Type 0 where
   pub handle : ℕ
   pub asked : AskedReport
 
--- the input entries and the new ones, each with the samples that it plays
+-- the input entries, each with the samples that it plays
 abbrev pub given_of : Told → List Played
 given_of t = given_entries t.binding.indexes t.project.events
 
+-- the new entries, each with the samples that it plays
 abbrev pub news_of : Told → List Played
 news_of t = new_entries t.kept.homes t.kept.runs t.events
 
@@ -134,6 +136,7 @@ news_of t = new_entries t.kept.homes t.kept.runs t.events
 abbrev pub groups_told : Told → List Shown
 groups_told t = groups_of (given_of t) (news_of t)
 
+-- the report with these media
 abbrev pub told_data : Told → List Medium → Data
 told_data t media = report_data t.handle t.asked t.text
     (map (medium_told t.project.sources t.binding.indexes (sounds_of t.binding) t.kept.homes) media)
@@ -149,10 +152,11 @@ json_of t media = compact_text (told_data t media) ++ 10 ∷ []
 abbrev pub media_over : Files → Told → List Medium
 media_over sources t = media_of t.asked.digests sources (sounds_of t.binding) t.kept.homes t.kept.runs
 
--- the report over these sources, and the checksums of all files written
+-- the report over these sources, as text
 abbrev pub report_json : Files → Told → List ℕ
 report_json sources t = json_of t (media_over sources t)
 
+-- the checksums of all files written, over these sources
 abbrev pub report_sums : Files → Told → List ℕ
 report_sums sources t = sums_of (media_over sources t) t.text (report_json sources t)
 

@@ -19,7 +19,7 @@ fn number_values(alloc: Global, numbers: &[u32]) -> Result<Vec<Value>, AllocErro
     Ok(values)
 }
 
-/// The value of a group: some of its entry numbers, and the number of further ones.
+/// Returns the value of a group: some of its entry numbers, and the number of further ones.
 fn group_value(alloc: Global, group: &Group) -> Result<Value, AllocError>
     ensures { IfOk result (λ value. view value ≡ group_data (seen group.now)) }
 {
@@ -39,7 +39,7 @@ pub fn group_values(alloc: Global, groups: &[Group]) -> Result<Vec<Value>, Alloc
     Ok(values)
 }
 
-/// The value of a new entry: its number and the number of its group.
+/// Returns the value of a new entry: its number and the number of its group.
 fn entry_value(alloc: Global, entry: &GroupedEntry) -> Result<Value, AllocError>
     ensures { IfOk result (λ value. view value ≡ entry_data entry.now) }
 {

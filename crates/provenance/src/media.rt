@@ -15,7 +15,7 @@ use std::alloc::{AllocError, Global};
 use std::str;
 use wavread::Sound;
 
-/// The bytes as a string if they are UTF-8, otherwise null.
+/// Returns the bytes as a string if they are UTF-8, otherwise null.
 fn text_value(alloc: Global, bytes: &[u8]) -> Result<Value, AllocError>
     ensures { IfOk result (λ value. view value ≡ text_data bytes.now) }
 {
@@ -25,7 +25,7 @@ fn text_value(alloc: Global, bytes: &[u8]) -> Result<Value, AllocError>
     }
 }
 
-/// The digest as 64 hexadecimal digits, or null.
+/// Returns the digest as 64 hexadecimal digits, or null.
 fn digest_value(alloc: Global, digest: &Option<[u8; 32]>) -> Result<Value, AllocError>
     ensures { IfOk result (λ value. view value ≡ known_digest digest.now) }
 {
@@ -38,7 +38,7 @@ fn digest_value(alloc: Global, digest: &Option<[u8; 32]>) -> Result<Value, Alloc
     }
 }
 
-/// The line of the source index for the home index of a file.
+/// Returns the line of the source index for the home index of a file.
 fn home_source<'a>(
     sources: &'a Sources,
     indexes: &[BoundIndex],
@@ -51,7 +51,7 @@ fn home_source<'a>(
     sources.get(index.number)
 }
 
-/// The origin of a medium.
+/// Returns the origin of a medium.
 fn origin_value(
     alloc: Global,
     sound: &Sound,
@@ -87,7 +87,7 @@ fn origin_value(
     })
 }
 
-/// The value of a medium; the first sample of its source is at time `base`.
+/// Returns the value of a medium whose first sample is at time `base`.
 fn medium_value(
     alloc: Global,
     sound: &Sound,
@@ -110,7 +110,7 @@ fn medium_value(
     Ok(Value::Object(told))
 }
 
-/// The value of a medium, with its origin.
+/// Returns the value of a medium, with its origin.
 fn told_value(
     alloc: Global,
     sources: &Sources,

@@ -7,7 +7,7 @@ use list_terms::Notice;
 use serde_json::{Value, json, push};
 use std::alloc::{AllocError, Global};
 
-/// The value of a notice: its number, and its line or index.
+/// Returns the value of a notice: its number, and its line or index.
 fn notice_value(alloc: Global, notice: &Notice) -> Result<Value, AllocError>
     ensures { IfOk result (λ value. view value ≡ notice_data notice.now) }
 {

@@ -45,7 +45,7 @@ struct Parts {
     notices: Vec<Value>,
 }
 
-/// The JSON value of a report, from the digests of both lists in hexadecimal.
+/// Returns the JSON value of a report, from the digests of both lists in hexadecimal.
 fn consolidation_value(
     alloc: Global,
     handle: u64,
@@ -81,7 +81,7 @@ fn consolidation_value(
     Ok(Value::Object(told))
 }
 
-/// The JSON value of a report, from the texts of both lists.
+/// Returns the JSON value of a report, from the texts of both lists.
 fn report_value(
     alloc: Global,
     handle: u64,
@@ -98,7 +98,7 @@ fn report_value(
     consolidation_value(alloc, handle, asked, given, new, parts)
 }
 
-/// The text of the report, with its final line feed.
+/// Returns the text of the report, with its final line feed.
 fn json_text(
     alloc: Global,
     project: &Project,

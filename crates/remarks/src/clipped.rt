@@ -31,14 +31,14 @@ fn time_text(time: SampleTime, rate: Rate) -> [u8; 16] {
 }
 
 impl ClippedLine {
-    /// The time of a sample, by its index among the interleaved samples.
+    /// Returns the time of a sample, by its index among the interleaved samples.
     fn time_of(&self, sample: u64) -> SampleTime {
         let frame = sample / u64::from(self.channels.max(1));
         let time = self.start.get().saturating_add(frame);
         SampleTime::new(time).unwrap_or(SampleTime::ZERO)
     }
 
-    /// The channel (from 1) of a sample, by its index among the interleaved samples.
+    /// Returns the channel (from 1) of a sample, by its index among the interleaved samples.
     fn channel_of(&self, sample: u64) -> u64 {
         sample % u64::from(self.channels.max(1)) + 1
     }
@@ -98,7 +98,8 @@ const FULL_SCALE: u128 = 1 << 47;
 /// The maximum excess of a 64-bit sum over full scale, in tenths of a decibel: 16 bits.
 const MOST_TENTHS: u64 = 964;
 
-/// The excess of a magnitude over full scale in tenths of a decibel, rounded; 0 if there is none.
+/// Returns the excess of a magnitude over full scale in tenths of a decibel, rounded; 0 if there is
+/// none.
 fn tenths_above(peak: u64) -> u64 {
     // Half a step and then one step of a tenth of a decibel: 10 ^ (1 / 400) and 10 ^ (1 / 200), in
     // units of 2 ^ -32.

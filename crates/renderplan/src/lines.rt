@@ -18,7 +18,8 @@ pub struct Window {
     ghost few_channels: { channels ≤ 64 },
 }
 
-/// The instruction for the part of a piece within the window, or `None` if there is no such part.
+/// Returns the instruction for the part of a piece within the window, or `None` if there is no such
+/// part.
 fn line_of(piece: &Piece, window: Window) -> Option<Instruction>
     requires { IsPiece piece.now }
     ensures { option_to_list result ≡ lines_of window.from window.frames window.channels piece.now }

@@ -21,7 +21,7 @@ pub struct Reach {
 }
 
 impl Reach {
-    /// The reach of one piece.
+    /// Returns the reach of one piece.
     fn of(piece: &Piece) -> Self
         requires { IsPiece piece.now }
         ensures { result ≡ record {
@@ -37,7 +37,7 @@ impl Reach {
         }
     }
 
-    /// The reach of two adjacent runs of pieces together.
+    /// Returns the reach of two adjacent runs of pieces together.
     fn joined(self, next: Reach) -> Self
         requires { self.count + next.count < 2 ^ 64 }
         ensures { result ≡ joined_reach self next }
@@ -49,7 +49,7 @@ impl Reach {
         }
     }
 
-    /// Whether none of the pieces sounds from `from` to `to` (exclusive).
+    /// Returns whether none of the pieces sounds from `from` to `to` (exclusive).
     fn is_outside(self, from: u64, to: u64) -> bool
         ensures { result ≡ (nat_le self.greatest from || nat_le to self.least) }
     {
@@ -129,7 +129,7 @@ impl Reached {
         self.pieces.as_slice()
     }
 
-    /// The reach of the run that begins at piece `next`.
+    /// Returns the reach of the run that begins at piece `next`.
     fn reach_from(&self, next: usize) -> Reach
         requires { next < length self.now }
         ensures { IsReach (drop next self.now) result }

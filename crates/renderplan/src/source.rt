@@ -8,8 +8,8 @@ use crate::lines::Window;
 use crate::reach::Reached;
 use sound_terms::Piece;
 
-/// The file of a piece and the first sample of it in the window, or `None` if the piece is silent
-/// there.
+/// Returns the file of a piece and the first sample of it in the window, or `None` if the piece is
+/// silent there.
 fn heard_first(piece: &Piece, window: Window) -> Option<(u32, u64)>
     requires { IsPiece piece.now }
     ensures source { result ≡ (if sounds_in window.from window.frames window.channels piece.now

@@ -15,7 +15,7 @@ use crate::plan::BLOCK_LENGTH;
 use sound_terms::Program;
 
 impl Plan {
-    /// The extent of the blocks from `first` to `last` (exclusive).
+    /// Returns the extent of the blocks from `first` to `last` (exclusive).
     fn window_between(&self, first: u64, last: u64) -> Window
         requires { IsSpan self.now.range first last }
         ensures from { result.from ≡ block_start self.now.range first }

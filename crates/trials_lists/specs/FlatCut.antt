@@ -5,10 +5,11 @@ use Rattle.sound_terms.specs.declared.piece.Piece.{Piece}
 use Rattle.sound_terms.specs.Groups.{in_start_order}
 use Rattle.sound_terms.specs.Passes.{is_flat}
 
--- the first n samples of a flat piece, and the samples after them
+-- the first n samples of a flat piece
 abbrev pub front : ℕ → Piece → Piece
 front n p = record p { length = n }
 
+-- the samples of a flat piece after the first n
 abbrev pub behind : ℕ → Piece → Piece
 behind n p = record p { start = p.start + n; frame = p.frame + n; length = p.length - n }
 
@@ -20,5 +21,6 @@ flat_cut time (p ∷ []) = if is_flat p.shape && (nat_lt p.start time && nat_lt 
     else (p ∷ []) ∷ []
 flat_cut time (p ∷ q ∷ ps) = (p ∷ q ∷ ps) ∷ []
 
+-- all groups, cut at a time
 abbrev pub cut_flats : ℕ → List (List Piece) → List (List Piece)
 cut_flats time groups = in_start_order (flat_map (flat_cut time) groups)

@@ -47,14 +47,14 @@ impl Model for Board {
     ghost invariant = { λ b. IsIndexed b.jobs.items b.order.items b.places.items b.firsts b.counts };
 }
 
-/// Whether the job can be dispatched.
+/// Returns whether the job can be dispatched.
 fn givable(job: &Job) -> bool
     ensures { result ≡ is_givable job.now }
 {
     job.standing == Standing::Open && job.given < u32::MAX
 }
 
-/// A count after one of the counted jobs has changed from `from` to `to`.
+/// Returns the count after one of the counted jobs has changed from `from` to `to`.
 fn moved(count: u32, from: bool, to: bool) -> u32
     requires some { cond from 1 0 ≤ count + cond to 1 0 }
     requires room { count + cond to 1 0 - cond from 1 0 < 2 ^ 32 }
@@ -99,7 +99,7 @@ fn counts_with(counts: &Counts, jobs: &[Job], k: usize, job: &Job) -> Counts
     Counts { idle, out, done }
 }
 
-/// The position of each job in the order.
+/// Returns the position of each job in the order.
 fn places_of(alloc: Global, jobs: u32, order: &[u32]) -> Result<Vec<u32>, BoardFault>
     requires { IsOrder jobs order.now }
     ensures length { IfOk result (λ places. length places.items ≡ jobs) }

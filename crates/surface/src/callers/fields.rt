@@ -18,7 +18,7 @@ pub fn of_project(project: &Project) -> (&Header, Rate, Separators) {
     (project.header(), project.rate(), project.separators())
 }
 
-/// The number of lines kept of a section, if it exists.
+/// Returns the number of lines kept of a section, if it exists.
 fn kept_in(section: &Option<KeptLines>) -> Option<usize> {
     match section {
         Some(lines) => Some(lines.as_slice().len()),

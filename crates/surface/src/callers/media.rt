@@ -22,7 +22,7 @@ const PIECE: u64 = 65_536;
 /// Name of the list.
 const LIST: &str = "consolidated.adl";
 
-/// The description of the medium of a run; the source's first sample is at time `base`.
+/// Returns the description of the medium of a run; the source's first sample is at time `base`.
 fn info_of(alloc: Global, sound: &Sound, base: u64, run: &Run) -> Result<SoundInfo> {
     let text = match sound.bext() {
         Some(bext) => bext.text,

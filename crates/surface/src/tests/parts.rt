@@ -29,7 +29,7 @@ const END: u64 = 97_925;
 /// Offset of the samples in a written file.
 const SAMPLES_AT: usize = 690;
 
-/// The sources.
+/// Returns the sources.
 fn sources(alloc: Global) -> Result<MemoryShelf, Fail> {
     let bext = Bext {
         text: [7; 338],
@@ -40,7 +40,7 @@ fn sources(alloc: Global) -> Result<MemoryShelf, Fail> {
     Ok(MemoryShelf::new(alloc).with_file("A.wav", &file)?)
 }
 
-/// The checked list.
+/// Returns the checked list.
 fn checked(alloc: Global, shelf: &mut MemoryShelf) -> Result<Checked, Fail> {
     let text = list(alloc, ENTRIES)?;
     let project = read(alloc, text.as_bytes())?;
@@ -50,7 +50,7 @@ fn checked(alloc: Global, shelf: &mut MemoryShelf) -> Result<Checked, Fail> {
     Ok(checked)
 }
 
-/// The consolidation made from its parts, with a handle of ten samples.
+/// Returns the consolidation made from its parts, with a handle of ten samples.
 fn made_of_parts(alloc: Global, shelf: &mut MemoryShelf) -> Result<MemoryBench, Fail> {
     let mut bench = MemoryBench::new(alloc);
     let checked = checked(alloc, shelf)?;
@@ -60,7 +60,7 @@ fn made_of_parts(alloc: Global, shelf: &mut MemoryShelf) -> Result<MemoryBench, 
     Ok(bench)
 }
 
-/// The consolidation made by `consolidate`.
+/// Returns the consolidation made by `consolidate`.
 fn made_by_call(alloc: Global, shelf: &mut MemoryShelf) -> Result<MemoryBench, Fail> {
     let mut bench = MemoryBench::new(alloc);
     let text = list(alloc, ENTRIES)?;
@@ -75,7 +75,7 @@ fn made_by_call(alloc: Global, shelf: &mut MemoryShelf) -> Result<MemoryBench, F
     Ok(bench)
 }
 
-/// Whether both outputs have this file, with the same content.
+/// Returns whether both outputs have this file, with the same content.
 fn have_same(one: &MemoryBench, other: &MemoryBench, name: &str) -> bool {
     one.bytes(name).is_some() & (one.bytes(name) == other.bytes(name))
 }
@@ -92,7 +92,7 @@ fn parts_make_the_media_and_the_list_of_the_call(rt: HostRuntime) -> Result<(), 
     Ok(())
 }
 
-/// Whether the bytes encode the samples at 24 bits.
+/// Returns whether the bytes encode the samples at 24 bits.
 fn are_bytes_of(bytes: &[u8], samples: &[i32]) -> bool {
     bytes.len() / 3 == samples.len()
         && bytes.chunks_exact(3).zip(samples.iter()).all(|(bytes, sample)| match bytes {
@@ -101,7 +101,7 @@ fn are_bytes_of(bytes: &[u8], samples: &[i32]) -> bool {
         })
 }
 
-/// The samples of a rendering made from its blocks.
+/// Returns the samples of a rendering made from its blocks.
 fn samples_of_blocks(alloc: Global, shelf: &mut MemoryShelf) -> Result<Vec<i32>, Fail> {
     let end = SampleTime::new(END).ok_or("no time")?;
     let checked = checked(alloc, shelf)?;
@@ -111,7 +111,7 @@ fn samples_of_blocks(alloc: Global, shelf: &mut MemoryShelf) -> Result<Vec<i32>,
     }
 }
 
-/// Whether `render` produces these samples.
+/// Returns whether `render` produces these samples.
 fn are_rendered(alloc: Global, samples: &[i32], shelf: &mut MemoryShelf) -> Result<bool, Fail> {
     let mut bench = MemoryBench::new(alloc);
     let text = list(alloc, ENTRIES)?;

@@ -11,7 +11,7 @@ use trials_projects::lists::list;
 const SHORT_ENTRY: &str =
     "(Entry) 0001 (Cut) I 0001 1 1 00.00.00.00/0000 01.00.00.00/0000 01.00.00.00/0004\n";
 
-/// An entry of ten samples with a fade-in of six and a fade-out of the given length.
+/// Returns an entry of ten samples with a fade-in of six and a fade-out of the given length.
 fn faded_entry(alloc: Global, out_fade: &str) -> Result<String, AllocError> {
     format!(in alloc;
         "(Entry) 0007 (Cut) I 0001 1 1 00.00.00.00/0000 01.00.00.00/0000 01.00.00.00/0010
@@ -35,7 +35,7 @@ const TWELVE_SAMPLES: &[u8] = b"\x18\0\0\0\0\0\0\0\0\0\0\0\0\0\0\0\0\0\0\0\0\0\0
 /// Offset of the samples in a rendered file.
 const SAMPLES_AT: usize = 690;
 
-/// A folder with `A.wav`, made of the given data length and samples.
+/// Returns a folder with `A.wav`, made of the given data length and samples.
 fn folder(alloc: Global, samples: &[u8]) -> Result<MemoryShelf, AllocError> {
     let mut wave = HEAD.to_vec(alloc)?;
     wave.extend_from_slice(samples)?;
@@ -93,7 +93,7 @@ fn answer_four(
     answer_over(alloc, words, SHORT_ENTRY, folder, bench)
 }
 
-/// Whether a file of the output has the four samples and the given length.
+/// Returns whether a file of the output has the four samples and the given length.
 fn has_four(bench: &MemoryBench, name: &str, length: usize) -> bool {
     let file = bench.bytes(name).unwrap_or(&[]);
     file.len() == length && file.get(SAMPLES_AT..) == FOUR_SAMPLES.get(4..)

@@ -22,7 +22,7 @@ fn push_pass(alloc: Global, letter: u8, passes: &mut Vec<Box<dyn Pass>>) -> Resu
     Ok(())
 }
 
-/// The passes denoted by the letters.
+/// Returns the passes denoted by the letters.
 fn passes_of(alloc: Global, letters: &[u8]) -> Result<Vec<Box<dyn Pass>>, AllocError> {
     let mut passes: Vec<Box<dyn Pass>> = Vec::new(alloc);
     for letter in letters {
@@ -39,7 +39,7 @@ fn written(alloc: Global, letters: &[u8], bench: &mut MemoryBench) -> Result<Wri
     Ok(consolidate(alloc, text.as_bytes(), 0, passes, &mut shelf, bench)?)
 }
 
-/// The numbers of sample frames (4 bytes each) in up to three media; 0 for missing ones.
+/// Returns the numbers of sample frames (4 bytes each) in up to three media; 0 for missing ones.
 fn frames_of(alloc: Global, bench: &MemoryBench) -> Result<[usize; 3], Fail> {
     let head = head(alloc, 2, 12)?.len();
     let frames = |name| match bench.bytes(name) {
@@ -53,7 +53,7 @@ fn frames_of(alloc: Global, bench: &MemoryBench) -> Result<[usize; 3], Fail> {
     ])
 }
 
-/// The start and the length of each entry of a project.
+/// Returns the start and the length of each entry of a project.
 fn spans_of(alloc: Global, project: &Project) -> Result<Vec<(u64, u64)>, AllocError> {
     let mut spans = Vec::new(alloc);
     for event in project.events() {
@@ -63,7 +63,7 @@ fn spans_of(alloc: Global, project: &Project) -> Result<Vec<(u64, u64)>, AllocEr
     Ok(spans)
 }
 
-/// The start and the length of each entry of the list that was written.
+/// Returns the start and the length of each entry of the list that was written.
 fn entries_of(alloc: Global, bench: &MemoryBench) -> Result<Vec<(u64, u64)>, Fail> {
     let text = bench.bytes("consolidated.adl").ok_or("no list")?;
     Ok(spans_of(alloc, &read(alloc, text)?)?)

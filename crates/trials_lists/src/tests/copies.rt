@@ -47,7 +47,7 @@ const OF_EACH: &str = "(Entry) 1 (Cut) I 1 1 1 00.00.00.00/0100 01.00.00.00/0000
 (Entry) 2 (Cut) I 2 1 1 01.00.00.00/0200 02.00.00.00/0000 02.00.00.00/0200
 ";
 
-/// Whether `write` produces this text for a project.
+/// Returns whether `write` produces this text for a project.
 fn is_written(alloc: Global, project: &Project, text: &[u8]) -> Result<bool, Fail> {
     let mut bench = MemoryBench::new(alloc);
     bench.create(LIST)?;
@@ -55,7 +55,7 @@ fn is_written(alloc: Global, project: &Project, text: &[u8]) -> Result<bool, Fai
     Ok(bench.bytes(LIST) == Some(text))
 }
 
-/// Whether a project rebuilt from the same parts, with its header, has this text.
+/// Returns whether a project rebuilt from the same parts, with its header, has this text.
 fn is_made_anew(alloc: Global, project: &Project, text: &[u8]) -> Result<bool, Fail> {
     let sources = Sources::from_slice(alloc, project.sources().as_slice())?;
     let events = Vec::from_slice(alloc, project.events())?;
@@ -66,7 +66,7 @@ fn is_copied(alloc: Global, project: &Project, text: &[u8]) -> Result<bool, Fail
     is_written(alloc, &project.try_copy()?, text)
 }
 
-/// Whether a project, its copy and its rebuilt copy have the same text.
+/// Returns whether a project, its copy and its rebuilt copy have the same text.
 fn are_same(alloc: Global, project: &Project) -> Result<bool, Fail> {
     let text = text_of(alloc, project)?;
     let text = text.as_slice();

@@ -57,8 +57,8 @@ impl Ended {
         }
     }
 
-    /// Whether the output agrees with the outcome: all files or none, and no list with unfinished
-    /// media.
+    /// Returns whether the output agrees with the outcome: all files or none, and no list with
+    /// unfinished media.
     fn agrees(self, job: &Job, bench: &MemoryBench) -> bool {
         match self {
             Ended::Done => job.is_whole(bench),
@@ -83,7 +83,7 @@ enum Part {
 }
 
 impl Part {
-    /// The outcome if `times` calls fail from this one on.
+    /// Returns the outcome if `times` calls fail from this one on.
     fn ended(self, times: u64) -> Ended {
         match self {
             Part::Open => Ended::Unread,
@@ -94,7 +94,7 @@ impl Part {
         }
     }
 
-    /// The number of calls that fail: outside of jobs the first failure ends the run.
+    /// Returns the number of calls that fail: outside of jobs the first failure ends the run.
     fn failures(self, times: u64) -> u64 {
         match self {
             Part::Job(_) => times,

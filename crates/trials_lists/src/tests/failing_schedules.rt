@@ -23,7 +23,8 @@ const TAKEN_BACK: [BoardEvent; 13] = [
     BoardEvent::Deliver(1),
 ];
 
-/// Three workers render one block each, and then one worker does all open jobs.
+/// Returns events with which three workers render one block each, and then one worker does all open
+/// jobs.
 fn three_at_once(alloc: Global) -> Result<Vec<BoardEvent>, AllocError> {
     let mut events = Vec::new(alloc);
     for worker in 1..4 {
@@ -73,7 +74,7 @@ fn a_rendering_goes_on_behind_its_events(rt: HostRuntime) -> Result<(), Fail> {
     goes_on(&rt, &Job::new(rt.alloc(), Call::Render)?)
 }
 
-/// The number of reads of samples during these events, and the range of bytes read.
+/// Returns the number of reads of samples during these events, and the range of bytes read.
 fn read_by(job: &Job, events: &[BoardEvent]) -> Result<(u32, Option<(u64, u64)>), Fail> {
     let mut shelf = job.recorded()?;
     let mut bench = job.bench()?;
@@ -92,8 +93,8 @@ fn only_work_reads_samples(rt: HostRuntime) -> Result<(), Fail> {
     Ok(())
 }
 
-/// Whether these events complete a rendering of 200 blocks if three source calls fail after `from`
-/// calls. The rendering is refused if the failing calls belong to opening the list.
+/// Returns whether these events complete a rendering of 200 blocks if three source calls fail after
+/// `from` calls. The rendering is refused if the failing calls belong to opening the list.
 fn is_done_behind(
     rt: &impl Abort,
     job: &Job,

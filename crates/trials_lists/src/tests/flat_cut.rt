@@ -14,7 +14,7 @@ pub(crate) struct FlatCut {
     pub(crate) time: u64,
 }
 
-/// The two halves of a group that is one flat piece across the time.
+/// Returns the two halves of a group that is one flat piece across the time.
 fn halves(time: u64, group: &Group) -> Option<(Piece, Piece)>
     ensures cut { MatchOption result (spec.flat_cut time group.now ≡ group.now ∷ [])
         (λ halves. spec.flat_cut time group.now ≡ (halves.0 ∷ []) ∷ (halves.1 ∷ []) ∷ []) }
@@ -58,7 +58,7 @@ fn push_cut(time: u64, group: Group, groups: &mut Vec<Group>) -> Result<(), Allo
     Ok(())
 }
 
-/// All groups, cut if possible.
+/// Returns all groups, cut if possible.
 fn cut(time: u64, alloc: Global, intervals: Intervals) -> Result<Vec<Group>, AllocError>
     ensures { IfOk result (λ groups. groups.items ≡ flat_map (spec.flat_cut time) intervals) }
 {

@@ -35,7 +35,7 @@ const MIDDLE: CopyJob = CopyJob {
     frames: 3,
 };
 
-/// A 16-bit mono file of ten samples with the bytes 1 to 20.
+/// Returns a 16-bit mono file of ten samples with the bytes 1 to 20.
 fn source(alloc: Global) -> Result<MemoryShelf, Fail> {
     let mut file = b"RIFF\x38\0\0\0WAVE\
         fmt \x10\0\0\0\x01\0\x01\0\x80\xbb\0\0\0\x77\x01\0\x02\0\x10\0data\x14\0\0\0"
@@ -119,7 +119,7 @@ const CASES: [Case; 4] = [
     ),
 ];
 
-/// Whether copying the piece has the expected result.
+/// Returns whether copying the piece has the expected result.
 fn is_copied_so(
     rt: &impl Abort,
     alloc: Global,

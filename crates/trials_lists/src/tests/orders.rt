@@ -23,7 +23,7 @@ const ENTRIES: &str = "(Entry) 1 (Cut) I 1 1 1 00.00.00.02/0256 00.00.00.00/0000
 const LATE: &str = "(Entry) 1 (Cut) I 1 1 1 00.00.00.00/0000 00.00.00.02/0256 00.00.00.04/0512
 ";
 
-/// Options for the range from midnight on, at 16 bits.
+/// Returns the options for the range from midnight on, at 16 bits.
 fn by(order: Order) -> Options
     ensures { HaveChannels result }
 {
@@ -36,7 +36,7 @@ fn by(order: Order) -> Options
     }
 }
 
-/// A mono file of two blocks, each of one repeated sample.
+/// Returns a mono file of two blocks, each of one repeated sample.
 fn two_blocks(alloc: Global, samples: [u8; 2]) -> Result<Vec<u8>, Fail> {
     let mut file = head(alloc, 1, 8_192)?;
     for frame in 0..2 * BLOCK {

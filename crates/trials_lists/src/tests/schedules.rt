@@ -29,7 +29,7 @@ impl Draws {
         Draws { state }
     }
 
-    /// A number below `end`.
+    /// Returns a number below `end`.
     fn below(&mut self, end: u32) -> u32 {
         self.state = self
             .state
@@ -39,7 +39,7 @@ impl Draws {
         if end == 0 { 0 } else { drawn % end }
     }
 
-    /// An event of one of 64 workers, or the reclaiming of a job.
+    /// Returns an event of one of 64 workers, or the reclaiming of a job.
     fn event(&mut self) -> BoardEvent {
         let worker = self.below(64);
         match self.below(12) {
@@ -63,7 +63,7 @@ fn put_end(events: &mut Vec<BoardEvent>) -> Result<(), Fail> {
     Ok(())
 }
 
-/// Fewer than `most` random events, followed `ends` times by events that finish all jobs.
+/// Returns fewer than `most` random events, followed `ends` times by events that finish all jobs.
 fn drawn(alloc: Global, draws: &mut Draws, most: u32, ends: u32) -> Result<Vec<BoardEvent>, Fail> {
     let mut events = Vec::new(alloc);
     for _ in 0..draws.below(most) {
@@ -107,8 +107,8 @@ impl Ended {
     }
 }
 
-/// The outcome of random events with random failures of the devices, and whether all files are
-/// complete.
+/// Returns the outcome of random events with random failures of the devices, and whether all files
+/// are complete.
 fn end_of_draw(job: &Job, draws: &mut Draws) -> Result<(Ended, bool), Fail> {
     let events = drawn(job.alloc, draws, 40, 2)?;
     let from = u64::from(draws.below(40));

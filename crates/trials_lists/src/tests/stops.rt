@@ -68,7 +68,7 @@ impl Files {
         bench_of(alloc, sound, marks)
     }
 
-    /// The marks of the blocks, one byte each, if there are marks.
+    /// Returns the marks of the blocks, one byte each, if there are marks.
     fn blocks(&self) -> Option<&[u8]> {
         let marks = self.marks.as_ref()?;
         if *marks.first()? == 1 {
@@ -78,7 +78,7 @@ impl Files {
         }
     }
 
-    /// The number of marked blocks.
+    /// Returns the number of marked blocks.
     fn marked(&self) -> u64 {
         match self.blocks() {
             Some(blocks) => blocks.iter().filter(|block| **block == 1).count() as u64,
@@ -87,7 +87,7 @@ impl Files {
     }
 }
 
-/// One of seven, in turn.
+/// Returns one of seven, in turn.
 fn one_of(lefts: &[Left], turn: u64) -> &[Left] {
     let place = (turn % 7) as usize;
     lefts.get(place..place + 1).unwrap_or(&[])
@@ -118,8 +118,8 @@ impl Runs {
         })
     }
 
-    /// The files after a run over these files is interrupted at a call and crashes, or `None` if
-    /// the run has fewer calls.
+    /// Returns the files after a run over these files is interrupted at a call and crashes, or
+    /// `None` if the run has fewer calls.
     fn stopped(
         &mut self,
         files: &Files,

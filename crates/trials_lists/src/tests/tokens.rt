@@ -2,7 +2,7 @@
 use adltoken::{Span, Token, TokenFault, TokenKind, Tokens};
 use std::test::Fail;
 
-/// Whether a token has the given kind, content and position in its line.
+/// Returns whether a token has the given kind, content and position in its line.
 fn is_token(
     token: Option<Token<'_>>,
     kind: TokenKind,

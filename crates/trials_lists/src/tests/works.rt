@@ -537,7 +537,7 @@ fn first_block_on(alloc: Global, bench: &MemoryBench) -> Result<Files, Fail> {
     Ok(files)
 }
 
-/// The content of the named file.
+/// Returns the content of the named file.
 fn bytes_in<'a>(files: &'a Files, name: &str) -> Option<&'a [u8]> {
     let (_, bytes) = files.iter().find(|(other, _)| *other == name)?;
     Some(bytes.as_slice())

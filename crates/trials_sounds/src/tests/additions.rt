@@ -18,8 +18,8 @@ use wavread::{Sound, open};
 /// Number of sample frames in a block with room for the longest stretch at each offset.
 const FRAMES: usize = LONGEST + OFFSETS;
 
-/// A stereo file of the length of the longest stretch, with `width` bytes per sample; all samples
-/// are near zero or at an end of the range.
+/// Returns a stereo file of the length of the longest stretch, with `width` bytes per sample; all
+/// samples are near zero or at an end of the range.
 fn stereo(alloc: Global, depth: Depth, width: u8) -> Result<MemoryShelf, Fail>
     requires { width ≤ 4 }
 {
@@ -39,7 +39,7 @@ fn stereo(alloc: Global, depth: Depth, width: u8) -> Result<MemoryShelf, Fail>
     Ok(MemoryShelf::new(alloc).with_file("A.wav", &file)?)
 }
 
-/// The expected sample of a block after a stretch is added twice.
+/// Returns the expected sample of a block after a stretch is added twice.
 fn expected(depth: Depth, shown: Depth, stretch: Stretch, frame: usize, channel: u8) -> i32
     requires { FitsBlock 83 2 stretch }
 {
@@ -55,7 +55,7 @@ fn expected(depth: Depth, shown: Depth, stretch: Stretch, frame: usize, channel:
     finish(2 * widen(sample, depth), shown)
 }
 
-/// A program that adds a stretch twice.
+/// Overwrites a program with one that adds a stretch twice.
 fn add_twice(program: &mut Program, stretch: Stretch, shown: Depth)
     requires { 4 ≤ program.old.room }
     ensures { program.new ≡ record program.old {
@@ -137,8 +137,8 @@ fn adds_at_each_place(
     Ok(())
 }
 
-/// The first source channel, the first destination channel, and their number: both channels, or one
-/// to the other.
+/// Returns the first source channel, the first destination channel, and their number: both
+/// channels, or one to the other.
 fn channels_of(way: usize) -> (u8, u8, u8)
     ensures first { 1 ≤ result.0 }
     ensures dest { 1 ≤ result.1 }

@@ -26,8 +26,8 @@ fn time(samples: u64) -> Result<SampleTime, Fail>
     }
 }
 
-/// An entry of `length` samples from midnight on, on channels 1 to `last`, with fades of the given
-/// lengths.
+/// Returns an entry of `length` samples from midnight on, on channels 1 to `last`, with fades of
+/// the given lengths.
 fn entry_of(last: u8, length: u64, rise: u64, fall: u64) -> Result<Event, Fail>
     requires channels { 1 ≤ last }
     requires channels_to_64 { last ≤ 64 }
@@ -53,15 +53,15 @@ fn entry_of(last: u8, length: u64, rise: u64, fall: u64) -> Result<Event, Fail>
     })
 }
 
-/// An entry of 12 stereo sample frames from midnight on, with a fade-in and a fade-out of four
-/// each.
+/// Returns an entry of 12 stereo sample frames from midnight on, with a fade-in and a fade-out of
+/// four each.
 pub(crate) fn entry() -> Result<Event, Fail>
     ensures { IfOk result (λ event. IsPlayable MIDNIGHT event) }
 {
     entry_of(2, 12, 4, 4)
 }
 
-/// The groups of one entry.
+/// Returns the groups of one entry.
 pub(crate) fn intervals(rt: &HostRuntime, event: &Event) -> Result<Intervals, Fail>
     requires { IsPlayable MIDNIGHT event.now }
 {
@@ -93,7 +93,7 @@ const REST: Piece = Piece {
     ..RAMP
 };
 
-/// The fade-in, cut at its third sample.
+/// Returns the fade-in, cut at its third sample.
 fn cut_in_fade(rt: &HostRuntime) -> Result<Intervals, Fail> {
     let given = intervals(rt, &entry_of(1, 4, 4, 0)?)?;
     if !given.whole() {
@@ -102,7 +102,7 @@ fn cut_in_fade(rt: &HostRuntime) -> Result<Intervals, Fail> {
     Ok(given.cut_at(time(2)?)?)
 }
 
-/// The 16-bit output for `num` quarters of a sample of 1,000.
+/// Returns the 16-bit output for `num` quarters of a sample of 1,000.
 fn quarters(num: u64) -> i32
     requires { num ≤ 4 }
 {
@@ -112,7 +112,7 @@ fn quarters(num: u64) -> i32
     )
 }
 
-/// The 16-bit output for two such samples at the start of a piece of a fade-in of four.
+/// Returns the 16-bit output for two such samples at the start of a piece of a fade-in of four.
 fn finished(piece: &Piece) -> Option<[i32; 2]> {
     match piece.shape {
         Shape::Rise { offset, den: 4 } if offset <= 2 => Some([

@@ -36,7 +36,7 @@ pub fn sample_at(depth: Depth, place: usize) -> i32
     }
 }
 
-/// Byte `i` of these samples, little-endian.
+/// Returns byte `i` of these samples, little-endian.
 fn byte_at(depth: Depth, width: usize, i: usize) -> u8
     requires some { 0 < width }
     requires few { width ≤ 4 }
@@ -45,7 +45,7 @@ fn byte_at(depth: Depth, width: usize, i: usize) -> u8
     bytes[i % width]
 }
 
-/// The bytes of these samples, from an offset on.
+/// Returns the bytes of these samples, from an offset on.
 fn source_of(depth: Depth, width: usize, offset: usize) -> [u8; ROOM]
     requires some { 0 < width }
     requires few { width ≤ 4 }

@@ -16,7 +16,7 @@ const RF64_HEAD: [u8; 56] = [
     0x7f, 0, 0, 0, 0, 0, 0, 0, 0, 0x62, 0x65, 0x78, 0x74, 0x5a, 2, 0, 0,
 ];
 
-/// A shelf with a file of zeros.
+/// Returns a shelf with a file of zeros.
 fn silent(alloc: Global, frames: u64) -> Result<ZeroShelf, Fail> {
     let head = head(alloc, 1, frames)?;
     let samples = frames.saturating_mul(2);
@@ -24,8 +24,8 @@ fn silent(alloc: Global, frames: u64) -> Result<ZeroShelf, Fail> {
     Ok(ZeroShelf::new(String::from_str(alloc, "A.wav")?, head, length))
 }
 
-/// The number of channels, the depth and the length of a file, after its last sample was read as
-/// zero.
+/// Returns the number of channels, the depth and the length of a file, after its last sample was
+/// read as zero.
 fn opened(alloc: Global, frames: u64) -> Result<(u8, Depth, u64), Fail> {
     let mut shelf = silent(alloc, frames)?;
     let sound = open(alloc, &mut shelf, "A.wav")?;
@@ -38,7 +38,7 @@ fn opened(alloc: Global, frames: u64) -> Result<(u8, Depth, u64), Fail> {
     Ok((sound.channels(), sound.depth(), sound.frames()))
 }
 
-/// Whether the header of a file has the given start and end.
+/// Returns whether the header of a file has the given start and end.
 fn has_head(alloc: Global, frames: u64, first: &[u8], last: &[u8]) -> Result<bool, Fail> {
     let head = head(alloc, 1, frames)?;
     Ok((head.len() == 690) & head.starts_with(first) & head.ends_with(last))

@@ -4,8 +4,8 @@ use crate::tests::table::Table;
 use passes::{DropSilent, Pass, SplitFades, run, silent_of};
 use std::test::Fail;
 
-/// A stereo file of 12 sample frames: the left is silent, the right is audible in the first and the
-/// last four.
+/// Returns a stereo file of 12 sample frames: the left is silent, the right is audible in the first
+/// and the last four.
 fn one_side() -> Table {
     Table {
         left: [0; 12],
@@ -15,7 +15,8 @@ fn one_side() -> Table {
     }
 }
 
-/// The number of pieces that the passes query, for an entry of 12 samples with two fades of four.
+/// Returns the number of pieces that the passes query, for an entry of 12 samples with two fades of
+/// four.
 fn asked(rt: &HostRuntime, passes: Vec<Box<dyn Pass>>) -> Result<u64, Fail> {
     let mut samples = one_side();
     run(rt.alloc(), passes, intervals(rt, &entry()?)?, &mut samples)?;

@@ -27,7 +27,7 @@ const BEFORE_THE_END: Stretch = Stretch {
     width: 1,
 };
 
-/// A plan of this piece up to time 4100, mono at 16 bits.
+/// Returns a plan of this piece up to time 4100, mono at 16 bits.
 fn plan(alloc: Global) -> Result<Plan, Fail> {
     let Some(end) = SampleTime::new(4100) else {
         return Err("no time".into());
@@ -38,7 +38,7 @@ fn plan(alloc: Global) -> Result<Plan, Fail> {
     Ok(Plan::new(alloc, intervals, SampleTime::ZERO, end, 1, Depth::Sixteen)?)
 }
 
-/// Whether the program of a block has the expected instructions.
+/// Returns whether the program of a block has the expected instructions.
 fn is_program(
     alloc: Global,
     plan: &Plan,

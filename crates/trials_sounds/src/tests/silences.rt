@@ -10,7 +10,7 @@ use std::test::Fail;
 use trials_projects::recorded::Recorded;
 use wavread::open;
 
-/// A 16-bit mono file of 10,000 samples, all zero except for one.
+/// Returns a 16-bit mono file of 10,000 samples, all zero except for one.
 fn file(alloc: Global, sounding: usize) -> Result<Recorded, Fail> {
     let mut file = b"RIFF\x44\x4e\0\0WAVE\
         fmt \x10\0\0\0\x01\0\x01\0\x80\xbb\0\0\0\x77\x01\0\x02\0\x10\0data\x20\x4e\0\0"

@@ -68,7 +68,7 @@ impl Table {
     }
 }
 
-/// Whether `length` samples of a channel from `from` on are zero.
+/// Returns whether `length` samples of a channel from `from` on are zero.
 fn is_silent(row: &[u16; 12], from: u64, length: u64) -> bool
     requires { from + length ≤ 12 }
     ensures { (reading : Reading) (file channel : ℕ)

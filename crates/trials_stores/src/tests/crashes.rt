@@ -38,12 +38,12 @@ const BOTH_SYNCED: [Call; 2] = [Call::Sync("A.wav"), Call::Sync("B.wav")];
 /// The content of `A.wav` and of `B.wav`.
 type Files = (Option<&'static [u8]>, Option<&'static [u8]>);
 
-/// Whether the output has exactly these files.
+/// Returns whether the output has exactly these files.
 fn has_files(bench: &MemoryBench, want: Files) -> bool {
     (bench.bytes("A.wav"), bench.bytes("B.wav")) == want
 }
 
-/// An output after the given calls.
+/// Returns an output after the given calls.
 fn worked(alloc: Global, calls: &[Call]) -> MemoryBench {
     let mut bench = MemoryBench::new(alloc);
     made(&mut bench, calls);
@@ -79,7 +79,7 @@ const CRASHES: [Crash; 11] = [
     (&FILLED, 1, 7, (Some(&[8, 7]), None)),
 ];
 
-/// Whether a crash leaves the expected files and resets the counters.
+/// Returns whether a crash leaves the expected files and resets the counters.
 fn leaves(alloc: Global, case: &Crash) -> Result<bool, AllocError> {
     let (calls, kept, fill, want) = *case;
     let bench = worked(alloc, calls).after_crash(kept, fill)?;
@@ -224,8 +224,8 @@ const STOPS: [Stop; 8] = [
     },
 ];
 
-/// Whether the expected number of calls succeeds and leaves the expected files, before and after a
-/// crash.
+/// Returns whether the expected number of calls succeeds and leaves the expected files, before and
+/// after a crash.
 fn stops(alloc: Global, stop: &Stop) -> Result<bool, AllocError> {
     let mut bench = worked(alloc, stop.before).stop_at(stop.at, stop.part);
     let count = made(&mut bench, stop.behind) as u64;

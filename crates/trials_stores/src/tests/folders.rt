@@ -40,7 +40,7 @@ const NO_NAMES: [&str; 8] = [
     "", ".", "..", "/", "../A.wav", "in/B.wav", "A.wav/", "A.wav\0",
 ];
 
-/// Whether none of these names is found.
+/// Returns whether none of these names is found.
 fn finds_none(shelf: &mut impl Shelf) -> bool {
     let mut finds_none = true;
     for name in &NO_NAMES {
@@ -69,7 +69,7 @@ fn a_folder_shelf_reads_plain_files_inside_it(rt: HostRuntime) -> Result<(), Fai
     Ok(())
 }
 
-/// Whether every call with this name fails.
+/// Returns whether every call with this name fails.
 fn all_fail(bench: &mut impl Bench, name: &str) -> bool {
     bench.create(name).is_err()
         & bench.append(name, &[1]).is_err()
@@ -80,7 +80,7 @@ fn all_fail(bench: &mut impl Bench, name: &str) -> bool {
         & (bench.read_at(name, 0, &mut []) == Err(ShelfFault::Device))
 }
 
-/// Whether every call fails with each of these names and with a folder.
+/// Returns whether every call fails with each of these names and with a folder.
 fn writes_none(bench: &mut impl Bench) -> bool {
     let mut writes_none = all_fail(bench, "in");
     for name in &NO_NAMES {
@@ -154,8 +154,8 @@ fn has_reason(bench: &impl Reasons, kind: ErrorKind) -> bool {
     }
 }
 
-/// Whether every call fails on a file, a link to it and a folder, the last call for the given
-/// reason, and the file is unchanged.
+/// Returns whether every call fails on a file, a link to it and a folder, the last call for the
+/// given reason, and the file is unchanged.
 fn stays(
     rt: &HostRuntime,
     overwrite: Overwrite,

@@ -24,7 +24,7 @@ const FRONT: [u8; 44] = [
     9, 9, 9, 9, 9, 9, 9, 9, 9, 9, 9, 9, 9, 9, 9, 6, 0, 0, 0,
 ];
 
-/// Whether the marks belong to the run and have the given block marks.
+/// Returns whether the marks belong to the run and have the given block marks.
 fn are_marks(bench: &MemoryBench, blocks: &[u8]) -> bool {
     let Some(bytes) = bench.bytes("render.marks") else {
         return false;
@@ -32,7 +32,7 @@ fn are_marks(bench: &MemoryBench, blocks: &[u8]) -> bool {
     (bytes.get(..44) == Some(FRONT.as_slice())) & (bytes.get(44..) == Some(blocks))
 }
 
-/// The marked blocks, none if there are no marks.
+/// Returns the marked blocks, none if there are no marks.
 fn found(alloc: Global, bench: &mut MemoryBench, run: &RunId) -> Result<[bool; 6], MarkFault> {
     let Some(marks) = open_marks(alloc, bench, run)? else {
         return Ok([false; 6]);
@@ -63,7 +63,7 @@ const FAILED: Result<(), MarkFault> = Err(MarkFault::Device {
     file: MarkedFile::Marks,
 });
 
-/// Whether a failure of this call is reported at the marks.
+/// Returns whether a failure of this call is reported at the marks.
 fn fails_at(alloc: Global, call: u64) -> bool {
     let mut bench = MemoryBench::new(alloc).failing(call, 1);
     let started = start(alloc, &mut bench, &RUN);
