@@ -9,7 +9,7 @@ use crate::{PassFault, Samples};
 use groups::{Intervals, Piece, group_pieces};
 use std::alloc::Global;
 
-/// Whether all samples that the piece reads are zero.
+/// Returns whether all samples that the piece reads are zero.
 fn is_silent<P: Samples>(piece: &Piece, samples: &mut P) -> Result<bool, PassFault>
     ensures answer { IsTrue (P.honest samples.old)
         → IfOk result (λ silent. silent ≡ is_silent_in (P.reading samples.old) piece.now) }
