@@ -4,7 +4,7 @@ ghost use Rattle.blockmachine.specs.Sums.{Counts, few_additions};
 
 use sound_terms::Stretch;
 
-/// The maximum number of stretches added at any sample frame, and the frame from which on it is one
+/// The maximum number of stretches added at any sample frame. From frame `fewer_from` on it is one
 /// less. A layer that is added in consecutive parts counts once.
 #[derive(Clone, Copy, Drop)]
 pub struct Additions {

@@ -19,7 +19,7 @@ use sound_terms::Program;
 use wavread::Sound;
 
 impl Sums {
-    /// Writes the first sums at full scale, as many as fit in `out`.
+    /// Fills `out` with the first sums at full scale.
     fn put(&self, out: &mut [i64])
         requires { FillFrames self.now.extent out.old }
         ensures { (all : ℕ → ℕ → ℤ) → AreSums self.now all → (frames : ℕ)

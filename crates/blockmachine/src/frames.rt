@@ -37,7 +37,7 @@ pub struct Frames<'a> {
     ghost fit: { All (FitsDepth (bits_of depth)) samples.now },
 }
 
-/// A stretch with its samples and the shape under which they are added.
+/// A stretch with its samples and their shape.
 #[derive(Clone, Copy)]
 pub struct Played<'a> {
     pub stretch: Stretch,
@@ -48,7 +48,7 @@ pub struct Played<'a> {
     ghost ramp: { IsRamp shape stretch.length } by { IsRamp-prop shape stretch.length },
 }
 
-/// A stretch with its samples as stored in the file, and the shape under which they are added.
+/// A stretch with its samples as stored in the file, and their shape.
 #[derive(Clone, Copy)]
 pub struct Stored<'a> {
     pub stretch: Stretch,

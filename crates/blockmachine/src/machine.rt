@@ -117,7 +117,7 @@ pub(crate) fn sum_all<S: Shelf>(
     Ok(())
 }
 
-/// Returns the depth at which a program emits its samples.
+/// Returns the bit depth of a program's output.
 pub(crate) fn depth_of(program: &[Instruction]) -> Option<Depth>
     ensures { (frames : ℕ) (depth : declared.Depth) (lines : List word.Instruction)
         → program.now ≡ instruction.Start frames ∷ (lines ++ instruction.Emit depth ∷ []) → result ≡ Some depth }

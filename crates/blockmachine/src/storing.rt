@@ -37,8 +37,8 @@ fn store_kept(kept: &Kept, samples: &mut [i32], bytes: &mut [u8]) -> Clips
 }
 
 impl Sums {
-    /// Writes the first sample frames, as many as fit in `samples`, to `bytes` as stored samples of
-    /// the given depth. Returns the clipped samples.
+    /// Fills `bytes` with the first sample frames as stored samples of the given depth; `samples`
+    /// is working space, and its length determines their number. Returns the clipped samples.
     pub fn store(&self, depth: Depth, samples: &mut [i32], bytes: &mut [u8]) -> Clips
         requires frames { FillFrames self.now.extent samples.old }
         requires room { length bytes.old ≡ length samples.old * (bits_of depth / 8) }

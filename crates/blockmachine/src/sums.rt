@@ -169,7 +169,7 @@ impl Sums {
         self.additions = self.additions.with(&played.stretch);
     }
 
-    /// Emits the first sample frames, as many as fit in `out`, at the given depth.
+    /// Fills `out` with the first sample frames at the given depth.
     pub fn emit(&self, depth: Depth, out: &mut [i32])
         requires { FillFrames self.now.extent out.old }
         ensures { (all : ℕ → ℕ → ℤ) → AreSums self.now all → (frames : ℕ)

@@ -320,7 +320,7 @@ tells_all = has_flag (codes "all")
 abbrev pub verifies : List Text → Bool
 verifies = has_flag (codes "verify")
 
--- the arguments request a search for media in subfolders of the media folder
+-- the arguments request a search for source files in subfolders of the media folder
 abbrev pub searches : List Text → Bool
 searches = has_flag (codes "search")
 

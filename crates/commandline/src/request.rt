@@ -59,8 +59,8 @@ pub enum Request<'a> {
     ExplainNotice(Option<&'a str>),
 }
 
-/// A request and its flags: whether to report all faults of a refused list, to search for media in
-/// subfolders of the media folder, and to verify a consolidation against its input.
+/// A request and its flags: whether to report all faults of a refused list, to search for source
+/// files in subfolders of the media folder, and to verify a consolidation against its input.
 #[derive(Clone, Copy, Debug, PartialEq, Eq)]
 pub struct Parsed<'a> {
     pub request: Request<'a>,

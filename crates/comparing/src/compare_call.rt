@@ -24,9 +24,9 @@ pub struct Compared {
 }
 
 /// Compares two lists, each with its sources on a shelf of its own: whether their exact sums,
-/// before any rounding, are equal on every selected channel at every selected time, or where they
-/// first differ. After the last entry of one list the other must be silent. A selected number of
-/// channels must be 1 to 64. Writes nothing.
+/// before any rounding, are equal on every selected channel at every selected time, and otherwise
+/// their first difference. After the last entry of one list the other must be silent. A selected
+/// number of channels must be 1 to 64. Writes nothing.
 ///
 /// Errors of the first list take precedence, then errors of the second, each in the order of
 /// `check_project`, then an empty range, which is the default range of two lists without samples.

@@ -24,7 +24,7 @@ abbrev pub IsCompared : (from to channels : ℕ) → (mix other : ℕ → ℕ �
 IsCompared from to channels mix other None = AreAlike from to channels mix other
 IsCompared from to channels mix other (Some difference) = DifferFirst from to channels mix other difference
 
--- the first index below n at which two lists of numbers differ, if any
+-- the index of the first difference among the first n numbers of two lists, if any
 abbrev pub IsFirstDiffering : (numbers others : List ℤ) → ℕ → Option ℕ → Type 0
 IsFirstDiffering numbers others n None =
     (k : ℕ) → k < n → slice_index_or numbers k (pos 0) ≡ slice_index_or others k (pos 0)

@@ -1,4 +1,4 @@
--- The number of samples at which two projects differ.
+-- Numbers of differing samples of two projects.
 use Rattle.std.specs.Prelude.{◌≡◌, ℕ, zero, suc, ◌+◌, ◌*◌, ◌<◌, ◌≤◌, min, max, ℤ, pos, List, length, slice_index_or, if◌then◌else◌}
 use Rattle.std.specs.Ordering.{int_eq}
 use Rattle.comparison.specs.Range.{Extent}

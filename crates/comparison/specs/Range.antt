@@ -1,4 +1,4 @@
--- The range in which two projects are compared.
+-- The compared range of two projects.
 use Rattle.std.specs.Prelude.{ℕ, ◌≤◌, ◌<◌, ◌&&◌, ◌++◌, nat_le, nat_lt, max, Bool, List, IfSome}
 use Rattle.sound_terms.specs.declared.Event.{Event}
 use Rattle.list_terms.specs.Accepted.{chosen, greatest_of, least_of}
@@ -10,7 +10,7 @@ pub record Extent : Type 0 where
   pub to : ℕ
   pub channels : ℕ
 
--- the range in which events may be audible
+-- the range that events cover
 abbrev pub extent_of : List Event → Extent
 extent_of events = record {
   from = least_of (λ event. event.dest_in) events;

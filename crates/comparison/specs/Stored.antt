@@ -66,7 +66,7 @@ pub record AddAlike (reading other : Reading) (line counterpart : Instruction) :
   pub full : PlaysFull reading line
   pub other_full : PlaysFull other counterpart
 
--- two programs of equal length in which each instruction adds the same as its counterpart
+-- two programs of equal length whose instructions add the same, pair by pair
 pub record SumAlike (reading other : Reading) (lines counterparts : List Instruction) : Type 0 where
   pub alike_many : length lines ≡ length counterparts
   pub each : (k : ℕ) (d : Instruction) → k < length lines

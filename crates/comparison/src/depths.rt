@@ -129,7 +129,7 @@ fn are_same_of(pair: &Counterparts, depth: Depth, other: Depth) -> bool
     }
 }
 
-/// Specialised for each pair of depths, the second of which must be at least the first.
+/// Specialised for each pair of a depth and a greater one; otherwise like `are_same_in`.
 fn are_same_deeper(pair: &Counterparts) -> bool
     ensures { IsTrue result → SoundSame pair.now }
 {

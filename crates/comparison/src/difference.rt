@@ -5,8 +5,8 @@ ghost use Rattle.comparison.specs.Both.{AreSumsOfBlock};
 
 use crate::block::BlockSums;
 
-/// A sample at which two projects differ: its time of day in samples, its channel from 1, and the
-/// exact sums of both projects. Full scale is 2^47.
+/// A difference of two projects at a sample: its time of day in samples, its channel from 1, and
+/// the exact sums of both projects. Full scale is 2^47.
 #[derive(Clone, Copy, Debug, PartialEq, Eq)]
 pub struct Difference {
     pub at: u64,

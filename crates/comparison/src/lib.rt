@@ -4,11 +4,10 @@
 //! in a block, and sums nothing if both add the same samples, at whatever bit depths they are
 //! stored. Equal ranges of two files are remembered and mostly not read again. The result is `Same`
 //! exactly if the sums are equal on every selected channel at every selected time; otherwise it is
-//! the first time at which they differ, with the lowest channel that differs there and both sums
-//! (clause `compared`). Files are only read (`first_read`, `second_read`).
+//! the first difference: its time, the lowest channel that differs then, and both sums (clause
+//! `compared`). Files are only read (`first_read`, `second_read`).
 //!
-//! `differing_in` counts, channel by channel, the samples of a stretch at which they differ
-//! (`counted`).
+//! `differing_in` counts the differing samples of a stretch, channel by channel (`counted`).
 #![tactic(auto)]
 
 mod block;

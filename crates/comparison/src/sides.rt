@@ -49,7 +49,8 @@ impl<'a, 'b> Sides<'a, 'b> {
     }
 
     /// Returns whether block `k` is known to be equal without summing: neither side plays, or both
-    /// add the same stored samples. Always false if `look` is false.
+    /// add the same stored samples. Always false if `look` is false. Returns `CompareFault::First`
+    /// or `Second` if a file of that side can't be read.
     pub fn are_alike<S: Shelf, T: Shelf>(
         &mut self,
         k: u64,

@@ -287,7 +287,8 @@ fn add_alike<S: Shelf, T: Shelf>(
 }
 
 /// Returns whether two programs have equal sums because they add the same samples, instruction by
-/// instruction. Sums nothing. Programs may still have equal sums if the result is false.
+/// instruction. Sums nothing. Programs may still have equal sums if the result is false. Returns
+/// `CompareFault::First` or `Second` if a file of that side can't be read.
 pub fn sum_alike<S: Shelf, T: Shelf>(
     lines: &[Instruction],
     counterparts: &[Instruction],

@@ -100,8 +100,8 @@ fn count_in<S: Shelf, T: Shelf, W: Watch>(
     count_sides(&mut sides, first_shelf, second_shelf, counts, watch)
 }
 
-/// Counts the samples at which two projects differ, per channel, by their exact sums: within the
-/// range that `compare_projects` compares, at most `frames` samples from time `from` on. Reads only
+/// Counts the differing samples of two projects per channel, by their exact sums: within the range
+/// that `compare_projects` compares, at most `frames` samples from time `from` on. Reads only
 /// blocks in that stretch; the counts of an empty stretch are zero. Reports progress to `watch`
 /// after each block. Returns `CompareFault::First` or `Second` if that project's files can't be
 /// read or memory runs out.

@@ -1,4 +1,4 @@
-// The number of samples at which two sides differ, channel by channel.
+// Counts of the differing samples of two sides, channel by channel.
 ghost use Rattle.std.specs.Prelude.{◌≡◌, ◌+◌, ◌-◌, ◌<◌, ◌≤◌, ℕ, OnOk, length, slice_index_or};
 ghost use Rattle.sound_terms.specs.Blocks.{block_frames, block_start};
 ghost use Rattle.comparison.specs.Both.{AreKept, AreMatched, HasCounts, OfBoth};

@@ -41,7 +41,7 @@ media_of digests sources sounds homes runs = numbered (medium_by digests sources
 abbrev pub HasSource : (digests : Bool) → Files → List SoundFacts → Medium → Type 0
 HasSource digests sources sounds medium = medium.source ≡ source_digest digests sources sounds medium.run
 
--- the hasher has hashed `before` and then `count` sample frames of the file from `from` on, all of which exist
+-- the hasher has hashed `before` and then the `count` existing sample frames of the file from `from` on
 pub record IsHashed (facts : SoundFacts) (sources : Files) (from count : ℕ) (before : List ℕ) (hasher : Sha256)
     : Type 0 where
   pub held : Holds256 hasher (before ++ frames_in facts (content sources facts.name) from count)

@@ -148,8 +148,8 @@ fn hashed_medium<S: Shelf>(
 
 /// Returns the media of the runs, numbered from 1 on, each with its SHA-256; reads each kept sample
 /// once. If `digests` is true, each medium also has the digest of its whole source; each file is
-/// then read once more, since the runs of a file are adjacent. Returns `ReportFault::Device` if a
-/// source can't be read, and `ReportFault::Memory` if out of memory.
+/// then read again, but only once, since the runs of a file are adjacent. Returns
+/// `ReportFault::Device` if a source can't be read, and `ReportFault::Memory` if out of memory.
 pub fn hashed_media<S: Shelf>(
     alloc: Global,
     sounds: &[Sound],

@@ -80,7 +80,7 @@ holds_at test [] place = false
 holds_at test (x ∷ xs) zero = test x
 holds_at test (x ∷ xs) (suc place) = holds_at test xs place
 
--- the first position at which a test holds, or none if it holds nowhere
+-- the position is the first that passes the test; it is none if no element passes
 abbrev pub IsFirst : {X : Type 0} → (X → Bool) → List X → Option ℕ → Type 0
 IsFirst test xs None = (place : ℕ) → holds_at test xs place ≡ false
 IsFirst test xs (Some first) =

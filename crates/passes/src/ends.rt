@@ -1,4 +1,4 @@
-// Ends of pieces, by which a continuing piece is found.
+// Ends of pieces, used to find the piece that continues another.
 ghost use Rattle.std.specs.Prelude.{◌≡◌};
 ghost use Rattle.sound_terms.specs.Groups as spec;
 ghost use Rattle.sound_terms.specs.Groups.{IsPiece};
@@ -15,8 +15,8 @@ pub(crate) const FLAT: u8 = 1;
 /// Rank of a fade-out.
 const FALL: u8 = 2;
 
-/// The end of a piece: the rank of its shape, and the position, file and channels at which another
-/// piece continues it. Small fields are adjacent so that an end takes 24 bytes.
+/// The end of a piece: the rank of its shape, and the position, file and channels from which
+/// another piece continues it. Small fields are adjacent so that an end takes 24 bytes.
 #[derive(Clone, Copy, Debug, PartialEq, Eq, PartialOrd, Ord)]
 pub(crate) struct End {
     start: u64,

@@ -4,7 +4,7 @@ ghost use Rattle.std.specs.Prelude.{◌≡◌, ◌∷◌, [], MatchOption};
 use groups::Group;
 use std::marker::Model;
 
-/// Interval, in groups, at which unused memory is released.
+/// Number of groups between releases of unused memory.
 const MANY: usize = 1024;
 
 /// A queue of groups. Memory is released as groups are removed, so that the output can use it.

@@ -13,7 +13,7 @@ use crate::{Pass, PassFault};
 use groups::{Group, Intervals, Piece, Shape};
 use std::alloc::{AllocError, Global};
 
-/// Returns the smaller of two positions, either of which may be absent.
+/// Returns the smaller of two optional positions.
 fn earlier(one: Option<usize>, other: Option<usize>) -> Option<usize>
     ensures { result ≡ ends.earlier one other }
 {

@@ -1,5 +1,5 @@
-//! Plans of renderings: for each block of the output, a program that says which stretches of the
-//! files are added to its sums, and with which fades.
+//! Plans of renderings: for each block of the output, a program that lists the stretches of files
+//! to add to its sums, and their fades.
 #![tactic(auto)]
 
 mod exact;

@@ -59,9 +59,9 @@ impl Reach {
 
 /// Returns the next reach, which begins one piece before the existing ones.
 ///
-/// Runs of equal length are merged, as in adding 1 to a binary number. So the reach counts at least
-/// as many pieces as all reaches that it skips, and a walk over all pieces meets few reaches of
-/// each length.
+/// Runs of equal length are merged, as in adding 1 to a binary number. So the run that begins n
+/// pieces before the end has the length of the lowest bit set in n, and skipping from run to run
+/// passes all n pieces in one step per bit set in n.
 fn next_reach(pieces: &[Piece], reaches: &[Reach]) -> Reach
     requires more { length reaches.now < length pieces.now }
     requires sound { All IsPiece pieces.now }
@@ -92,7 +92,7 @@ fn reaches_of(alloc: Global, pieces: &[Piece]) -> Result<Vec<Reach>, AllocError>
     Ok(reaches)
 }
 
-/// A list of pieces in which runs that are silent in a block can be skipped.
+/// A list of pieces, indexed so that runs that are silent in a block can be skipped.
 #[derive(Drop)]
 pub struct Reached {
     pieces: Vec<Piece>,

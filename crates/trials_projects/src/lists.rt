@@ -12,7 +12,7 @@ pub const FADED: &str =
 (Outfade) 00.00.00.00/0004 LIN
 ";
 
-/// Returns a list with the given index and entry lines.
+/// Returns a list with the given index and entry lines. Returns `AllocError` if out of memory.
 pub fn list_of(alloc: Global, sources: &str, entries: &str) -> Result<String, AllocError> {
     format!(in alloc;
         "<ADL>
@@ -29,7 +29,7 @@ pub fn list_of(alloc: Global, sources: &str, entries: &str) -> Result<String, Al
     )
 }
 
-/// Returns a list with the given entry lines over the file.
+/// Returns a list with the given entry lines over the file. Returns `AllocError` if out of memory.
 pub fn list(alloc: Global, entries: &str) -> Result<String, AllocError> {
     list_of(alloc, SOURCE, entries)
 }

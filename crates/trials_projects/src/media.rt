@@ -58,7 +58,7 @@ pub fn sound(alloc: Global, frames: u64) -> Result<Vec<u8>, Fail> {
     with_samples(head(alloc, 1, frames)?, frames)
 }
 
-/// Returns a stereo file of 12 sample frames, of which the middle four are silent.
+/// Returns a stereo file of 12 sample frames; the middle four are silent.
 pub fn silent_middle(alloc: Global) -> Result<Vec<u8>, Fail> {
     let mut file = head(alloc, 2, 12)?;
     for frames in [LOUD, [0; 16], LOUD] {

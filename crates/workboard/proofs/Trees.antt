@@ -73,7 +73,7 @@ seen-at marks size count k whole room lt =
     get_or-take count (drop size marks) k false lt ∙ get_or-drop size marks k false
     ∙ get_or_default marks (size + k) false true (omega arith)
 
--- the flags of a tree in which all nodes are set
+-- the flags of a tree whose nodes are all set
 pub all-set : (count size : ℕ) → count ≤ size → take count (drop size (replicate (2 * size) true)) ≡ replicate count
     true
 all-set count size le = ext_get_or false (take count (drop size (replicate (2 * size) true))) (replicate count true)

@@ -10,7 +10,7 @@ use job_terms::{Counts, Job, Standing, Ticket};
 use std::alloc::Global;
 use std::marker::Model;
 
-/// A board of jobs. Contracts see the jobs and the order in which they are dispatched.
+/// A board of jobs. Contracts see the jobs and their dispatch order.
 pub struct Board {
     jobs: Vec<Job>,
     order: Vec<u32>,
@@ -161,8 +161,8 @@ impl Board {
         self.jobs[k] = job;
     }
 
-    /// Creates a board of `jobs` jobs, of which the marked ones are done. Returns
-    /// `BoardFault::Memory` if out of memory.
+    /// Creates a board of `jobs` jobs. The marked ones are done. Returns `BoardFault::Memory` if
+    /// out of memory.
     pub fn with_done(
         alloc: Global,
         jobs: u32,

@@ -3,13 +3,13 @@ use anyhow::Result;
 use std::alloc::Global;
 use workboard::{Board, BoardFault, Counts, Ticket};
 
-/// Creates a board of two open jobs, the second of which is dispatched first.
+/// Creates a board of two open jobs; the second is dispatched first.
 pub fn new_board(alloc: Global) -> Result<Board> {
     let board = Board::new(alloc, 2, vec![in alloc; 1, 0]?)?;
     Ok(board)
 }
 
-/// Creates a board of two jobs, the first of which is done.
+/// Creates a board of two jobs; the first is done.
 pub fn resumed_board(alloc: Global) -> Result<Board> {
     let board = Board::with_done(alloc, 2, vec![in alloc; 1, 0]?, &[true, false])?;
     Ok(board)

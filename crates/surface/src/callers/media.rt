@@ -56,8 +56,8 @@ pub fn laid_out<B: Bench>(
     Ok(())
 }
 
-/// Copies a piece of a medium. Returns false if there is no such piece. Every other piece is split
-/// in two steps, the second of which another worker may perform.
+/// Copies a piece of a medium. Returns false if there is no such piece. Every other piece is read
+/// and written in separate steps, as two workers would.
 pub fn copied<S: Shelf, B: Bench>(
     alloc: Global,
     shelf: &mut S,

@@ -9,7 +9,7 @@ use trials_projects::lists::list_of;
 
 const LIST: &str = "copy.adl";
 
-/// A list with all sections that are kept, in the form in which lists are written.
+/// A list with all sections that are kept, in the form that `write` produces.
 const WRITTEN: &str = "<ADL>\r
 <VERSION>\r
 (ADL_ID) \"1234\"\r

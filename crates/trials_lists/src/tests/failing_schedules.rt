@@ -23,8 +23,7 @@ const TAKEN_BACK: [BoardEvent; 13] = [
     BoardEvent::Deliver(1),
 ];
 
-/// Returns events with which three workers render one block each, and then one worker does all open
-/// jobs.
+/// Returns events: three workers render one block each, and then one worker does all open jobs.
 fn three_at_once(alloc: Global) -> Result<Vec<BoardEvent>, AllocError> {
     let mut events = Vec::new(alloc);
     for worker in 1..4 {
