@@ -1,5 +1,5 @@
-// Stored samples at two bit depths, the input of `are_same_at`; equal to the unpacked samples at
-// full scale.
+// Stored samples at two bit depths, compared by `are_same_at`; equal to `unpack` of both and a
+// comparison at full scale.
 ghost use Rattle.std.specs.Prelude.{◌≡◌, ◌*◌, ◌/◌, length};
 ghost use Rattle.sound_terms.specs.Depth.{bits_of};
 

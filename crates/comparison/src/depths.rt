@@ -1,5 +1,5 @@
-// Fast comparison of stored samples at two bit depths; equal to comparing the unpacked samples at
-// full scale.
+// Fast comparison of stored samples at two bit depths; equal to `unpack` of both and a comparison
+// at full scale.
 ghost use Rattle.std.specs.Prelude.{◌≡◌, ◌+◌, ◌*◌, ◌/◌, ◌≤◌, IsTrue, drop, length};
 ghost use Rattle.sound_terms.specs.Depth.{bits_of};
 ghost use Rattle.sound_terms.specs.Mix.{full_scale};

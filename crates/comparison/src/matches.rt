@@ -1,5 +1,4 @@
-// A cache of equal sample ranges of two files; a hit is equal to reading both ranges and comparing
-// them.
+// A cache of equal sample ranges of two files; a hit is equal to a `read_match` of both ranges.
 ghost use Rattle.std.specs.Prelude.{◌≡◌, ◌+◌, ◌-◌, ◌<◌, ◌≤◌, ℕ, IfSome, IsTrue};
 ghost use Rattle.std.specs.List.{All};
 ghost use Rattle.sound_terms.specs.Mix.{Reading};

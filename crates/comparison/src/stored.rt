@@ -1,5 +1,5 @@
-// Fast comparison of two blocks by their stored samples; a positive result is equal to comparing
-// their sums.
+// Fast comparison of two blocks by their stored samples; if the result is true, `first_difference`
+// of their sums is `None`.
 ghost use Rattle.std.specs.Prelude.{◌≡◌, ◌+◌, ◌*◌, ◌/◌, ◌≤◌, ℕ, IfErr, IfOk, IfSome, IsTrue, OnOk, Some, length, slice_get};
 ghost use Rattle.std.specs.List.{All};
 ghost use Rattle.sound_terms.specs.Blocks.{LiesInFiles, addition_of};
