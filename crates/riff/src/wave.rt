@@ -20,11 +20,14 @@ use devices::Shelf;
 use sound_terms::{Ds64, SoundFault, Span};
 use std::alloc::Global;
 
-/// How many bytes are read at once.
-const AHEAD: usize = 4096;
+/// Number of chunks in a row that must be close together before bytes are read ahead.
+const MANY: u32 = 64;
 
-/// How many, after chunks that lay closer together than what was read.
-const FAR_AHEAD: usize = 16_384;
+/// Two chunks are close together if at most this many bytes are between their heads.
+const CLOSE: u64 = 1024;
+
+/// Number of bytes read ahead in a long run of chunks that are close together.
+const AHEAD: usize = 16_384;
 
 /// Where the chunks that count stand in a sound file (EBU Tech 3285 and 3306), without their heads, in bytes.
 #[derive(Clone, Copy, Debug, PartialEq, Eq)]
@@ -137,8 +140,10 @@ fn walk_form<S: Shelf>(
     ensures only_reads { OnlyReads S.Shelf shelf.old shelf.new result (λ fault. fault ≡ MediaFault.Device)
         (λ _ failed. failed name.now) }
 {
-    let mut ahead = [0u8; FAR_AHEAD];
-    let mut count = AHEAD;
+    let mut ahead = [0u8; AHEAD];
+    // Only the next head is read, and none of the samples that may follow it, until many chunks were close together.
+    let mut count = HEAD_LENGTH as usize;
+    let mut close = 0;
     let mut found = Found::nothing(form.heads());
     let mut left = form.left;
     while left >= HEAD_LENGTH {
@@ -152,8 +157,13 @@ fn walk_form<S: Shelf>(
             left,
             &mut ahead[..count],
         )?;
-        count = if left - rest <= count as u64 {
-            FAR_AHEAD
+        close = if left - rest <= count as u64 + CLOSE {
+            MANY.min(close + 1)
+        } else {
+            0
+        };
+        count = if close < MANY {
+            HEAD_LENGTH as usize
         } else {
             AHEAD
         };
@@ -170,9 +180,9 @@ fn walk_form<S: Shelf>(
 }
 
 /// Finds the chunks that count in a file of RIFF WAVE or RF64 (EBU Tech 3285, 3306): the first `fmt `, `bext` and
-/// `data`. It reads the heads of chunks, up to 4096 bytes at a time, 16,384 where chunks lie close together, and no
-/// sample that isn't near one. A chunk of another kind that passes the end of the file ends the walk, as fewer than 8
-/// bytes do.
+/// `data`. It reads the head of each chunk, 8 bytes, and no samples. After 64 chunks in a row that are close together it
+/// reads 16,384 bytes at a time, as long as they are. A chunk of another kind that passes the end of the file ends the
+/// walk, as fewer than 8 bytes do.
 ///
 /// In turn: `NotFound` where no file has the name, `NotWave` for a file that is neither; `BadDs64` where RF64 has no
 /// whole `ds64` at byte 12; for the chunks from the left `Truncated` where one that counts passes the end, `BadDs64`

@@ -65,14 +65,15 @@ impl Shelf for Recorded {
     }
 
     fn read_at(&mut self, name: &str, at: u64, buffer: &mut [u8]) -> Result<(), ShelfFault> {
-        // a read of the header may extend into the samples
-        if at >= self.samples {
-            let first = at - self.samples;
-            let length = buffer.len() as u64;
+        let first = at.saturating_sub(self.samples);
+        let end = at
+            .saturating_add(buffer.len() as u64)
+            .saturating_sub(self.samples);
+        if first < end {
             self.least = self.least.min(first);
-            self.behind = self.behind.max(first.saturating_add(length));
+            self.behind = self.behind.max(end);
             self.reads = self.reads.saturating_add(1);
-            self.bytes = self.bytes.saturating_add(length);
+            self.bytes = self.bytes.saturating_add(end - first);
         }
         self.shelf.read_at(name, at, buffer)
     }

@@ -13,6 +13,7 @@ loop-left-init g c =
     record {
       sources = search rules;
       count = (omega arith, omega arith);
+      close = omega arith;
       inside = record { ends = c.nothing-found.ensures.ends c.args.end; few = omega (arith, seen) };
       walked = λ honest file there whole laid indexed. walked_start file form.sizes c.args.end form.left _ whole laid
           (omega (arith, c.requires.few)) (c.nothing-found.ensures.found c.args.end) seen;
