@@ -1,5 +1,5 @@
 // Hashes the rendered file.
-ghost use Rattle.std.specs.Prelude.{◌≡◌, ◌+◌, ◌≤◌, IfOk, IsTrue, OnOk, length, take, ⊤};
+ghost use Rattle.std.specs.Prelude.{◌≡◌, ◌+◌, ◌≤◌, IfOk, IsSome, IsTrue, OnOk, length, take, ⊤};
 ghost use Rattle.sha2.specs.Hashers.{Holds256};
 ghost use Rattle.sha2.specs.Sha256.{sha256};
 ghost use Rattle.renderreport.specs.Report.{content, sound_name};
@@ -19,6 +19,7 @@ const ROOM: usize = 65_536;
 fn sound_length<B: Bench>(bench: &mut B) -> Result<u64, DeviceFault>
     ensures length { IsTrue (B.honest bench.old)
         → IfOk result (λ n. length (content (B.stored bench.old) sound_name) ≡ n) }
+    ensures exists { IsTrue (B.honest bench.old) → OnOk result (IsSome (B.stored bench.old sound_name)) }
     ensures reads { ReadsSound B.Bench bench.old bench.new result }
 {
     match bench.length(SOUND) {
@@ -58,6 +59,7 @@ fn hash_bytes<B: Bench>(
 pub fn sound_digest<B: Bench>(bench: &mut B) -> Result<[u8; 32], DeviceFault>
     ensures digest { IsTrue (B.honest bench.old)
         → IfOk result (λ digest. digest ≡ sha256 (content (B.stored bench.old) sound_name)) }
+    ensures exists { IsTrue (B.honest bench.old) → OnOk result (IsSome (B.stored bench.old sound_name)) }
     ensures reads { ReadsSound B.Bench bench.old bench.new result }
 {
     let mut room = [0; ROOM];

@@ -1,5 +1,5 @@
 // The report of a rendering, written beside the file.
-ghost use Rattle.std.specs.Prelude.{◌≡◌, ◌≢◌, IsTrue, OnOk, Some, ⊤};
+ghost use Rattle.std.specs.Prelude.{◌≡◌, ◌≢◌, IsErrOf, IsSome, IsTrue, OnOk, Some, ⊤};
 ghost use Rattle.work_terms.specs.Disk.{IsDurable};
 ghost use Rattle.devices.specs.Frame.{OnlyWrites};
 ghost use Rattle.renderreport.specs.Fault.{name_of};
@@ -50,11 +50,14 @@ fn write<B: Bench>(bench: &mut B, report: &Report<'_, '_>) -> Result<(), DeviceF
 
 /// Writes the report of a rendering to the file `render.json` of a bench, and syncs it: a value of JSON (RFC 8259) in a
 /// line, whose members are in order. `render.wav` is read once, from its first byte to its last, for its SHA-256. It
-/// takes no memory, and leaves each other file as it was. An error says at which of both files the device failed.
+/// takes no memory, and leaves each other file as it was. An error says at which of both files the device failed. If
+/// `render.wav` can't be read, nothing is written: a report that exists stays as it is.
 pub fn write_report<B: Bench>(bench: &mut B, facts: &ReportFacts<'_>) -> Result<(), ReportFault>
     ensures written { IsTrue (B.honest bench.old)
         → OnOk result (B.stored bench.new report_name
         ≡ Some (report_text (facts_of facts.now) (content (B.stored bench.old) sound_name))) }
+    ensures exists { IsTrue (B.honest bench.old) → OnOk result (IsSome (B.stored bench.old sound_name)) }
+    ensures unbegun { IsErrOf result ReportFault.Sound → B.stored bench.new ≡ B.stored bench.old }
     ensures durable { IsTrue (B.honest bench.old)
         → OnOk result (IsDurable report_name (B.stored bench.new) (B.may_leave bench.new)) }
     ensures beside { Spares B.Bench bench.old bench.new }
