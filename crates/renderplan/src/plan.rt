@@ -200,9 +200,9 @@ impl Plan {
         self.write(self.window_of(k), program);
     }
 
-    /// Returns the program of block `k` (from 0), with room for the program of any other block.
-    /// Returns `PlanFault::Memory` if out of memory.
-    pub fn block(&self, alloc: Global, k: u64) -> Result<Program, PlanFault>
+    /// Returns the program of block `k`, counted from 0, with room for the program of any other block. Its memory comes
+    /// from the allocator of the plan.
+    pub fn block(&self, k: u64) -> Result<Program, PlanFault>
         requires { k < block_count self.now.range }
         ensures program { IfOk result (λ program. program.lines ≡ program_of self.now.pieces self.now.range k) }
         ensures room { IfOk result (λ program. program.room ≡ length self.now.pieces + 2) }
@@ -215,7 +215,7 @@ impl Plan {
             → All (LiesInFiles sounds) program.lines) }
         ensures only_memory { IfErr result (λ fault. fault ≡ PlanFault.Memory) }
     {
-        let mut program = Program::with_room(alloc, self.most_instructions())?;
+        let mut program = Program::with_room(self.pieces.allocator(), self.most_instructions())?;
         self.fill(k, &mut program);
         Ok(program)
     }

@@ -129,6 +129,11 @@ impl Reached {
         self.pieces.as_slice()
     }
 
+    /// Returns the allocator of the pieces.
+    pub fn allocator(&self) -> Global {
+        *self.pieces.allocator()
+    }
+
     /// Returns the reach of the run that begins at piece `next`.
     fn reach_from(&self, next: usize) -> Reach
         requires { next < length self.now }

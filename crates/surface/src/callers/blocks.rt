@@ -21,11 +21,11 @@ pub fn additions_in(program: &Program) -> usize {
 }
 
 /// Returns the number of instructions of block `k` that add sound, or `None` past the last block.
-pub fn additions_of(alloc: Global, plan: &Plan, k: u64) -> Result<Option<usize>, PlanFault> {
+pub fn additions_of(plan: &Plan, k: u64) -> Result<Option<usize>, PlanFault> {
     if k >= plan.blocks() {
         return Ok(None);
     }
-    let program = plan.block(alloc, k)?;
+    let program = plan.block(k)?;
     Ok(Some(additions_in(&program)))
 }
 

@@ -27,20 +27,22 @@ const BEFORE_THE_END: Stretch = Stretch {
     width: 1,
 };
 
-/// Returns a plan of this piece up to time 4100, mono at 16 bits.
-fn plan(alloc: Global) -> Result<Plan, Fail> {
-    let Some(end) = SampleTime::new(4100) else {
-        return Err("no time".into());
-    };
+/// Returns a plan of this piece from midnight to sample `end`, mono at 16 bits.
+fn plan_to(alloc: Global, end: u64) -> Result<Plan, Fail> {
+    let end = SampleTime::new(end).ok_or("no time")?;
     let mut groups = Vec::new(alloc);
     groups.push(Group::alone(alloc, OVER_THE_END))?;
     let intervals = Intervals::ordered(groups)?;
     Ok(Plan::new(alloc, intervals, SampleTime::ZERO, end, 1, Depth::Sixteen)?)
 }
 
+/// Returns a plan of this piece up to sample 4100.
+fn plan(alloc: Global) -> Result<Plan, Fail> {
+    plan_to(alloc, 4100)
+}
+
 /// Returns whether the program of a block has the expected instructions.
 fn is_program(
-    alloc: Global,
     plan: &Plan,
     k: u64,
     filled: &mut Program,
@@ -52,7 +54,7 @@ fn is_program(
     if k >= plan.blocks() {
         return Err("too few blocks".into());
     }
-    let made = plan.block(alloc, k)?;
+    let made = plan.block(k)?;
     plan.fill(k, filled);
     Ok((made.as_slice() == expected) & (filled.as_slice() == expected))
 }
@@ -70,7 +72,7 @@ fn a_piece_over_the_end_of_a_block_goes_on_in_the_next(rt: HostRuntime) -> Resul
         den: 4,
     };
     let first = [Instruction::Start { frames: 4096 }, rise, emit];
-    assert!(rt; is_program(rt.alloc(), &plan, 0, &mut filled, &first)?);
+    assert!(rt; is_program(&plan, 0, &mut filled, &first)?);
     let rest = Instruction::Rise {
         stretch: Stretch {
             at: 0,
@@ -81,6 +83,23 @@ fn a_piece_over_the_end_of_a_block_goes_on_in_the_next(rt: HostRuntime) -> Resul
         den: 4,
     };
     let second = [Instruction::Start { frames: 4 }, rest, emit];
-    assert!(rt; is_program(rt.alloc(), &plan, 1, &mut filled, &second)?);
+    assert!(rt; is_program(&plan, 1, &mut filled, &second)?);
+    Ok(())
+}
+
+#[test]
+fn a_block_has_4096_frames_and_the_last_one_the_rest(rt: HostRuntime) -> Result<(), Fail> {
+    for (end, blocks, frames) in [
+        (1, 1, [1, 0]),
+        (4095, 1, [4095, 0]),
+        (4096, 1, [4096, 0]),
+        (4097, 2, [4096, 1]),
+        (8192, 2, [4096, 4096]),
+        (8193, 3, [4096, 4096]),
+    ] {
+        let plan = plan_to(rt.alloc(), end)?;
+        assert_eq!(rt; plan.blocks(), blocks);
+        assert_eq!(rt; [plan.frames_of(0), plan.frames_of(1)], frames);
+    }
     Ok(())
 }
