@@ -17,4 +17,4 @@ pub use place::{Place, place_of};
 pub use project::Project;
 pub use sound_terms::{Channels, Event, Fade};
 pub use source::Source;
-pub use sources::Sources;
+pub use sources::{Sources, by_number, sources_by_number};

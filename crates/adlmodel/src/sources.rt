@@ -1,6 +1,7 @@
 // Sources by number.
 ghost use Rattle.std.specs.Prelude.{◌≡◌, ◌++◌, ◌==◌, ◌∷◌, [], IfOk, OnErr, OnOk, false, option_copied};
 ghost use Rattle.std.specs.List.{list_any};
+ghost use Rattle.indexmap.specs.IndexMap.{keys, values};
 ghost use Rattle.list_terms.specs.WholeProject.{AreDistinct, index_numbers};
 ghost use Rattle.adlmodel.specs.Numbered.{source_of};
 
@@ -85,4 +86,21 @@ impl Sources {
         let _ = self.by_number.len();
         self.by_number.values().as_slice()
     }
+}
+
+/// Returns the sources by their numbers, in the order of their lines.
+pub fn by_number(sources: &Sources) -> &IndexMap<u32, Source>
+    ensures sources { values result.now ≡ sources.now }
+    ensures numbers { keys result.now ≡ index_numbers sources.now }
+{
+    let _ = sources.by_number.len();
+    &sources.by_number
+}
+
+/// Takes the sources of a map in which each source is stored under its own number.
+pub fn sources_by_number(by_number: IndexMap<u32, Source>) -> Sources
+    requires { keys by_number ≡ index_numbers (values by_number) }
+    ensures { result ≡ values by_number }
+{
+    Sources { by_number }
 }

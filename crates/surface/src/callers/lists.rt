@@ -1,10 +1,16 @@
 // Lists: text, times, names and bindings.
+ghost use Rattle.std.specs.Prelude.{◌≡◌};
+ghost use Rattle.indexmap.specs.IndexMap.{keys, values};
+ghost use Rattle.list_terms.specs.WholeProject.{AreEvents, AreSources, index_numbers};
 
-use adlmodel::{Channels, Event, Fade, Place, Project, Source, Sources, place_of};
+use adlmodel::{
+    Channels, Event, Fade, Place, Project, Source, Sources, by_number, place_of, sources_by_number,
+};
 use adlread::{AdlFault, rate_of, read};
 use adltoken::{Lines, Token, TokenFault, TokenKind, Tokens};
 use adlwrite::{WriteFault, write};
 use anyhow::Result;
+use indexmap::IndexMap;
 use list_terms::Notice;
 use projectcheck::{Checked, check};
 use sampletime::{Rate, SampleTime, Separators, parse_time, text_of};
@@ -61,6 +67,24 @@ pub fn made_anew(alloc: Global, project: &Project) -> Result<Project, AllocError
     let sources = Sources::from_slice(alloc, project.sources().as_slice())?;
     let events = Vec::from_slice(alloc, project.events())?;
     project.with(sources, events)
+}
+
+/// Returns the number of sources in a project's map.
+pub fn mapped(project: &Project) -> usize {
+    by_number(project.sources()).len()
+}
+
+/// Returns a project over the sources of a map.
+pub fn made_of_map(
+    project: &Project,
+    sources: IndexMap<u32, Source>,
+    events: Vec<Event>,
+) -> Result<Project, AllocError>
+    requires numbers { keys sources ≡ index_numbers (values sources) }
+    requires sources { AreSources (values sources) }
+    requires events { AreEvents events.items }
+{
+    project.with(sources_by_number(sources), events)
 }
 
 /// Returns whether a project has an index with this number, and its numbers of indexes, entries and

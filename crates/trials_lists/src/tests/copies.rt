@@ -1,9 +1,10 @@
 // Projects that are copied, or rebuilt from their parts.
-use adlmodel::{Project, Sources};
+use adlmodel::{Project, Source, Sources, by_number, sources_by_number};
 use adlread::read;
 use adlwrite::{text_of, write};
+use indexmap::IndexMap;
 use shelf::{Bench, MemoryBench};
-use std::alloc::Global;
+use std::alloc::{AllocError, Global};
 use std::test::Fail;
 use trials_projects::lists::list_of;
 
@@ -85,5 +86,25 @@ fn a_copy_and_a_project_of_the_same_parts_are_the_same_list(rt: HostRuntime) -> 
 fn a_list_in_its_written_form_is_written_as_it_is(rt: HostRuntime) -> Result<(), Fail> {
     let project = read(rt.alloc(), WRITTEN.as_bytes())?;
     assert!(rt; is_written(rt.alloc(), &project, WRITTEN.as_bytes())?);
+    Ok(())
+}
+
+/// Sources of which there is one alone, made of a map.
+fn alone(alloc: Global, source: &Source) -> Result<Sources, AllocError> {
+    let mut by_number = IndexMap::new(alloc);
+    by_number.insert(source.number(), source.try_copy()?)?;
+    Ok(sources_by_number(by_number))
+}
+
+#[test]
+fn sources_are_found_by_their_numbers(rt: HostRuntime) -> Result<(), Fail> {
+    let text = list_of(rt.alloc(), SHARED_FILE, OF_EACH)?;
+    let project = read(rt.alloc(), text.as_bytes())?;
+    let sources = by_number(project.sources());
+    assert_eq!(rt; sources.len(), 2);
+    let second = sources.get(&2).ok_or("no source")?;
+    let sources = alone(rt.alloc(), second)?;
+    assert_eq!(rt; sources.as_slice().len(), 1);
+    assert!(rt; sources.contains(2));
     Ok(())
 }
