@@ -2,6 +2,8 @@
 use Rattle.std.specs.Prelude.{◌≡◌, ℕ}
 use Rattle.mediacopy.specs.declared.fault.CopyFault.{CopyFault}
 use Rattle.mediacopy.specs.declared.fault.CopyFault.TheVariants.{Source, Output}
+use Rattle.mediacopy.specs.declared.fault.LayoutFault.{LayoutFault}
+use Rattle.mediacopy.specs.declared.fault.LayoutFault.TheVariants as layout
 
 -- The refusal number of a fault.
 abbrev pub number_of : CopyFault → ℕ
@@ -11,3 +13,7 @@ number_of Output = 62
 -- The medium can't be written.
 abbrev pub IsOutput : CopyFault → Type 0
 IsOutput fault = fault ≡ Output
+
+abbrev pub layout_number : LayoutFault → ℕ
+layout_number layout.Output = 62
+layout_number layout.Memory = 63

@@ -1,33 +1,40 @@
 // Preallocation of media.
-ghost use Rattle.std.specs.Prelude.{◌≡◌, ◌≢◌, ◌≤◌, IfErr, Some, ⊤, IsTrue, OnOk, length};
+ghost use Rattle.std.specs.Prelude.{◌≡◌, ◌≢◌, ◌≤◌, IsErrOf, IsTrue, OnOk, Some, length, ⊤};
 ghost use Rattle.sound_terms.specs.Waves.{data_place};
 ghost use Rattle.devices.specs.Frame.{OnlyWrites};
 ghost use Rattle.wavwrite.specs.Info.{Fits};
 ghost use Rattle.mediacopy.specs.Copied.{laid_out};
-ghost use Rattle.mediacopy.specs.Fault.{IsOutput};
 ghost use Rattle.mediacopy.specs.Moment.{IsLater};
 
-use crate::CopyFault;
+use crate::LayoutFault;
 use devices::{Bench, DeviceFault};
+use std::alloc::{AllocError, Global};
 use wavwrite::{SoundInfo, SoundInfoRef};
 
 /// The length in bytes of the longest header, which has 65,536 bytes of CodingHistory.
 pub const LONGEST_HEADER: usize = 66_226;
 
-/// Creates a file with this header and zero samples at its full length, without allocating memory. Returns
-/// `CopyFault::Output` if the device fails.
-pub fn lay_out<B: Bench>(bench: &mut B, name: &str, info: &SoundInfo) -> Result<(), CopyFault>
+/// Creates a sound file at its full length, with a complete header and every sample zero. Nothing is written if there is
+/// no memory for the header.
+pub fn lay_out<B: Bench>(
+    alloc: Global,
+    bench: &mut B,
+    name: &str,
+    info: &SoundInfo,
+) -> Result<(), LayoutFault>
     requires { Fits info.now }
     ensures laid { IsTrue (B.honest bench.old) → OnOk result (B.stored bench.new name.now ≡ Some (laid_out info.now)) }
-    ensures output { IfErr result IsOutput }
-    ensures only_writes { OnlyWrites B.Bench (λ n. n ≢ name.now) bench.old bench.new result (λ _. ⊤)
-        (λ _ failed. failed name.now) }
+    ensures unbegun { IsErrOf result LayoutFault.Memory → bench.new ≡ bench.old }
+    ensures only_writes { OnlyWrites B.Bench (λ n. n ≢ name.now) bench.old bench.new result
+        (λ fault. fault ≡ LayoutFault.Output) (λ _ failed. failed name.now) }
     ensures later { IsLater B.moment bench.old bench.new }
 {
-    let mut room = [0; LONGEST_HEADER];
-    match lay_out_in(bench, name, &info.lent(), &mut room) {
+    let info = info.lent();
+    let mut room = Vec::new(alloc);
+    room.resize(info.header_length(), 0)?;
+    match lay_out_in(bench, name, &info, room.as_mut_slice()) {
         Ok(()) => Ok(()),
-        Err(_) => Err(CopyFault::Output),
+        Err(_) => Err(LayoutFault::Output),
     }
 }
 

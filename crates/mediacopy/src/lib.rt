@@ -9,7 +9,7 @@ mod names;
 mod piece;
 mod piece_copy;
 
-pub use fault::CopyFault;
+pub use fault::{CopyFault, LayoutFault};
 pub use info::{info_of, reads_back};
 pub use layout::{LONGEST_HEADER, lay_out, lay_out_in};
 pub use names::medium_name;

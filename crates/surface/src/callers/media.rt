@@ -52,7 +52,7 @@ pub fn laid_out<B: Bench>(
     if !fits(&info) {
         bail!("too long");
     }
-    lay_out(bench, medium_name(u64::from(k) + 1).as_str(), &info)?;
+    lay_out(alloc, bench, medium_name(u64::from(k) + 1).as_str(), &info)?;
     Ok(())
 }
 

@@ -5,7 +5,7 @@ use adltoken::TokenFault;
 use adlwrite::WriteFault;
 use blockmachine::MachineFault;
 use interval::IntervalFault;
-use mediacopy::CopyFault;
+use mediacopy::{CopyFault, LayoutFault};
 use mediaset::RunFault;
 use passes::PassFault;
 use projectcheck::EventFault;
@@ -74,13 +74,15 @@ pub fn of_groups(
     interval: &IntervalFault,
     pass: &PassFault,
     run: &RunFault,
+    laid: &LayoutFault,
     copied: &CopyFault,
     linked: &RelinkFault,
-) -> [u8; 5] {
+) -> [u8; 6] {
     [
         interval.number(),
         pass.number(),
         run.number(),
+        laid.number(),
         copied.number(),
         linked.number(),
     ]

@@ -1,6 +1,8 @@
 // Copies of pieces of media, including failures of the source or the medium.
 use adlread::read;
-use mediacopy::{CopyFault, CopyJob, copy_piece, is_piece, lay_out, length_of, medium_name};
+use mediacopy::{
+    CopyFault, CopyJob, LayoutFault, copy_piece, is_piece, lay_out, length_of, medium_name,
+};
 use mediaset::Run;
 use shelf::{MemoryBench, MemoryShelf};
 use sourceindex::{Bound, bind};
@@ -63,7 +65,7 @@ fn laid_out(rt: &impl Abort, alloc: Global) -> Result<MemoryBench, Fail> {
     let info = SoundInfo::new(1, Depth::Sixteen, 5, bext, Vec::new(alloc)).ok_or("no medium")?;
     assert!(rt; fits(&info));
     let mut bench = MemoryBench::new(alloc);
-    lay_out(&mut bench, medium_name(2).as_str(), &info)?;
+    lay_out(alloc, &mut bench, medium_name(2).as_str(), &info)?;
     Ok(bench)
 }
 
@@ -143,5 +145,7 @@ fn a_piece_is_copied_or_its_medium_is_torn_within_it_alone(rt: HostRuntime) -> R
     }
     let numbers = [CopyFault::Source.number(), CopyFault::Output.number()];
     assert_eq!(rt; numbers, [22, 62]);
+    let numbers = [LayoutFault::Output.number(), LayoutFault::Memory.number()];
+    assert_eq!(rt; numbers, [62, 63]);
     Ok(())
 }
