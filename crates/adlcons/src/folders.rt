@@ -31,10 +31,10 @@ use console::{Console, Refusal, put_refusal};
 use consolidate::{JobLength, MARKS, RENDER_REPORT, SOUND};
 use explanations::{Explanation, FoundFolder};
 use places::{
-    FolderAsides, HeldFolder, Lock, Manner, OpenFault, Progress, ReadFault, Session, ShownShelf,
-    WorkMeter, changed_position, name_inside, newer_sources, read_list, ready_output,
-    report_change, report_found, report_full_disk, report_newer, tell_all_further, tell_unlisted,
-    unlisted_reason,
+    FolderAsides, HeldFolder, Lock, Manner, OpenFault, OpenStores, Progress, ReadFault, Replaced,
+    Session, ShownShelf, WorkMeter, changed_position, name_inside, newer_sources, open_stores,
+    read_given_list, read_list, report_change, report_found, report_full_disk, report_newer,
+    tell_all_further, tell_unlisted, unlisted_reason,
 };
 use shelf::{FolderBench, MemoryBench, Overwrite};
 use std::fs::Files;
@@ -393,27 +393,30 @@ where
     ensures two { IfOk result (λ status. status ≡ 2 → out.new ≡ out.old) }
     ensures nothing { OnErr result (out.new ≡ out.old) }
 {
-    let rt = session.rt;
-    let text = read_list(rt, places.list)?;
-    let list = text.as_slice();
-    let overwrite = overwrite_for(&request);
-    let held = ready_output(rt, places, list, overwrite, files_of(&request), err)?;
-    warn_unlocked(&held, request, list, places.out, err);
-    try_stores(session, request, places, list, out, err)
+    let given = read_given_list(session.rt, places.list)?;
+    let list = given.text.as_slice();
+    let replaced = replaced_by(&request);
+    let stores = open_stores(session, places, &given, replaced, err)?;
+    warn_unlocked(&stores.held, request, list, places.out, err);
+    try_stores(session, request, places, list, stores, out, err)
 }
 
-/// Answers it over this list where the folders of the output and of the media can be opened.
+/// Answers it over this list between the folders of the media and of the output, which are open.
 fn try_stores<R, O: Console, E: Console, L: Progress>(
     session: &Session<'_, R, L>,
     request: Request<'_>,
     places: Places<'_>,
     list: &[u8],
+    stores: OpenStores<'_, R, L>,
     out: &mut O,
     err: &mut E,
 ) -> Result<u8, OpenFault>
 where
     R: Files + Input + AllocGlobal + Clone + Drop,
     R::File: FileExt,
+    requires media { stores.shelf.folder ≡ folder_named places.media.now }
+    requires output { stores.bench.folder ≡ folder_named places.out.now }
+    requires careful { stores.bench.overwrite ≡ overwrite_for (asked_of request) }
     ensures works { IfOk result (λ status. AnswersWriting ⟦<ShownShelf<'static, R, L> as devices::Shelf>⟧
         ⟦<FolderBench<R> as devices::Bench>⟧ O.Console (asked_of request.entry) places.entry.media.now places.entry.out.now
         out.old out.new status) }
@@ -424,6 +427,11 @@ where
     ensures nothing { OnErr result (out.new ≡ out.old) }
 {
     let rt = session.rt;
+    let OpenStores {
+        held: _held,
+        mut shelf,
+        mut bench,
+    } = stores;
     let work = Work {
         request,
         places,
@@ -431,9 +439,6 @@ where
         changed: changed_position(rt, request, list),
     };
     let newer = newer_sources(rt, request, list);
-    let overwrite = overwrite_for(&request);
-    let mut bench = FolderBench::new(rt.alloc(), rt.clone()?, places.out, overwrite)?;
-    let mut shelf = ShownShelf::open(session, places.media)?;
     let newer = newer.as_ref().map(|names| names.as_slice());
     work_between(session, work, newer, &mut shelf, &mut bench, out, err)
 }
@@ -535,21 +540,23 @@ where
     Ok(status)
 }
 
-/// Whether a request may replace files in its output: one that goes on with a rendering.
-fn overwrite_for(request: &Request<'_>) -> Overwrite
-    ensures { result ≡ overwrite_for (asked_of request.now) }
+/// Returns what a request may replace in its output: the files of the rendering that it resumes.
+fn replaced_by(request: &Request<'_>) -> Replaced<'static>
+    ensures { result.overwrite ≡ overwrite_for (asked_of request.now) }
 {
     match request {
-        Request::Resume(_, _) => Overwrite::Files,
-        _ => Overwrite::Never,
-    }
-}
-
-/// The files of a rendering that a request may replace.
-fn files_of(request: &Request<'_>) -> &'static [&'static str] {
-    match request {
-        Request::Resume(_, chosen) if chosen.report => &[SOUND, MARKS, RENDER_REPORT],
-        _ => &[SOUND, MARKS],
+        Request::Resume(_, chosen) if chosen.report => Replaced {
+            overwrite: Overwrite::Files,
+            files: &[SOUND, MARKS, RENDER_REPORT],
+        },
+        Request::Resume(_, _) => Replaced {
+            overwrite: Overwrite::Files,
+            files: &[SOUND, MARKS],
+        },
+        _ => Replaced {
+            overwrite: Overwrite::Never,
+            files: &[],
+        },
     }
 }
 

@@ -16,9 +16,9 @@ use commandline::{MediaReport, Places, Request};
 use console::{Console, ListOfTwo};
 use consolidate::LIST;
 use places::{
-    FolderAsides, Lock, OpenFault, OpenedList, PLAIN, Progress, Session, ShownShelf, WorkMeter,
-    name_inside, open_inside, read_list, ready_output, report_found, report_full_disk,
-    tell_all_further, tell_unlisted, unlisted_reason,
+    FolderAsides, Lock, OpenFault, OpenStores, OpenedList, PLAIN, Progress, Replaced, Session,
+    ShownShelf, WorkMeter, name_inside, open_inside, open_stores, read_given_list, report_found,
+    report_full_disk, tell_all_further, tell_unlisted, unlisted_reason,
 };
 use shelf::{FolderBench, Overwrite};
 use std::fs::Files;
@@ -90,41 +90,23 @@ where
     ensures statuses { IfOk result (λ status. status ≤ 1) }
     ensures nothing { OnErr result (out.new ≡ out.old) }
 {
-    let rt = session.rt;
-    let text = read_list(rt, places.list)?;
-    let list = text.as_slice();
-    let lock = ready_output(rt, places, list, Overwrite::Never, &[], err)?;
-    lock.tell_unlocked(places.out, err);
-    verify_list(session, places, handle, report, list, out, err)
-}
-
-/// Does so over this list where both folders can be opened.
-fn verify_list<R, O: Console, E: Console, L: Progress>(
-    session: &Session<'_, R, L>,
-    places: Places<'_>,
-    handle: u64,
-    report: MediaReport,
-    list: &[u8],
-    out: &mut O,
-    err: &mut E,
-) -> Result<u8, OpenFault>
-where
-    R: Files + Input + AllocGlobal + Clone + Drop,
-    R::File: FileExt,
-    ensures answered { IfOk result (λ status. VerifiesInFolders
-        ⟦<ShownShelf<'static, R, L> as devices::Shelf>⟧ ⟦<FolderBench<R> as devices::Bench>⟧ O.Console handle report
-        places.entry.media.now places.entry.out.now out.old out.new status) }
-    ensures statuses { IfOk result (λ status. status ≤ 1) }
-    ensures nothing { OnErr result (out.new ≡ out.old) }
-{
-    let (rt, overwrite) = (session.rt, Overwrite::Never);
-    let mut bench = FolderBench::new(rt.alloc(), rt.clone()?, places.out, overwrite)?;
-    let mut shelf = ShownShelf::open(session, places.media)?;
+    let given = read_given_list(session.rt, places.list)?;
+    let replaced = Replaced {
+        overwrite: Overwrite::Never,
+        files: &[],
+    };
+    let stores = open_stores(session, places, &given, replaced, err)?;
+    let OpenStores {
+        held,
+        mut shelf,
+        mut bench,
+    } = stores;
+    held.tell_unlocked(places.out, err);
     let work = Consolidating {
         places,
         handle,
         report,
-        list,
+        list: given.text.as_slice(),
     };
     verify_between(session, work, &mut shelf, &mut bench, out, err)
 }

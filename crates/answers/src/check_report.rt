@@ -33,13 +33,14 @@ pub fn answer_report<S: Shelf + Reasons, O: Console, E: Console, M: Meter, A: As
 {
     let outcome = open_project(alloc, list, shelf);
     tell_changed(alloc, shelf, terminal.err);
+    let unsearched = shelf.unsearched(alloc);
     match outcome {
         Ok(checked) => {
-            let mut explainer = Explainer::new(alloc, list, &terminal.asides);
+            let mut explainer = Explainer::new(alloc, list, &terminal.asides, unsearched);
             put_accepted(alloc, &checked, &mut explainer, terminal.out)
         }
         Err(fault) => {
-            let mut explainer = Explainer::new(alloc, list, &terminal.asides);
+            let mut explainer = Explainer::new(alloc, list, &terminal.asides, unsearched);
             let status = put_refused(alloc, list, shelf, &fault, &mut explainer, terminal.out);
             let (asides, reason) = (&terminal.asides, shelf.reason());
             explain_refused(alloc, list, fault, reason, asides, terminal.err);

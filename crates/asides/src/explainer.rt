@@ -27,18 +27,21 @@ pub struct Explainer<'a, A: Asides> {
     lines: ListLines<'a>,
     passed: PassedLines<'a>,
     second_look: SecondLook<A::Sources>,
+    /// The folders that couldn't be searched for sources, and why.
+    unsearched: Option<String>,
     count: usize,
 }
 
 impl<'a, A: Asides> Explainer<'a, A> {
-    /// Of this list.
-    pub fn new(alloc: Global, list: &'a [u8], asides: &'a A) -> Self {
+    /// Makes the explainer of this list. `unsearched` says which folders couldn't be searched for sources, and why.
+    pub fn new(alloc: Global, list: &'a [u8], asides: &'a A, unsearched: Option<String>) -> Self {
         Explainer {
             list,
             asides,
             lines: ListLines::new(list),
             passed: PassedLines::new(list),
             second_look: SecondLook::new(asides.sources(alloc)),
+            unsearched,
             count: 0,
         }
     }
@@ -64,7 +67,10 @@ impl<A: Asides> Explains for Explainer<'_, A> {
     }
 
     fn media_error(&mut self, alloc: Global) -> Option<String> {
-        self.asides.media_error(alloc)
+        match self.asides.media_error(alloc) {
+            Some(error) => Some(error),
+            None => self.unsearched.take(),
+        }
     }
 
     fn room(&mut self, alloc: Global, checked: &Checked) -> Room {

@@ -5,12 +5,16 @@ use crate::played::Played;
 use std::fmt;
 use std::fmt::Display;
 
-/// Where a file that is missing may be: under a name that differs in case or in its form of Unicode alone, in this folder
-/// of the folder of the media, or under the part of its name behind the last `\`.
+/// Where a missing file may be.
 #[derive(Drop)]
 pub enum Near {
+    /// Under this name, which differs only in case or in its form of Unicode.
     Spelled(String),
+    /// In this folder below the media folder, where it wasn't looked for.
     Folder(String),
+    /// In this folder below the media folder, from which it wasn't taken.
+    NotTaken(String),
+    /// Under this name, the part after the last `\`.
     Backslash(String),
 }
 
@@ -22,6 +26,7 @@ impl Near {
                 "rename that file, or write its name in the list as it is in the folder"
             }
             Near::Folder(_) => "add --search, or put it into the folder itself",
+            Near::NotTaken(_) => "put the right file into the folder itself",
             Near::Backslash(_) => "correct the list, in which \\ is a part of the name",
         }
     }
@@ -40,6 +45,10 @@ impl fmt::Display for Near {
             Near::Folder(folder) => {
                 let folder = PrintedName(folder.as_str());
                 write!(f, "found in {folder}/")
+            }
+            Near::NotTaken(folder) => {
+                let folder = PrintedName(folder.as_str());
+                write!(f, "found in {folder}/ and not taken")
             }
             Near::Backslash(name) => {
                 let name = PrintedName(name.as_str());

@@ -11,7 +11,6 @@ impl fmt::Display for SystemWord {
         let error = self.0;
         match (error.raw_os_error(), error.kind()) {
             (None, ErrorKind::InvalidInput) => f.write_str("it isn't a plain file"),
-            (None, ErrorKind::InvalidData) => f.write_str("it was changed meanwhile"),
             (None, ErrorKind::UnexpectedEof) => f.write_str("it is shorter than it was"),
             (None, ErrorKind::NotFound) => f.write_str("it is gone"),
             (_, ErrorKind::StorageFull) => write!(f, "the disk is full: {error}"),

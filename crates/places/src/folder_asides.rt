@@ -111,7 +111,12 @@ where
         if let Some(similar) = self.similar(alloc, name) {
             return Some(Near::Spelled(similar));
         }
-        Some(Near::Folder(self.folder_of(alloc, name)?))
+        let folder = self.folder_of(alloc, name)?;
+        Some(if self.manner.searches {
+            Near::NotTaken(folder)
+        } else {
+            Near::Folder(folder)
+        })
     }
 
     fn media_error(&self, alloc: Global) -> Option<String> {

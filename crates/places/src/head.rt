@@ -1,4 +1,4 @@
-// What surrounds the samples of a rendering that is gone on with: its head, and the byte that pads it.
+// The bytes around the samples of a rendering that is resumed: its head, and the pad byte.
 use crate::media::listed;
 use asides::rendering_info;
 use commandline::{Chosen, Request};
@@ -11,15 +11,15 @@ use std::fs::{File, Files, OpenFile};
 use std::os::unix::fs::FileExt;
 use wavwrite::{data_length, fits, header};
 
-/// How many bytes marks have before that of the first block.
+/// The number of bytes of a mark file before the mark of the first block.
 const FRONT: u64 = 44;
 
-/// The first byte of marks that are started.
+/// The first byte of started marks.
 const STARTED: u8 = 1;
 
-/// Where the rendering in this folder, with which a request goes on, isn't as it was written, before or after its
-/// samples; `None` where it is, and where that can't be known. It is looked at before the first write, and only where
-/// marks say that it was begun and its file has its whole length.
+/// Returns the position of the first byte before or after the samples at which the rendering that a request resumes isn't
+/// as it was written, or `None` if there is none or it can't be known. The file is examined before the first write, and
+/// only if marks are started and it has its full length.
 pub fn changed_position<R>(rt: &R, request: Request<'_>, list: &[u8]) -> Option<u64>
 where
     R: Files + AllocGlobal,
@@ -31,7 +31,7 @@ where
     }
 }
 
-/// Reports that a rendering that was gone on with was changed by another hand at this position.
+/// Reports that a resumed rendering was changed by something else at this position.
 pub fn report_change<E: Console>(out: &str, position: u64, err: &mut E) {
     let folder = PrintedName(out);
     err.print_line(format_args!(
@@ -39,7 +39,7 @@ pub fn report_change<E: Console>(out: &str, position: u64, err: &mut E) {
     ));
 }
 
-/// The first byte of a rendered file that isn't this rendering's, outside of the samples.
+/// Returns the position of the first byte outside the samples that isn't this rendering's.
 fn position_in<R>(rt: &R, out: &str, chosen: Chosen<'_>, list: &[u8]) -> Option<u64>
 where
     R: Files + AllocGlobal,
@@ -54,8 +54,8 @@ where
     position_around(rt, out, &head, data_length(&info))
 }
 
-/// The first byte of a rendered file that differs before or after so many bytes of samples: from this head, or from the
-/// zero that pads them. `None` where the file hasn't the length that this makes.
+/// Returns the position of the first byte that differs from this head before the samples, or from the zero pad byte after
+/// them, or `None` if there is none or the file hasn't the length of both.
 fn position_around<R>(rt: &R, out: &str, head: &[u8], samples: u64) -> Option<u64>
 where
     R: Files + AllocGlobal,
@@ -75,7 +75,7 @@ where
     None
 }
 
-/// Whether the marks in this folder are started.
+/// Returns whether the marks in this folder are started.
 fn has_marks<R>(rt: &R, out: &str) -> bool
 where
     R: Files + AllocGlobal,
@@ -87,7 +87,8 @@ where
     }
 }
 
-/// An output that is there, and its length. What is no plain file isn't opened.
+/// Opens an existing output and returns it with its length, or `None` if it isn't a plain file. It is opened for reading and
+/// writing, since opening a pipe for reading waits for a writer.
 fn open_output<R>(rt: &R, out: &str, name: &str) -> Option<(R::File, u64)>
 where
     R: Files + AllocGlobal,
@@ -95,22 +96,30 @@ where
 {
     let folder = listed(out);
     let path = format!(in rt.alloc(); "{folder}/{name}").ok()?;
-    let found = fs::symlink_metadata(rt, path.as_str()).ok()?;
-    if !found.is_file() {
+    if !fs::symlink_metadata(rt, path.as_str()).ok()?.is_file() {
         return None;
     }
-    let file = File::options().read(true).open(rt, path.as_str()).ok()?;
-    Some((file, found.len()))
+    let file = File::options()
+        .read(true)
+        .write(true)
+        .open(rt, path.as_str())
+        .ok()?;
+    let opened = file.metadata().ok()?;
+    if opened.is_file() {
+        Some((file, opened.len()))
+    } else {
+        None
+    }
 }
 
-/// The byte of a file at this position.
+/// Returns the byte of a file at this position.
 fn byte_at<F: OpenFile + FileExt>(file: &F, position: u64) -> Option<u8> {
     let mut bytes = [0; 1];
     file.read_exact_at(&mut bytes, position).ok()?;
     Some(bytes[0])
 }
 
-/// The first position at which a file doesn't begin with these bytes.
+/// Returns the first position at which a file doesn't begin with these bytes.
 fn first_difference<F: OpenFile + FileExt>(alloc: Global, file: &F, wanted: &[u8]) -> Option<u64> {
     let mut bytes = Vec::new(alloc);
     bytes.resize(wanted.len(), 0).ok()?;

@@ -5,13 +5,17 @@ ghost use Rattle.places.specs.Reading.{reason_of_read};
 ghost use Rattle.console.specs.Places.{where_of};
 
 use console::Refusal;
+use shelf::FolderStores;
 use std::alloc::{AllocError, Global};
-use std::fs::Files;
+use std::fs::{Files, OpenFile};
 use std::io::{Error, ErrorKind, Read};
 use std::os::unix::fs::FileTypeExt;
 use std::{fs, io};
 
-/// How often a list is read before it has to have ended.
+/// The path of the file that standard input is.
+pub const STANDARD_INPUT: &str = "/dev/stdin";
+
+/// The number of reads by which a list has to end.
 const MOST_READS: u32 = 1_048_576;
 
 /// How many bytes one read asks for.
@@ -75,13 +79,34 @@ impl From<io::Error> for ReadFault {
     }
 }
 
+/// The text of a list, and the stores of the command, which never write to the file that the text came from.
+#[derive(Drop)]
+pub struct GivenList {
+    pub text: Vec<u8>,
+    pub stores: FolderStores,
+}
+
 /// Reads the file of this path, or standard input for `-`.
 pub fn read_list<R: Files + Input + AllocGlobal>(rt: &R, path: &str) -> Result<Vec<u8>, ReadFault> {
-    if path == "-" {
-        return read_text(rt.alloc(), &mut rt.reader());
-    }
-    require_no_device(rt, path)?;
-    read_text(rt.alloc(), &mut fs::open(rt, path)?)
+    Ok(read_given_list(rt, path)?.text)
+}
+
+/// Reads the file of this path, or standard input for `-`, for a command that writes.
+pub fn read_given_list<R: Files + Input + AllocGlobal>(
+    rt: &R,
+    path: &str,
+) -> Result<GivenList, ReadFault> {
+    let stores = FolderStores::new(rt.alloc())?;
+    let text = if path == "-" {
+        stores.add_list(fs::metadata(rt, STANDARD_INPUT).ok().as_ref())?;
+        read_text(rt.alloc(), &mut rt.reader())?
+    } else {
+        require_no_device(rt, path)?;
+        let mut file = fs::open(rt, path)?;
+        stores.add_list(file.metadata().ok().as_ref())?;
+        read_text(rt.alloc(), &mut file)?
+    };
+    Ok(GivenList { text, stores })
 }
 
 /// Fails where the path leads to a device, which may have no end.

@@ -4,7 +4,7 @@ ghost use Rattle.shelf.specs.Folder.{folder_named};
 
 use console::Console;
 use findings::PrintedName;
-use shelf::{FolderShelf, FoundBelow};
+use shelf::{FolderShelf, FolderStores, FoundBelow, Unlisted};
 use std::alloc::AllocError;
 use std::fs::Files;
 use std::os::unix::fs::FileExt;
@@ -29,7 +29,7 @@ pub const PLAIN: Manner = Manner {
     verifies: false,
 };
 
-/// The sources of this folder.
+/// Opens the sources of this folder.
 pub fn open_media<R>(rt: &R, media: &str, manner: Manner) -> Result<FolderShelf<R>, AllocError>
 where
     R: Files + AllocGlobal + Clone + Drop,
@@ -37,7 +37,24 @@ where
     ensures folder { IfOk result (λ shelf. shelf.folder ≡ folder_named media.now) }
     ensures failures { IfOk result (λ shelf. shelf.failures ≡ 0) }
 {
-    let shelf = FolderShelf::new(rt.alloc(), rt.clone()?, media)?;
+    let stores = FolderStores::new(rt.alloc())?;
+    open_given_media(rt, &stores, media, manner)
+}
+
+/// Opens the sources of this folder, which are added to the files that the stores never write to.
+pub fn open_given_media<R>(
+    rt: &R,
+    stores: &FolderStores,
+    media: &str,
+    manner: Manner,
+) -> Result<FolderShelf<R>, AllocError>
+where
+    R: Files + AllocGlobal + Clone + Drop,
+    R::File: FileExt,
+    ensures folder { IfOk result (λ shelf. shelf.folder ≡ folder_named media.now) }
+    ensures failures { IfOk result (λ shelf. shelf.failures ≡ 0) }
+{
+    let shelf = stores.shelf(rt.clone()?, media)?;
     Ok(if manner.searches {
         shelf.searching()
     } else {
@@ -45,7 +62,8 @@ where
     })
 }
 
-/// Prints which sources were taken from folders below, and which weren't, since two files have the name.
+/// Prints which sources were taken from folders below, and which weren't, since two files have the name or a part of the
+/// tree couldn't be listed; then the parts that couldn't be listed.
 pub fn report_found<R: Files + Drop, E: Console>(
     shelf: &FolderShelf<R>,
     manner: Manner,
@@ -60,27 +78,44 @@ where
     } else {
         found.len().min(FEW)
     };
+    let is_whole = shelf.unlisted_count() == 0;
     for file in &found[..most] {
-        print_found(file, err);
+        print_found(file, is_whole, err);
     }
     if most < found.len() {
         let more = found.len() - most;
         err.print_line(format_args!("and {more} more media from folders below"));
     }
+    print_unlisted(shelf.unlisted(), shelf.unlisted_count(), err);
 }
 
-/// Prints where a file lies.
-fn print_found<E: Console>(found: &FoundBelow, err: &mut E) {
+/// Prints where a file is, and whether it was taken.
+fn print_found<E: Console>(found: &FoundBelow, is_whole: bool, err: &mut E) {
     let path = PrintedName(found.path.as_str());
     let name = PrintedName(last_part(found.path.as_str()));
     match &found.other {
-        None => err.print_line(format_args!("{name} is taken from {path}")),
         Some(other) => {
             let other = PrintedName(other.as_str());
             err.print_line(format_args!(
                 "{name} lies in two folders below, so neither is taken: {path} and {other}"
             ));
         }
+        None if is_whole => err.print_line(format_args!("{name} is taken from {path}")),
+        None => err.print_line(format_args!(
+            "{path} isn't taken: not all folders could be searched for another file of that name"
+        )),
+    }
+}
+
+/// Prints which parts of a tree couldn't be listed, and why.
+fn print_unlisted<E: Console>(unlisted: &[Unlisted], count: usize, err: &mut E) {
+    for part in unlisted {
+        let (path, reason) = (PrintedName(part.path.as_str()), part.reason);
+        err.print_line(format_args!("{path}/ in the media folder can't be searched: {reason}"));
+    }
+    if unlisted.len() < count {
+        let more = count - unlisted.len();
+        err.print_line(format_args!("and {more} more folders that can't be searched"));
     }
 }
 

@@ -2,13 +2,13 @@
 ghost use Rattle.std.specs.Prelude.{◌≡◌, false, None, IfOk, ⊤};
 ghost use Rattle.shelf.specs.Folder.{folder_named};
 
-use crate::media::open_media;
+use crate::media::open_given_media;
 use crate::progress::Progress;
 use crate::session::Session;
 use devices::{Shelf, ShelfFault};
-use shelf::{FolderShelf, Reason, Reasons};
+use shelf::{FolderShelf, FolderStores, Reason, Reasons};
 use std::alloc::{AllocError, Global};
-use std::fs::Files;
+use std::fs::{Files, Metadata};
 use std::marker::Model;
 use std::os::unix::fs::FileExt;
 
@@ -68,18 +68,42 @@ impl<'a, R: Files + AllocGlobal + Clone + Drop, L: Progress> ShownShelf<'a, R, L
 where
     R::File: FileExt,
 {
-    /// The sources of this folder, shown on the line of the session.
+    /// Opens the sources of this folder, shown on the line of the session.
     pub fn open(session: &Session<'a, R, L>, media: &str) -> Result<Self, AllocError>
         ensures folder { IfOk result (λ shelf. shelf.folder ≡ folder_named media.now) }
         ensures failures { IfOk result (λ shelf. shelf.failures ≡ 0) }
     {
+        let stores = FolderStores::new(session.rt.alloc())?;
+        Self::open_given(session, &stores, media)
+    }
+
+    /// Opens the sources of this folder, which are added to the files that the stores never write to.
+    pub fn open_given(
+        session: &Session<'a, R, L>,
+        stores: &FolderStores,
+        media: &str,
+    ) -> Result<Self, AllocError>
+        ensures folder { IfOk result (λ shelf. shelf.folder ≡ folder_named media.now) }
+        ensures failures { IfOk result (λ shelf. shelf.failures ≡ 0) }
+    {
         Ok(ShownShelf {
-            shelf: open_media(session.rt, media, session.manner)?,
+            shelf: open_given_media(session.rt, stores, media, session.manner)?,
             line: session.line,
             alloc: session.rt.alloc(),
             asked: None,
             position: 0,
         })
+    }
+
+    /// Returns the path at which the source of this name is looked for, if the file there is the one with this metadata.
+    pub fn path_of_source(
+        &mut self,
+        name: &str,
+        file: &Metadata,
+    ) -> Result<Option<String>, AllocError>
+        ensures { self.new ≡ self.old }
+    {
+        self.shelf.path_of_source(name, file)
     }
 
     /// The sources, which aren't shown.
@@ -127,6 +151,10 @@ where
     fn changed(&self, alloc: Global) -> Result<Vec<&str>, AllocError> {
         self.line.end_reads();
         self.shelf.changed(alloc)
+    }
+
+    fn unsearched(&self, alloc: Global) -> Option<String> {
+        self.shelf.unsearched(alloc)
     }
 }
 

@@ -1,6 +1,7 @@
 pub mod Crashes
 pub mod Files
 pub mod Folder
+pub mod Given
 pub mod History
 pub mod Memory
 pub mod Zeros

@@ -9,7 +9,9 @@ mod reason;
 mod zeros;
 
 pub use devices::{Bench, DeviceFault, Shelf, ShelfFault, Unwatched, Watch};
-pub use folder::{FolderBench, FolderShelf, FoundBelow, Overwrite};
+pub use folder::{
+    FolderBench, FolderShelf, FolderStores, FoundBelow, FoundOutput, Overwrite, Unlisted,
+};
 pub use memory::{MemoryBench, MemoryShelf};
 pub use reason::{Reason, Reasons};
 pub use zeros::ZeroShelf;

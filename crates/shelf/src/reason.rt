@@ -1,34 +1,40 @@
-// Why a device failed, in the system's own word.
+// The reasons of failures, as the system gave them.
 use crate::{MemoryBench, MemoryShelf, ZeroShelf};
 use std::alloc::{AllocError, Global};
 use std::io;
 
-/// Why a device failed.
+/// The reason why a device failed.
 #[derive(Clone, Copy)]
 pub struct Reason {
-    /// What the system said.
+    /// The system's error.
     pub error: io::Error,
-    /// Whether there was a file by then: false where an output wasn't made.
+    /// Whether the file existed by then: false if an output wasn't created.
     pub has_file: bool,
 }
 
-/// A store that can tell why its device failed, and which of its files were changed by others. It is for what a user is
-/// told: no clause speaks of it.
+/// A store that can say why its device failed, which of its files were changed by others, and where it couldn't look. This
+/// is for messages to the user: no clause mentions it.
 pub trait Reasons {
-    /// What the system said of the last failure; `None` where none came, or nothing was said of it.
+    /// Returns the reason of the last failure, or `None` if there was none or it has no reason.
     fn reason(&self) -> Option<Reason> {
         None
     }
 
-    /// The name of the file at which the last failure came; `None` where none came, or no memory was left for it.
+    /// Returns the name of the file at which the last failure occurred, or `None` if there was none or it is unknown for
+    /// lack of memory.
     fn failed_file(&self) -> Option<&str> {
         None
     }
 
-    /// The names of sources that have another length or time of their last change than when they were first opened, or
-    /// are gone. It looks at each of them.
+    /// Returns the names of the sources that were exchanged, changed or removed since they were first opened. Each of them
+    /// is examined.
     fn changed(&self, alloc: Global) -> Result<Vec<&str>, AllocError> {
         Ok(Vec::new(alloc))
+    }
+
+    /// Returns which folders couldn't be searched for sources, and why, or `None` if there are none.
+    fn unsearched(&self, _alloc: Global) -> Option<String> {
+        None
     }
 }
 

@@ -1,20 +1,25 @@
-// Outputs in a folder.
+// Outputs in a folder of the file system.
 ghost use Rattle.std.specs.Prelude.{◌≡◌, false, None, IfOk, ⊤};
 ghost use Rattle.shelf.specs.Folder.{folder_named, not_honest};
 
 use super::failures::Failures;
+use super::found::FoundOutput;
+use super::given::GivenFiles;
 use super::open_files::{Access, OpenFiles, Overwrite};
+use super::stores::FolderStores;
 use crate::reason::{Reason, Reasons};
 use devices::{Bench, DeviceFault, ShelfFault};
 use std::alloc::{AllocError, Global};
+use std::cell::RefCell;
 use std::fs::Files;
 use std::marker::Model;
 use std::os::unix::fs::FileExt;
+use std::rc::Rc;
 
-/// Outputs in a folder, which has to be there. Only the names of files right inside the folder name a file, and no link
-/// is followed. While a bench is at work nothing else is to write to its files. A file stays open until 28 others were
-/// used since, or a call on it failed; one that is opened again and isn't the file that it was, by device and number, is
-/// a failure.
+/// Outputs in an existing folder. Only the names of files directly in the folder name a file, and no link is followed.
+/// While a bench is at work nothing else may write to its files. At most 28 files stay open. A file that is opened again
+/// and isn't the same file, by device and inode number, is a failure; so is one that was given to the command as its list
+/// or a source, one with a second name, and a sync after the folder's path leads to another folder.
 pub struct FolderBench<R: Files + Drop>
 where
     R::File: FileExt,
@@ -23,7 +28,7 @@ where
     failures: Failures,
 }
 
-// Written out, so that it is one call where a bench is dropped.
+// Written out, so that dropping it is one call.
 impl<R: Files + Drop> Drop for FolderBench<R>
 where
     R::File: FileExt,
@@ -35,7 +40,7 @@ where
     }
 }
 
-/// A clause sees its folder, whether a file in it may be replaced, and how often it has failed.
+/// Clauses see its folder, whether a file in it may be replaced, and the number of failures.
 impl<R: Files + Drop> Model for FolderBench<R>
 where
     R::File: FileExt,
@@ -56,8 +61,10 @@ impl<R: Files + Drop> FolderBench<R>
 where
     R::File: FileExt,
 {
-    /// The files of the folder of this path; the empty path is the current folder. It is no call of the device. Whether
-    /// `create` may replace a file is settled here.
+    /// Makes a bench over the folder of this path; the empty path is the current folder. `overwrite` says whether `create`
+    /// may replace a file. The bench knows of no given files ([`FolderStores`] makes one that does).
+    ///
+    /// [`FolderStores`]: crate::FolderStores
     pub fn new(
         alloc: Global,
         files: R,
@@ -68,13 +75,29 @@ where
         ensures overwrite { IfOk result (λ bench. bench.overwrite ≡ overwrite) }
         ensures failures { IfOk result (λ bench. bench.failures ≡ 0) }
     {
+        FolderStores::new(alloc)?.bench(files, folder, overwrite, FoundOutput::unknown(alloc))
+    }
+
+    /// Makes a bench over this folder, in which this was found, and over this table of given files.
+    pub(super) fn over(
+        alloc: Global,
+        files: R,
+        folder: &str,
+        overwrite: Overwrite,
+        given: Rc<RefCell<GivenFiles>>,
+        found: FoundOutput,
+    ) -> Result<Self, AllocError>
+        ensures folder { IfOk result (λ bench. bench.folder ≡ folder_named folder.entry.now) }
+        ensures overwrite { IfOk result (λ bench. bench.overwrite ≡ overwrite) }
+        ensures failures { IfOk result (λ bench. bench.failures ≡ 0) }
+    {
         Ok(FolderBench {
-            files: OpenFiles::new(alloc, files, folder, Access::Write(overwrite))?,
+            files: OpenFiles::new(alloc, files, folder, Access::Write(overwrite), given, found)?,
             failures: Failures::none(alloc),
         })
     }
 
-    /// How often a call has failed. It stays at its last value.
+    /// Returns the number of failed calls, which stays at its greatest value.
     pub fn failures(&self) -> u64
         ensures { result ≡ self.now.failures }
     {
@@ -103,12 +126,12 @@ where
 {
     ghost stored = { λ _ _. None };
 
-    /// What a file holds, and what a crash leaves of it, is the file system's.
+    /// The contents of a file, and what a crash leaves of it, are up to the file system.
     ghost honest = { λ _. false };
 
     ghost failures = { λ bench. bench.failures };
 
-    /// It keeps no names.
+    /// It records no names.
     ghost failed_at = { λ _ _. ⊤ };
 
     ghost may_leave = { λ _ _. ⊥ };

@@ -1,34 +1,39 @@
 // The open files of a folder.
-ghost use Rattle.std.specs.Prelude.{◌≡◌, ◌++◌, codes, string_bytes, IfOk};
+ghost use Rattle.std.specs.Prelude.{◌≡◌, ◌++◌, codes, string_bytes, false, IfOk};
 ghost use Rattle.filename.specs.FileName.{RefusesName};
 ghost use Rattle.shelf.specs.Folder.{folder_named};
+ghost use Rattle.shelf.specs.Given.{is_given};
 ghost use Rattle.shelf.specs.declared.folder.open_files.TheConstants.{OPEN_FILES};
 
+use super::found::FoundOutput;
+use super::given::{GivenFiles, OwnFile, folder_was_exchanged, was_exchanged};
 use super::handle::Handle;
 use super::identity::Identity;
 use super::state::State;
 use filename::{FileName, require_file_name};
 use lru::LruCache;
 use std::alloc::{AllocError, Global};
+use std::cell::RefCell;
 use std::collections::BTreeMap;
 use std::fs::{File, Files, Metadata, OpenFile, OpenOptions};
 use std::io::{Error, ErrorKind};
 use std::num::NonZeroUsize;
 use std::os::unix::fs::FileExt;
+use std::rc::Rc;
 use std::{fs, io};
 
-/// How many files stay open. So a program with one folder of sources and one of outputs has fewer than 64 handles.
+/// The number of files that stay open. A program with one folder of sources and one of outputs has fewer than 64 handles.
 const OPEN_FILES: usize = 28;
 
-/// The system's numbers for 'too many open files': of the process (EMFILE), and of all together (ENFILE).
+/// The system's numbers for "too many open files": of the process (EMFILE), and of all processes (ENFILE).
 const TOO_MANY_OPEN: [i32; 2] = [24, 23];
 
-/// What a bench does where a file of the name that it creates is there already.
+/// What a bench does if a file that it creates already exists.
 #[derive(Clone, Copy, Debug, PartialEq, Eq)]
 pub enum Overwrite {
-    /// It fails, whatever has the name.
+    /// Fails, whatever has the name.
     Never,
-    /// It empties the file. What is no plain file is a failure.
+    /// Empties the file. Anything but a plain file is a failure.
     Files,
 }
 
@@ -39,9 +44,9 @@ pub enum Access {
     Write(Overwrite),
 }
 
-/// An output that was opened: which file it is; how long, if it was synced and closed since it was last written to; how
-/// many calls wrote to it since its last sync; and why a sync failed behind several, or behind the close of the file.
-/// What the system then lost isn't known, nobody writes all of it again, and the next sync wouldn't tell.
+/// An output that was opened or created: which file it is; its length, if it was synced and closed since the last write to
+/// it; the number of calls that wrote to it since its last sync; and the error of a sync that failed after several writes
+/// or after the file was closed. Bytes may be lost then that nobody writes again, and the next sync wouldn't say so.
 #[derive(Clone, Copy)]
 struct Output {
     identity: Identity,
@@ -50,8 +55,8 @@ struct Output {
     lost: Option<Error>,
 }
 
-/// The files of a folder by name, of which the last used ones are open. What was written is synced before it is closed,
-/// so that no failure of a close is lost. An output that is opened again has to be the file that it was.
+/// The files of a folder by name; the ones used last are open. Outputs are synced before they are closed, so that no
+/// failure is lost. A file that is opened again has to be the same file.
 pub struct OpenFiles<R: Files + Drop>
 where
     R::File: FileExt,
@@ -61,22 +66,26 @@ where
     folder: String,
     access: Access,
     handles: LruCache<String, Handle<R::File>>,
-    /// How each source was when it was first opened.
+    /// The files that the command was given: sources are added, and outputs are compared with it.
+    given: Rc<RefCell<GivenFiles>>,
+    /// What was found in the folder of outputs before the first write.
+    found: FoundOutput,
+    /// The state of each source when it was first opened.
     first_states: BTreeMap<String, State>,
-    /// The path from the folder on of each source that lies further below.
+    /// The path, relative to the folder, of each source that is in a folder below.
     paths_below: BTreeMap<String, String>,
-    /// Each output that was opened or made.
+    /// Each output that was opened or created.
     outputs: BTreeMap<String, Output>,
-    /// The open folder of outputs, for its syncs. It is a handle in reserve too, for the first output.
+    /// The open folder of outputs, for its syncs. Its handle is also a reserve for the first output.
     open_folder: Option<R::File>,
     /// Files were created since the folder was synced.
     has_new_names: bool,
-    /// The file of the last create was made.
+    /// The last call of `create` succeeded in creating its file.
     is_made: bool,
     ghost few_open: { handles.cap ≡ OPEN_FILES },
 }
 
-// Written out, so that it is one call where it is dropped.
+// Written out, so that dropping it is one call.
 impl<R: Files + Drop> Drop for OpenFiles<R>
 where
     R::File: FileExt,
@@ -88,6 +97,8 @@ where
             folder,
             access: _,
             handles,
+            given,
+            found,
             first_states,
             paths_below,
             outputs,
@@ -98,6 +109,8 @@ where
         drop(files);
         drop(folder);
         drop(handles);
+        drop(given);
+        drop(found);
         drop(first_states);
         drop(paths_below);
         drop(outputs);
@@ -109,15 +122,22 @@ impl<R: Files + Drop> OpenFiles<R>
 where
     R::File: FileExt,
 {
-    /// The files of the folder of this path, none of them open. The empty path is the current folder.
-    pub fn new(alloc: Global, files: R, folder: &str, access: Access) -> Result<Self, AllocError>
+    /// Makes the table of a folder's files, none of them open. The empty path is the current folder.
+    pub fn new(
+        alloc: Global,
+        files: R,
+        folder: &str,
+        access: Access,
+        given: Rc<RefCell<GivenFiles>>,
+        found: FoundOutput,
+    ) -> Result<Self, AllocError>
         ensures folder { IfOk result (λ opened. string_bytes opened.folder ≡ folder_named folder.entry.now) }
         ensures access { IfOk result (λ opened. opened.access ≡ access) }
     {
         let folder = if folder.is_empty() { "." } else { folder };
-        let open_folder = match access {
-            Access::Read => None,
-            Access::Write(_) => fs::open(&files, folder).ok(),
+        let (open_folder, found) = match access {
+            Access::Read => (None, found),
+            Access::Write(_) => held_folder(alloc, &files, folder, found)?,
         };
         Ok(OpenFiles {
             alloc,
@@ -125,6 +145,8 @@ where
             folder: String::from_str(alloc, folder)?,
             access,
             handles: LruCache::new(alloc, NonZeroUsize::new(OPEN_FILES).unwrap())?,
+            given,
+            found,
             first_states: BTreeMap::new(alloc),
             paths_below: BTreeMap::new(alloc),
             outputs: BTreeMap::new(alloc),
@@ -134,17 +156,17 @@ where
         })
     }
 
-    /// The file system.
+    /// Returns the file system.
     pub fn files(&self) -> &R {
         &self.files
     }
 
-    /// The folder's path.
+    /// Returns the folder's path.
     pub fn folder(&self) -> &str {
         &self.folder
     }
 
-    /// Has the source of this name opened under a path from the folder on.
+    /// Maps a source name to a path below the folder.
     pub fn put_below(&mut self, name: &str, path: &str) -> Result<(), AllocError>
         ensures folder { self.new.folder ≡ self.old.folder }
     {
@@ -154,19 +176,19 @@ where
         Ok(())
     }
 
-    /// Whether the last create made its file.
+    /// Returns whether the last call of `create` created its file.
     pub fn is_made(&self) -> bool {
         self.is_made
     }
 
-    /// How many bytes the file has, or `None` where no file has the name.
+    /// Returns the length of the file in bytes, or `None` if no file has the name.
     pub fn length(&mut self, name: &str) -> io::Result<Option<u64>>
         ensures no_name { RefusesName name.now result }
     {
         Ok(self.handle(name)?.map(|handle| handle.length()))
     }
 
-    /// Fills the buffer with the file's bytes from `at` on.
+    /// Fills the buffer with the file's bytes from `at`.
     pub fn read_at(&mut self, name: &str, at: u64, buffer: &mut [u8]) -> io::Result<()>
         ensures no_name { RefusesName name.now result }
     {
@@ -174,7 +196,7 @@ where
         self.closed_if_failed(name, outcome)
     }
 
-    /// Writes the bytes over those of the file from `at` on.
+    /// Overwrites the file's bytes from `at`.
     pub fn write_at(&mut self, name: &str, at: u64, bytes: &[u8]) -> io::Result<()>
         ensures no_name { RefusesName name.now result }
     {
@@ -183,7 +205,7 @@ where
         self.closed_if_failed(name, outcome)
     }
 
-    /// Adds the bytes at the end of the file.
+    /// Appends the bytes to the file.
     pub fn append(&mut self, name: &str, bytes: &[u8]) -> io::Result<()>
         ensures no_name { RefusesName name.now result }
     {
@@ -192,7 +214,7 @@ where
         self.closed_if_failed(name, outcome)
     }
 
-    /// Adds so many zeros at the end of an output, which has to be there.
+    /// Appends `count` zeros to an existing output.
     pub fn append_zeros(&mut self, name: &str, count: u64) -> io::Result<()>
         ensures no_name { RefusesName name.now result }
     {
@@ -201,7 +223,7 @@ where
         self.closed_if_failed(name, outcome)
     }
 
-    /// Notes that an output is written to, so what was synced of it is not all of it any more.
+    /// Records that an output is written to, so that an earlier sync no longer covers all of it.
     fn begin_writing(&mut self, name: &str) {
         if let Some(output) = self.outputs.get_mut(name) {
             output.synced = None;
@@ -209,7 +231,7 @@ where
         }
     }
 
-    /// Notes whether an output's bytes came to stand on the disk, where so many calls may be made again if not.
+    /// Records the outcome of an output's sync. If it failed after more than `again` writes, its bytes count as lost.
     fn note_sync(&mut self, name: &str, outcome: io::Result<()>, again: u32) {
         if let Some(output) = self.outputs.get_mut(name) {
             match outcome {
@@ -220,14 +242,14 @@ where
         }
     }
 
-    /// Why bytes of an output were lost that nobody writes again, if they were.
+    /// Returns the error by which bytes of an output were lost that nobody writes again, if any.
     fn lost(&self, name: &str) -> Option<Error> {
         self.outputs.get(name)?.lost
     }
 
-    /// Waits until the file is on the disk, and its name too if it is new. It stays open. It fails where the name isn't
-    /// that of this file with this length any more; and once it failed behind more than one call that wrote, it fails
-    /// until the file is made anew.
+    /// Waits until the file is on the disk, and its name too if it is new. The file stays open. Returns an error if the
+    /// folder's path leads to another folder now, if the name is no longer that of this file with this length, and, once
+    /// it has failed after more than one write, until the file is created again.
     pub fn sync(&mut self, name: &str) -> io::Result<()>
         ensures no_name { RefusesName name.now result }
     {
@@ -235,6 +257,7 @@ where
         if let Some(error) = self.lost(name) {
             return Err(error);
         }
+        self.require_same_folder()?;
         let synced = match self.synced_length(name) {
             Some(length) => Ok(length),
             None => self.sync_bytes(name),
@@ -242,14 +265,27 @@ where
         self.hold_folder();
         let length = synced?;
         if self.has_new_names {
-            // A crash can take away a file that was synced, while its folder wasn't.
+            // A crash can take away a file that was synced if its folder wasn't.
             self.sync_folder()?;
             self.has_new_names = false;
         }
         self.require_whole(name, length)
     }
 
-    /// Waits until the file's bytes are on the disk. Tells how many they are.
+    /// Returns an error if the folder's path leads to another folder than the one that is held.
+    fn require_same_folder(&self) -> io::Result<()> {
+        let Some(held) = self.found.folder() else {
+            return Ok(());
+        };
+        let found = fs::metadata(&self.files, &self.folder)?;
+        if Identity::of(&found) == held {
+            Ok(())
+        } else {
+            Err(folder_was_exchanged())
+        }
+    }
+
+    /// Waits until the file's bytes are on the disk, and returns how many they are.
     fn sync_bytes(&mut self, name: &str) -> io::Result<u64> {
         let handle = self.handle_there(name)?;
         let length = handle.length();
@@ -259,7 +295,7 @@ where
         Ok(length)
     }
 
-    /// Fails where the name isn't that of the file that was written, with this length.
+    /// Returns an error if the name isn't that of the file that was written, with this length.
     fn require_whole(&self, name: &str, length: u64) -> io::Result<()> {
         let named = require_file_name(name)?;
         let found = fs::symlink_metadata(&self.files, &self.path_of(named)?)?;
@@ -270,14 +306,14 @@ where
         if is_same && found.is_file() && found.len() == length {
             Ok(())
         } else {
-            Err(changed_meanwhile())
+            Err(was_exchanged())
         }
     }
 
-    /// Opens the folder where it was closed, so that the next output has a handle in reserve again.
+    /// Opens the folder again if it was closed, so that the next output has a handle in reserve.
     fn hold_folder(&mut self) {
         if self.open_folder.is_none() {
-            self.open_folder = fs::open(&self.files, &self.folder).ok();
+            self.open_folder = open_folder(self.alloc, &self.files, &self.folder);
         }
     }
 
@@ -286,14 +322,14 @@ where
         if let Some(folder) = &self.open_folder {
             return folder.sync_all();
         }
-        let path = String::from_str(self.alloc, &self.folder)?;
+        let path = folder_path(self.alloc, &self.folder)?;
         let folder = self.open(File::options().read(true), &path)?;
         let outcome = folder.sync_all();
         self.open_folder = Some(folder);
         outcome
     }
 
-    /// Makes an empty file of the name. Where the name is there already it fails, or empties the file.
+    /// Creates an empty file of the name. If the name exists, fails or empties the file.
     pub fn create(&mut self, name: &str) -> io::Result<()>
         ensures no_name { RefusesName name.now result }
     {
@@ -303,19 +339,19 @@ where
         self.has_new_names = true;
         self.is_made = false;
         let path = self.path_of(named)?;
-        let file = match self.replaced(&path)? {
+        let own = match self.replaced(&path)? {
             Some(found) => self.open_emptied(name, &path, &found)?,
-            None => self.open(
+            None => self.open_own(
                 File::options().read(true).write(true).create_new(true),
                 &path,
             )?,
         };
         self.is_made = true;
-        self.note_output(name, Identity::of(&file.metadata()?))?;
-        self.keep(name, Handle::new(file, 0))
+        self.note_output(name, own.identity)?;
+        self.keep(name, Handle::new(own.file, 0))
     }
 
-    /// What lies under the path of an output that is made, where that may be replaced.
+    /// Returns what is at the path of an output that is created, if that may be replaced.
     fn replaced(&self, path: &str) -> io::Result<Option<Metadata>> {
         if self.access != Access::Write(Overwrite::Files) {
             return Ok(None);
@@ -323,39 +359,99 @@ where
         found_or_none(fs::symlink_metadata(&self.files, path))
     }
 
-    /// Opens the file of the path, which was found so, and empties it. It is looked at before it is emptied, since a link
-    /// may have come into its stead.
-    fn open_emptied(&mut self, name: &str, path: &str, found: &Metadata) -> io::Result<R::File> {
-        let file = self.open_found(name, path, found)?;
-        file.set_len(0)?;
-        Ok(file)
+    /// Opens an existing output and empties it once its open handle was checked.
+    fn open_emptied(
+        &mut self,
+        name: &str,
+        path: &str,
+        found: &Metadata,
+    ) -> io::Result<OwnFile<R::File>> {
+        let own = self.open_output(name, path, found)?;
+        own.file.set_len(0)?;
+        Ok(own)
     }
 
-    /// Opens the path, under which this was found: a plain file, which the opened one has to be too. An output that was
-    /// opened before has to be the one that it was.
-    fn open_found(&mut self, name: &str, path: &str, found: &Metadata) -> io::Result<R::File> {
+    /// Opens an existing output, at whose path this was found, for reading and writing. Opening a pipe that way doesn't
+    /// wait. Returns an error unless the open file is a plain file, the one that was found there each time, and the
+    /// command's own.
+    fn open_output(
+        &mut self,
+        name: &str,
+        path: &str,
+        found: &Metadata,
+    ) -> io::Result<OwnFile<R::File>> {
+        if !found.is_file() {
+            return Err(Error::from(ErrorKind::InvalidInput));
+        }
+        let identity = Identity::of(found);
+        if !self.may_open(name, identity)? {
+            return Err(was_exchanged());
+        }
+        let own = self.open_own(File::options().read(true).write(true), path)?;
+        if own.identity == identity {
+            Ok(own)
+        } else {
+            Err(was_exchanged())
+        }
+    }
+
+    /// Returns whether an existing file may be opened as the output of this name: it is the one that was opened or created
+    /// before, or the one that was found there before the first write.
+    fn may_open(&self, name: &str, file: Identity) -> io::Result<bool> {
+        if let Some(output) = self.outputs.get(name) {
+            return Ok(output.identity == file);
+        }
+        let given = self.given.try_borrow().map_err(|_| was_exchanged())?;
+        Ok(self.found.allows(name, file) && !given.has_unknown())
+    }
+
+    /// Opens the path for writing and takes the file as the command's own.
+    fn open_own(&mut self, how: &OpenOptions, path: &str) -> io::Result<OwnFile<R::File>> {
+        let table = Rc::clone(&self.given)?;
+        let given = table.try_borrow().map_err(|_| was_exchanged())?;
+        self.open_for_writing(how, path, &given)
+    }
+
+    /// Opens the path for writing. Returns an error if the open file is one of those that were given to the command, has
+    /// another name, or is no plain file.
+    fn open_for_writing(
+        &mut self,
+        how: &OpenOptions,
+        path: &str,
+        given: &GivenFiles,
+    ) -> io::Result<OwnFile<R::File>>
+        ensures not_given { IfOk result (λ own. is_given given.now own.identity ≡ false) }
+        ensures one_name { IfOk result (λ own. own.links ≡ 1) }
+    {
+        let file = self.open(how, path)?;
+        given.own(file)
+    }
+
+    /// Opens a source, at whose path this was found: a plain file, which the open file has to be too. A source that was
+    /// opened before has to be the same file. It becomes one of the given files.
+    fn open_source(&mut self, name: &str, path: &str, found: &Metadata) -> io::Result<R::File> {
         if !found.is_file() {
             return Err(Error::from(ErrorKind::InvalidInput));
         }
         let identity = Identity::of(found);
         if self
-            .outputs
+            .first_states
             .get(name)
-            .is_some_and(|output| output.identity != identity)
+            .is_some_and(|first| first.identity != identity)
         {
-            return Err(changed_meanwhile());
+            return Err(was_exchanged());
         }
-        let may_write = self.access != Access::Read;
-        let file = self.open(File::options().read(true).write(may_write), path)?;
+        let file = self.open(File::options().read(true), path)?;
         let opened = file.metadata()?;
-        if opened.is_file() && Identity::of(&opened) == identity {
-            Ok(file)
-        } else {
-            Err(changed_meanwhile())
+        if !opened.is_file() || Identity::of(&opened) != identity {
+            return Err(was_exchanged());
         }
+        let mut given = self.given.try_borrow_mut().map_err(|_| was_exchanged())?;
+        given.add(identity)?;
+        Ok(file)
     }
 
-    /// Notes which file an output is.
+    /// Records which file an output is.
     fn note_output(&mut self, name: &str, identity: Identity) -> Result<(), AllocError> {
         let output = Output {
             identity,
@@ -372,7 +468,7 @@ where
         Ok(())
     }
 
-    /// Opens the path. Where the system has no more handles, open files are closed for it, the oldest first.
+    /// Opens the path. If the system has no more handles, open files are closed for it, the least recently used first.
     fn open(&mut self, how: &OpenOptions, path: &str) -> io::Result<R::File> {
         let mut outcome = how.open(&self.files, path);
         for _ in 0..OPEN_FILES + 1 {
@@ -384,7 +480,7 @@ where
         outcome
     }
 
-    /// Closes the file that wasn't used for the longest time, or else the folder. It is false where none is open.
+    /// Closes the least recently used file, or else the folder. Returns `false` if none is open.
     fn close_one(&mut self) -> io::Result<bool> {
         match self.handles.pop_lru() {
             Some((name, handle)) if self.access != Access::Read => {
@@ -410,19 +506,19 @@ where
         Ok(())
     }
 
-    /// How long an output is that was synced and closed since it was last written to.
+    /// Returns the length of an output that was synced and closed since the last write to it.
     fn synced_length(&self, name: &str) -> Option<u64> {
         self.outputs.get(name)?.synced
     }
 
-    /// The open file of the name. It fails where no file has the name.
+    /// Returns the open file of the name, or an error if no file has the name.
     fn handle_there<'a>(&'a mut self, name: &str) -> io::Result<&'a mut Handle<R::File>>
         ensures no_name { RefusesName name.now result }
     {
         self.handle(name)?.ok_or(Error::from(ErrorKind::NotFound))
     }
 
-    /// The open file of the name, opened where it wasn't, or `None` where no file has the name.
+    /// Returns the open file of the name, which is opened if it wasn't, or `None` if no file has the name.
     fn handle<'a>(&'a mut self, name: &str) -> io::Result<Option<&'a mut Handle<R::File>>>
         ensures no_name { RefusesName name.now result }
     {
@@ -436,29 +532,43 @@ where
         Ok(self.handles.get_mut(name))
     }
 
-    /// Opens the file of the name, or gives `None` where no file has it. Its kind is asked for before it is opened,
-    /// since opening a pipe may wait for ever. A link to a source is followed, one to an output isn't.
+    /// Opens the file of the name, or returns `None` if no file has it. A link to a source is followed, one to an output
+    /// isn't.
     fn existing(&mut self, named: FileName<'_>) -> io::Result<Option<Handle<R::File>>> {
+        if self.access == Access::Read {
+            self.existing_source(named)
+        } else {
+            self.existing_output(named)
+        }
+    }
+
+    /// Opens the source of the name. Its kind is examined before it is opened, since opening a pipe may wait forever.
+    fn existing_source(&mut self, named: FileName<'_>) -> io::Result<Option<Handle<R::File>>> {
         let name = named.text;
         let path = self.source_path(named)?;
-        let found = if self.access == Access::Read {
-            fs::metadata(&self.files, &path)
-        } else {
-            fs::symlink_metadata(&self.files, &path)
-        };
-        let Some(found) = found_or_none(found)? else {
+        let Some(found) = found_or_none(fs::metadata(&self.files, &path))? else {
             return Ok(None);
         };
-        let file = self.open_found(name, &path, &found)?;
-        if self.access == Access::Read {
-            self.note_state(name, &found)?;
-        } else if !self.outputs.contains_key(name) {
-            self.note_output(name, Identity::of(&found))?;
-        }
+        let file = self.open_source(name, &path, &found)?;
+        self.note_state(name, &found)?;
         Ok(Some(Handle::new(file, found.len())))
     }
 
-    /// Notes how a source is, where it wasn't opened before.
+    /// Opens the output of the name.
+    fn existing_output(&mut self, named: FileName<'_>) -> io::Result<Option<Handle<R::File>>> {
+        let name = named.text;
+        let path = self.path_of(named)?;
+        let Some(found) = found_or_none(fs::symlink_metadata(&self.files, &path))? else {
+            return Ok(None);
+        };
+        let own = self.open_output(name, &path, &found)?;
+        if !self.outputs.contains_key(name) {
+            self.note_output(name, own.identity)?;
+        }
+        Ok(Some(Handle::new(own.file, own.length)))
+    }
+
+    /// Records the state of a source, unless it was opened before.
     fn note_state(&mut self, name: &str, found: &Metadata) -> Result<(), AllocError> {
         if !self.first_states.contains_key(name) {
             let name = String::from_str(self.alloc, name)?;
@@ -467,7 +577,7 @@ where
         Ok(())
     }
 
-    /// The names of the sources that aren't as they were when they were first opened, or are gone; in their order.
+    /// Returns the names of the sources that changed since they were first opened, or are gone, in the order of names.
     pub fn changed(&self) -> Result<Vec<&str>, AllocError> {
         let mut changed = Vec::new(self.alloc);
         for (name, first) in &self.first_states {
@@ -478,14 +588,14 @@ where
         Ok(changed)
     }
 
-    /// How the file of this name is now; `None` where that can't be told.
+    /// Returns the present state of the file of this name, or `None` if it can't be read.
     fn state_now(&self, name: &str) -> Option<State> {
         let named = require_file_name(name).ok()?;
         let found = fs::metadata(&self.files, &self.source_path(named).ok()?).ok()?;
         Some(State::of(&found))
     }
 
-    /// The path of the file of this name: of a source that lies further below, the path that it was found under.
+    /// Returns the path of the source of this name: for one in a folder below, the path where it was found.
     fn source_path(&self, name: FileName<'_>) -> Result<String, AllocError> {
         let folder = self.folder.as_str();
         match self.paths_below.get(name.text) {
@@ -494,7 +604,7 @@ where
         }
     }
 
-    /// The path of the file of this name. It lies right inside the folder.
+    /// Returns the path of the file of this name directly in the folder.
     fn path_of(&self, name: FileName<'_>) -> Result<String, AllocError>
         ensures { IfOk result (λ path. string_bytes path ≡ string_bytes self.now.folder
             ++ (codes "/" ++ name.entry.text.now)) }
@@ -502,7 +612,7 @@ where
         name.path_in(self.alloc, self.folder.as_str())
     }
 
-    /// Keeps the file open, in place of the one that wasn't used for the longest time.
+    /// Keeps the file open, in place of the least recently used one.
     fn keep(&mut self, name: &str, handle: Handle<R::File>) -> io::Result<()> {
         let name = String::from_str(self.alloc, name)?;
         if self.handles.len() >= OPEN_FILES {
@@ -512,7 +622,7 @@ where
         Ok(())
     }
 
-    /// The outcome. Where it is a failure the file is closed, since how long it is now is not known.
+    /// Returns the outcome. If it is a failure, closes the file, since its length isn't known any more.
     fn closed_if_failed(&mut self, name: &str, outcome: io::Result<()>) -> io::Result<()>
         ensures { result ≡ outcome }
     {
@@ -523,7 +633,33 @@ where
     }
 }
 
-/// What was found, or `None` where there is no such file.
+/// Opens the folder of outputs, if the system lets it be opened, and records which folder it is unless that is known.
+fn held_folder<R: Files>(
+    alloc: Global,
+    files: &R,
+    folder: &str,
+    mut found: FoundOutput,
+) -> Result<(Option<R::File>, FoundOutput), AllocError> {
+    let opened = open_folder(alloc, files, folder);
+    if found.folder().is_none() {
+        if let Some(metadata) = opened.as_ref().and_then(|folder| folder.metadata().ok()) {
+            found.set_folder(&metadata);
+        }
+    }
+    Ok((opened, found))
+}
+
+/// Opens a folder. Anything else isn't opened, since opening a pipe may wait forever.
+fn open_folder<R: Files>(alloc: Global, files: &R, folder: &str) -> Option<R::File> {
+    fs::open(files, folder_path(alloc, folder).ok()?.as_str()).ok()
+}
+
+/// Returns a path that leads to a folder or nowhere.
+fn folder_path(alloc: Global, folder: &str) -> Result<String, AllocError> {
+    format!(in alloc; "{folder}/")
+}
+
+/// Returns what was found, or `None` if there is no such file.
 fn found_or_none(found: io::Result<Metadata>) -> io::Result<Option<Metadata>> {
     match found {
         Ok(found) => Ok(Some(found)),
@@ -532,13 +668,8 @@ fn found_or_none(found: io::Result<Metadata>) -> io::Result<Option<Metadata>> {
     }
 }
 
-/// The failure at a file that isn't the one that it was.
-fn changed_meanwhile() -> Error {
-    Error::from(ErrorKind::InvalidData)
-}
-
-/// Whether an error of this kind says that there is no such file. A folder that isn't there, or is none, has no files,
-/// and nor is there one whose name is too long.
+/// Returns whether an error of this kind says that there is no such file. A folder that doesn't exist, or isn't one, has no
+/// files, nor has any folder one whose name is too long.
 fn is_missing(kind: ErrorKind) -> bool {
     matches!(
         kind,
@@ -546,7 +677,7 @@ fn is_missing(kind: ErrorKind) -> bool {
     )
 }
 
-/// Whether the system says that too many files are open.
+/// Returns whether the system says that too many files are open.
 fn has_too_many_open<T>(outcome: &io::Result<T>) -> bool {
     match outcome {
         Ok(_) => false,

@@ -1,7 +1,10 @@
 // Sources and outputs in a folder of the file system. Each test has its own folder in the working
 // directory.
 use crate::tests::calls::{Call, Row, made, reads};
-use shelf::{Bench, FolderBench, FolderShelf, Overwrite, Reasons, Shelf, ShelfFault};
+use shelf::{
+    Bench, FolderBench, FolderShelf, FolderStores, FoundOutput, Overwrite, Reasons, Shelf,
+    ShelfFault,
+};
 use std::fs;
 use std::io::ErrorKind;
 use std::os::unix::fs::symlink;
@@ -173,6 +176,76 @@ fn no_file_is_replaced_and_no_link_followed(rt: HostRuntime) -> Result<(), Fail>
     assert!(rt; stays(&rt, Overwrite::Never, &REPLACED, ErrorKind::AlreadyExists)?);
     assert!(rt; stays(&rt, Overwrite::Files, &FOLLOWED, ErrorKind::InvalidInput)?);
     fs::remove_dir_all(&rt, "folder_links")?;
+    Ok(())
+}
+
+/// Returns whether a bench over what was found in a folder can't empty or append to `A.wav` there, which stays as it is.
+fn keeps(rt: &HostRuntime, stores: &FolderStores, found: FoundOutput) -> Result<bool, Fail> {
+    let mut bench = stores.bench(rt, "folder_given", Overwrite::Files, found)?;
+    let calls = [Call::Create("A.wav"), Call::Append("A.wav", &[1])];
+    let is_refused = (made(&mut bench, &calls) == 0) & has_reason(&bench, ErrorKind::InvalidData);
+    Ok(is_refused & (fs::read(rt, "folder_given/A.wav")?.as_slice() == b"abcdef".as_slice()))
+}
+
+#[test]
+fn no_given_file_is_written_to(rt: HostRuntime) -> Result<(), Fail> {
+    filled_folder(&rt, "folder_given")?;
+    let alloc = rt.alloc();
+    let stores = FolderStores::new(alloc)?;
+    let mut shelf = stores.shelf(&rt, "folder_given")?;
+    assert_eq!(rt; shelf.length("link.wav"), Ok(6));
+    assert!(rt;
+        keeps(&rt, &stores, FoundOutput::unknown(alloc))?,
+        "a source, opened by its link"
+    );
+    let stores = FolderStores::new(alloc)?;
+    stores.add_list(Some(&fs::metadata(&rt, "folder_given/A.wav")?))?;
+    assert!(rt;
+        keeps(&rt, &stores, FoundOutput::unknown(alloc))?,
+        "the list"
+    );
+    let stores = FolderStores::new(alloc)?;
+    stores.add_list(None)?;
+    assert!(rt;
+        keeps(&rt, &stores, FoundOutput::unknown(alloc))?,
+        "a list that can't be identified"
+    );
+    let stores = FolderStores::new(alloc)?;
+    assert!(rt;
+        keeps(&rt, &stores, FoundOutput::empty(alloc))?,
+        "a folder that was empty"
+    );
+    let mut found = FoundOutput::empty(alloc);
+    found.add("A.wav", &fs::metadata(&rt, "folder_given/in")?)?;
+    assert!(rt;
+        keeps(&rt, &stores, found)?,
+        "another file than the one that was found"
+    );
+    fs::hard_link(&rt, "folder_given/A.wav", "folder_given/B.wav")?;
+    assert!(rt;
+        keeps(&rt, &stores, FoundOutput::unknown(alloc))?,
+        "a file with two names"
+    );
+    fs::remove_file(&rt, "folder_given/B.wav")?;
+    let mut found = FoundOutput::empty(alloc);
+    found.add("A.wav", &fs::metadata(&rt, "folder_given/A.wav")?)?;
+    assert!(rt; !keeps(&rt, &stores, found)?, "the file that was found");
+    fs::remove_dir_all(&rt, "folder_given")?;
+    Ok(())
+}
+
+#[test]
+fn an_exchanged_output_folder_is_not_synced(rt: HostRuntime) -> Result<(), Fail> {
+    fresh_folder(&rt, "folder_held")?;
+    let _ = fs::remove_dir_all(&rt, "folder_away");
+    let mut bench = FolderBench::new(rt.alloc(), &rt, "folder_held", Overwrite::Never)?;
+    fs::rename(&rt, "folder_held", "folder_away")?;
+    fresh_folder(&rt, "folder_held")?;
+    let calls = [Call::Create("A.wav"), Call::Sync("A.wav")];
+    assert_eq!(rt; made(&mut bench, &calls), 1);
+    assert!(rt; has_reason(&bench, ErrorKind::InvalidData));
+    fs::remove_dir_all(&rt, "folder_held")?;
+    fs::remove_dir_all(&rt, "folder_away")?;
     Ok(())
 }
 
