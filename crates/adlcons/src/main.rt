@@ -1,5 +1,14 @@
-//! `adlcons`: checks, consolidates, renders and compares audio decision lists over folders of sound files. With no words it
-//! renders a stored example over memory and prints what came of it.
+//! `adlcons` checks, consolidates, renders and compares audio decision lists over folders of sound files. Without arguments
+//! it renders a stored example in memory and prints the samples.
+//!
+//! Proved: unless the status is 2, `answer_words` made the call that the arguments ask for, over some list, the named folder
+//! of sources and the named output folder, in which only `resume` may replace files; or the list or a folder prevented that,
+//! and this was printed (`checked`, `reported`, `rendered`, `resumed`, `consolidated`, `compared`, `verified`). A read-only
+//! command is prevented only by its list or lack of memory (18, 21). A consolidation uses the standard groups. Arguments
+//! that ask for nothing exit with 2, except help and the version (`refused_words`, `help`). With 2 nothing was printed on
+//! standard output (`two`), and the arguments ask for nothing, for what cannot be done over some list, or could not be read
+//! for lack of memory (`mistake`). What was written to a folder then is specified by `answer_standard` only. `main` and the
+//! texts of help, explanations and mistakes are not specified.
 #![tactic(auto)]
 
 mod example;

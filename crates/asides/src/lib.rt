@@ -1,5 +1,9 @@
-//! What is told beside an answer: what a second look at the media finds of a refused list, its further faults, what a report
-//! says of each fault, what notices mean, and how many bytes the outputs of a list take. Of these texts no clause speaks.
+//! What is printed besides an answer: what a second look at the sources finds for a refused list, further faults, meanings
+//! of notices, and how many bytes the outputs of a list take. No contract specifies these texts. A `Terminal` holds standard
+//! output, standard error, the progress line and these.
+//!
+//! Proved: the place of a project's fault is that of its definition (`project_place`), and the search for further faults
+//! only reads the sources (`tell_further`).
 #![tactic(auto)]
 
 mod beside;

@@ -1,4 +1,6 @@
-//! What is told beside the line of a refusal: what its fault means and what to do, texts of which no clause speaks.
+//! Explains a refusal on standard error: what its fault means and what to do. No contract specifies these texts.
+//!
+//! Proved: each call returns.
 #![tactic(auto)]
 
 mod explanation;

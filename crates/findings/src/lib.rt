@@ -1,5 +1,8 @@
-//! What numbers mean, what to do about them, and what is found of a list that is refused and of its media: texts of which no
-//! clause speaks.
+//! What numbers mean, what to do about them, and what is found in a refused list and its sources. No contract specifies
+//! these texts.
+//!
+//! Proved: the meaning found for a number is that of this number, and the part shown of a faulty line is inside that line
+//! (`inside`).
 #![tactic(auto)]
 
 mod column;

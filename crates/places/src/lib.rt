@@ -1,5 +1,12 @@
-//! What a command finds at the places that its words name, and tells of them: the list, the folder of its media and that of
-//! its output; and the line on a terminal that shows how far it has come.
+//! Opens the places named on the command line: the list, the folder of its sources and the output folder, which it locks;
+//! and reports problems with them. It also draws the progress line.
+//!
+//! Proved: `read_to_end` returns exactly the bytes that a reader has left, if these are known and it does not fail. The
+//! refusals of `ReadFault` and `OpenFault` have the number and place of their definitions (`number`, `location`).
+//! `open_media` and `ShownShelf::open` are over the named folder and have not failed yet (`folder`, `failures`), and an
+//! opened list is over the named folder (`open_list`, `open_inside`). `open_stores` opens the two named folders, lets files be
+//! replaced only if that was requested, and prints nothing if it succeeds (`media`, `output`, `careful`, `quiet`).
+//! Which folders are searched, and what is printed about it, is not specified.
 #![tactic(auto)]
 
 mod fault;

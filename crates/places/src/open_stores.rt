@@ -38,9 +38,9 @@ pub fn open_stores<'a, R, E: Console, L: Progress>(
 where
     R: Files + AllocGlobal + Clone + Drop,
     R::File: FileExt + Lock,
-    ensures media { IfOk result (λ open. open.shelf.folder ≡ folder_named places.entry.media.now) }
-    ensures output { IfOk result (λ open. open.bench.folder ≡ folder_named places.entry.out.now) }
-    ensures careful { IfOk result (λ open. open.bench.overwrite ≡ replaced.entry.overwrite) }
+    ensures media { IfOk result (λ stores. stores.shelf.folder ≡ folder_named places.entry.media.now) }
+    ensures output { IfOk result (λ stores. stores.bench.folder ≡ folder_named places.entry.out.now) }
+    ensures careful { IfOk result (λ stores. stores.bench.overwrite ≡ replaced.entry.overwrite) }
     ensures quiet { OnOk result (err.new ≡ err.old) }
 {
     let (rt, stores) = (session.rt, &given.stores);
