@@ -48,7 +48,7 @@ fn source(alloc: Global) -> Result<MemoryShelf, Fail> {
     Ok(MemoryShelf::new(alloc).with_file("A.wav", &file)?)
 }
 
-/// What the list is bound to.
+/// Returns the binding of the list.
 fn bound_list(alloc: Global) -> Result<Bound, Fail> {
     let text = list(alloc, ENTRY)?;
     let project = read(alloc, text.as_bytes())?;
@@ -56,7 +56,7 @@ fn bound_list(alloc: Global) -> Result<Bound, Fail> {
     Ok(bind(alloc, &project, &mut shelf)?)
 }
 
-/// The medium of the second run before any piece is copied.
+/// Returns the medium of the second run before any piece is copied.
 fn laid_out(rt: &impl Abort, alloc: Global) -> Result<MemoryBench, Fail> {
     let bext = Bext {
         text: [0; 338],
@@ -69,7 +69,7 @@ fn laid_out(rt: &impl Abort, alloc: Global) -> Result<MemoryBench, Fail> {
     Ok(bench)
 }
 
-/// The same, on a bench whose next call fails after so many bytes, if it does.
+/// Returns the medium, in an output whose next call fails after the given number of bytes, if any.
 fn failing_after(rt: &impl Abort, alloc: Global, part: Option<u64>) -> Result<MemoryBench, Fail> {
     let bench = laid_out(rt, alloc)?;
     match part {
@@ -92,7 +92,7 @@ fn copied(
     Ok(copy_piece(shelf, bench, bound, &RUNS, MIDDLE, &mut bytes))
 }
 
-/// Whether the medium has these samples, and its header is as before.
+/// Returns whether the medium has these samples and an unchanged header.
 fn has_samples(bench: &MemoryBench, before: &MemoryBench, samples: &[u8; 10]) -> bool {
     let Some(medium) = bench.bytes("M00002.wav") else {
         return false;

@@ -88,7 +88,7 @@ c375e3651a9458f0dc99102df3b6a7d54a9b733b3ace72081d2010a3b508a958  M00001.wav
 ad7cd4dc63045e1eb48187baa070b7a40c575e1ff72f03bdd5f6c13f4277c95c  consolidated.json
 ";
 
-/// All files that these works write.
+/// All files that these runs may write.
 const OUTPUTS: [&str; 8] = [
     SOUND,
     MARKS,
@@ -100,7 +100,7 @@ const OUTPUTS: [&str; 8] = [
     "consolidated.adl",
 ];
 
-/// What is rendered of 200 blocks: the first channel sounds.
+/// Returns the expected rendering of 200 blocks; only the first channel is audible.
 fn many_rendered(alloc: Global) -> Result<Vec<u8>, Fail> {
     let mut file = head_at(alloc, 2, Depth::TwentyFour, MANY_FRAMES, 0)?;
     for place in 0..MANY_FRAMES {
@@ -110,21 +110,20 @@ fn many_rendered(alloc: Global) -> Result<Vec<u8>, Fail> {
     Ok(file)
 }
 
-/// The medium of four sounding frames from this one on.
+/// Returns a medium of four audible sample frames that starts at time `first`, in samples.
 fn medium(alloc: Global, first: u64) -> Result<Vec<u8>, Fail> {
     let mut file = head_at(alloc, 2, Depth::Sixteen, 4, first)?;
     file.extend_from_slice(&LOUD)?;
     Ok(file)
 }
 
-/// One file.
 fn one_file(alloc: Global, name: &'static str, bytes: Vec<u8>) -> Result<Files, AllocError> {
     let mut files = Vec::new(alloc);
     files.push((name, bytes))?;
     Ok(files)
 }
 
-/// What is rendered of three blocks.
+/// Returns the expected rendering of three blocks.
 fn rendered(alloc: Global) -> Result<Files, Fail> {
     Ok(one_file(alloc, SOUND, sound(alloc, FRAMES)?)?)
 }
@@ -136,7 +135,7 @@ fn push_file(files: &mut Files, name: &'static str, bytes: &[u8]) -> Result<(), 
     Ok(())
 }
 
-/// What is left of the entry with a silent middle, with a report or without one.
+/// Returns the expected output for the entry with a silent middle, with or without a report.
 fn consolidated(alloc: Global, is_reported: bool) -> Result<Files, Fail> {
     let mut files = one_file(alloc, "M00001.wav", medium(alloc, 0)?)?;
     push_file(&mut files, "M00002.wav", medium(alloc, 8)?.as_slice())?;
@@ -148,7 +147,7 @@ fn consolidated(alloc: Global, is_reported: bool) -> Result<Files, Fail> {
     Ok(files)
 }
 
-/// The four standard passes.
+/// Returns the four standard passes.
 fn standard(alloc: Global) -> Result<Vec<Box<dyn Pass>>, AllocError> {
     let mut passes: Vec<Box<dyn Pass>> = Vec::new(alloc);
     passes.push(Box::new(alloc, SplitFades)?)?;
@@ -158,7 +157,7 @@ fn standard(alloc: Global) -> Result<Vec<Box<dyn Pass>>, AllocError> {
     Ok(passes)
 }
 
-/// One worker's round: it is given a job, makes its bytes and delivers them.
+/// Returns one round of a worker: it is given a job, does it and delivers it.
 pub(crate) fn round(worker: u32) -> [BoardEvent; 3] {
     [
         BoardEvent::Give(worker),
@@ -167,7 +166,7 @@ pub(crate) fn round(worker: u32) -> [BoardEvent; 3] {
     ]
 }
 
-/// So many rounds of the first worker.
+/// Returns `count` rounds of the first worker.
 pub(crate) fn rounds(alloc: Global, count: usize) -> Result<Vec<BoardEvent>, AllocError> {
     let mut events = Vec::new(alloc);
     for _ in 0..count {
@@ -176,20 +175,20 @@ pub(crate) fn rounds(alloc: Global, count: usize) -> Result<Vec<BoardEvent>, All
     Ok(events)
 }
 
-/// A call of the product that writes.
+/// A call that writes output.
 #[derive(Clone, Copy)]
 pub(crate) enum Call {
     Consolidate,
     /// A consolidation with a report.
     Report,
     Render,
-    /// Of a rendering that was stopped once its first block was marked.
+    /// A resumed rendering that was interrupted after its first block was marked.
     Resume,
-    /// By so many rounds of one worker.
+    /// A schedule of `rounds` rounds of one worker.
     Schedule { is_rendering: bool, rounds: usize },
 }
 
-/// A rendering, and a consolidation, by two rounds more than they have jobs.
+/// A rendering and a consolidation, each with two rounds more than jobs.
 pub(crate) const RENDERED_BY_EVENTS: Call = Call::Schedule {
     is_rendering: true,
     rounds: 5,
@@ -210,26 +209,26 @@ impl Call {
     }
 }
 
-/// Files by their names.
+/// Files by name.
 pub(crate) type Files = Vec<(&'static str, Vec<u8>)>;
 
-/// A list over `A.wav`, a call that makes something of it, the files that are there before, and those that it leaves.
+/// A list over `A.wav`, a call on it, the files present before, and the files expected after.
 pub(crate) struct Job {
     pub(crate) alloc: Global,
     call: Call,
     list: String,
-    /// How many channels are rendered, two or one, and how deep.
+    /// Whether two channels are rendered instead of one.
     is_wide: bool,
     jobs: JobLength,
     depth: Depth,
     source: Vec<u8>,
-    /// How many frames the source has.
+    /// Number of sample frames of the source.
     frames: u64,
     before: Files,
     wanted: Files,
 }
 
-// Written out, so that it is one call where a job is dropped.
+// Written out so that dropping a job is a single call.
 impl Drop for Job {
     fn drop(self) {
         let Job {
@@ -252,10 +251,11 @@ impl Drop for Job {
 }
 
 impl Job {
-    /// The rendering of three blocks, or the consolidation without handles of an entry with a silent middle.
+    /// Creates the rendering of three blocks, or the consolidation without handles of an entry with
+    /// a silent middle.
     pub(crate) fn new(alloc: Global, call: Call) -> Result<Self, Fail> {
         if call.is_rendering() {
-            // what is rendered of it is the file itself
+            // the expected rendering is the source itself
             let wanted = rendered(alloc)?;
             Ok(Job::over(
                 alloc,
@@ -271,7 +271,8 @@ impl Job {
         }
     }
 
-    /// A call over these entries and a source of so many frames, block by block at 16 bits, which leaves these files.
+    /// Creates a job for a call with the given entries and source, with one block per job at 16
+    /// bits.
     pub(crate) fn over(
         alloc: Global,
         call: Call,
@@ -294,8 +295,8 @@ impl Job {
         })
     }
 
-    /// The rendering of three blocks is gone on with, of which the first is marked: 12 calls make the files, and 4 write
-    /// and mark a block.
+    /// Creates a job that resumes the rendering of three blocks after the first is marked: 12 calls
+    /// create the files, and 4 write and mark a block.
     pub(crate) fn half_done(alloc: Global) -> Result<Self, Fail> {
         let mut job = Job::new(alloc, Call::Resume)?;
         let before = job.stopped()?;
@@ -303,15 +304,15 @@ impl Job {
         Ok(job)
     }
 
-    /// What is left of it where it is stopped so.
+    /// Returns the files of the rendering after it is interrupted.
     fn stopped(&self) -> Result<Files, Fail> {
         let mut bench = MemoryBench::new(self.alloc).stop_at(16, 0);
         let _ = self.run_by(Call::Render, &mut self.shelf(0, 0)?, &mut bench)?;
         first_block_on(self.alloc, &bench)
     }
 
-    /// The rendering of 200 blocks of two channels of 24 bits, in longer jobs of 32, the marks of two of which are set
-    /// together.
+    /// Creates the rendering of 200 blocks of 24-bit stereo, in longer jobs of 32 blocks; two
+    /// blocks are marked at a time.
     pub(crate) fn of_many_blocks(alloc: Global) -> Result<Self, Fail> {
         let source = sound(alloc, MANY_FRAMES)?;
         let wanted = one_file(alloc, SOUND, many_rendered(alloc)?)?;
@@ -329,13 +330,13 @@ impl Job {
         Ok(job)
     }
 
-    /// The sources, of whose calls so many fail behind so many.
+    /// Returns the sources, with `count` failing calls after `from` calls.
     pub(crate) fn shelf(&self, from: u64, count: u64) -> Result<MemoryShelf, AllocError> {
         let shelf = MemoryShelf::new(self.alloc).with_file("A.wav", self.source.as_slice())?;
         Ok(shelf.failing(from, count))
     }
 
-    /// The output with the files that are there before.
+    /// Returns the output with the files present before.
     pub(crate) fn bench(&self) -> Result<MemoryBench, Fail> {
         let mut bench = MemoryBench::new(self.alloc);
         for (name, bytes) in &self.before {
@@ -344,14 +345,15 @@ impl Job {
         Ok(bench.after_crash(0, 0)?)
     }
 
-    /// The sources, which keep what is read of them.
+    /// Returns the sources, which record reads.
     pub(crate) fn recorded(&self) -> Result<Recorded, Fail> {
         let samples = self.frames.saturating_mul(2);
         let head = (self.source.len() as u64).saturating_sub(samples);
         Ok(Recorded::new(self.shelf(0, 0)?, head))
     }
 
-    /// Between which bytes of samples a rendering reads that has so many of its blocks; `None` where it has all.
+    /// Returns the range of sample bytes that a rendering reads after `marked` blocks, or `None` if
+    /// all blocks are marked.
     pub(crate) fn range_behind(&self, marked: u64) -> Option<(u64, u64)> {
         let first = marked.saturating_mul(BLOCK);
         let behind = self.frames.saturating_mul(2);
@@ -362,7 +364,7 @@ impl Job {
         }
     }
 
-    /// All that sounds.
+    /// Returns the options for everything audible.
     fn options(&self) -> Options
         ensures { HaveChannels result }
     {
@@ -375,7 +377,7 @@ impl Job {
         }
     }
 
-    /// The same, in its jobs.
+    /// Returns the options and job length.
     fn choice(&self) -> RenderChoice {
         RenderChoice {
             options: self.options(),
@@ -389,7 +391,7 @@ impl Job {
         Ok(())
     }
 
-    /// Goes on with it.
+    /// Resumes the rendering.
     pub(crate) fn resume<S: Shelf>(
         &self,
         shelf: &mut S,
@@ -416,7 +418,7 @@ impl Job {
         Ok(())
     }
 
-    /// Does it by these events.
+    /// Runs the job by events.
     pub(crate) fn run_events<S: Shelf>(
         &self,
         events: &[BoardEvent],
@@ -438,7 +440,7 @@ impl Job {
         Ok(run_schedule(self.alloc, work, events, shelf, bench))
     }
 
-    /// What stands behind these events where no call fails.
+    /// Returns the progress after events, if no call fails.
     pub(crate) fn progress_by(
         &self,
         events: &[BoardEvent],
@@ -448,7 +450,7 @@ impl Job {
         Ok(self.run_events(events, &mut shelf, bench)??)
     }
 
-    /// Does it.
+    /// Runs the job.
     pub(crate) fn run<S: Shelf>(
         &self,
         shelf: &mut S,
@@ -457,7 +459,7 @@ impl Job {
         self.run_by(self.call, shelf, bench)
     }
 
-    /// Does it by a call.
+    /// Runs the job by the given call.
     pub(crate) fn run_by<S: Shelf>(
         &self,
         call: Call,
@@ -483,18 +485,19 @@ impl Job {
         }
     }
 
-    /// Whether the files are there that it has to leave.
+    /// Returns whether the expected files exist.
     pub(crate) fn is_whole(&self, bench: &MemoryBench) -> bool {
         self.wanted.iter().all(|(name, bytes)| bench.bytes(name) == Some(bytes.as_slice()))
     }
 
-    /// Whether each of its blocks is marked.
+    /// Returns whether each block is marked.
     pub(crate) fn is_marked(&self, bench: &MemoryBench) -> bool {
         let blocks = marks_on(bench);
         blocks.len() as u64 == self.frames.div_ceil(4_096) && blocks.iter().all(|block| *block == 1)
     }
 
-    /// Whether it left all that it has to leave, and no other file: a rendering marks each of its blocks, too.
+    /// Returns whether exactly the expected files exist, apart from the marks of a rendering, which
+    /// must all be set.
     pub(crate) fn is_done(&self, bench: &MemoryBench) -> bool {
         let are_marked = if self.call.is_rendering() {
             self.is_marked(bench)
@@ -507,25 +510,25 @@ impl Job {
         are_marked && OUTPUTS.iter().all(are_whole)
     }
 
-    /// Whether the files are as they were before.
+    /// Returns whether the files are unchanged.
     fn are_as_before(&self, bench: &MemoryBench) -> bool {
         OUTPUTS
             .iter()
             .all(|name| bench.bytes(name) == bytes_in(&self.before, name))
     }
 
-    /// Whether nothing was done to the disk.
+    /// Returns whether no call was made on the output.
     pub(crate) fn is_untouched(&self, bench: &MemoryBench) -> bool {
         bench.calls() == 0 && self.are_as_before(bench)
     }
 
-    /// Whether the files are as they were before, also once a crash has spoilt all that isn't on the disk yet.
+    /// Returns whether the files are unchanged, even after a crash that spoils all unsynced bytes.
     pub(crate) fn is_unchanged(&self, bench: MemoryBench) -> Result<bool, AllocError> {
         Ok(self.are_as_before(&bench) && self.are_as_before(&bench.after_crash(0, 7)?))
     }
 }
 
-/// The files of a rendering whose first block alone is marked, which it is where memory is there.
+/// Returns the files of a rendering with only the first block marked; fails only if out of memory.
 fn first_block_on(alloc: Global, bench: &MemoryBench) -> Result<Files, Fail> {
     if marks_on(bench) != [1, 0, 0].as_slice() {
         Err(AllocError)?;

@@ -24,7 +24,7 @@ fn file(alloc: Global, sounding: usize) -> Result<Recorded, Fail> {
     Ok(Recorded::new(shelf, head))
 }
 
-/// So many frames from this one on, at this time.
+/// Returns a piece of `length` samples of the file from `frame` on, at time `start`.
 fn piece(start: u64, frame: u64, length: u64) -> Piece
     requires start { start ≤ 10000 }
     requires frame { frame ≤ 10000 }
@@ -44,7 +44,7 @@ fn piece(start: u64, frame: u64, length: u64) -> Piece
     }
 }
 
-/// Ten pieces, each so many frames behind the one before.
+/// Returns ten pieces, with starts `apart` samples apart in the file.
 fn ten(alloc: Global, apart: u64) -> Result<Intervals, Fail>
     requires { apart ≤ 500 }
 {
@@ -55,7 +55,8 @@ fn ten(alloc: Global, apart: u64) -> Result<Intervals, Fail>
     Ok(Intervals::ordered(groups)?)
 }
 
-/// What a watch was told of the looking for silence last, how often, and whether it ever fell.
+/// The last progress of a search for silence, the number of reports, and whether the progress ever
+/// decreased.
 #[derive(Default, Drop)]
 struct Told {
     done: u64,
@@ -75,8 +76,8 @@ impl Watch for Told {
     }
 }
 
-/// Whether each of ten pieces is silent, so many frames apart in a file that sounds in one frame; and how many bytes
-/// were read of it.
+/// Returns the silence flags of ten pieces, `apart` samples apart, in a file with one audible
+/// sample; and the bytes read.
 fn asked(
     rt: &HostRuntime,
     sounding: usize,
@@ -93,7 +94,8 @@ fn asked(
     Ok((silent, shelf.bytes()))
 }
 
-/// Which frame sounds, how far apart the pieces are, whether they are silent, and how many bytes are read of them.
+/// The audible sample, the distance of the pieces, whether they are silent, and the number of bytes
+/// read.
 const ASKED: [(usize, u64, bool, u64); 3] = [
     (9000, 0, true, 10_240),
     (9999, 500, true, 20_000),
