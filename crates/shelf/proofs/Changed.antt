@@ -1,4 +1,4 @@
--- What each call on a bench in memory does to its files.
+-- Effect of each call on the files of an in-memory bench.
 use Rattle.std.proofs.Common.{◌≡◌, ◌≢◌, ◌∙◌, ℕ, ◌+◌, ◌≤◌, Bool, if◌then◌else◌, Option, Some, None, List, [], ◌++◌, length, take, drop, IsSomeAnd, option_map, refl, sym, ap, subst, inl, inr, arith}
 use Rattle.std.proofs.lemmas.Bool.{le-leb}
 use Rattle.std.proofs.lemmas.Option.{none-some}
@@ -11,7 +11,7 @@ use Rattle.shelf.specs.History.{Note, History, noted, placed, with_bytes, done, 
 use Rattle.shelf.specs.Memory.{bench_failures, bench_files, bench_history}
 use Rattle.shelf.specs.Crashes.{IsChange, HasSynced, changes_noted, does_by, has_changed, has_synced, stays_by}
 
--- a file that has a length is there
+-- a file with a length exists
 pub found : (file : Option (List ℕ)) (at : ℕ) → Some at ≡ option_map (λ bytes. length bytes) file
     → (bytes : List ℕ) × (file ≡ Some bytes) × (at ≡ length bytes)
 found None at some = absurd (none-some at (sym some))
@@ -20,13 +20,13 @@ found (Some bytes) at some = (bytes, refl, same at (length bytes) some)
     same : (a b : ℕ) → Some a ≡ Some b → a ≡ b
     same a b e = cc
 
--- a file in which a range lies is there
+-- a file that contains a range exists
 pub held : (file : Option (List ℕ)) (end : ℕ) → IsSomeAnd file (λ bytes. end ≤ length bytes)
     → (bytes : List ℕ) × (file ≡ Some bytes) × (end ≤ length bytes)
 held None end inside = absurd inside
 held (Some bytes) end inside = (bytes, refl, inside)
 
--- bytes behind the end
+-- an append at the end of the file
 with_end : (at n : ℕ) (bytes file : List ℕ) → at ≡ length file → with_bytes Append at n bytes file ≡ file ++ bytes
 with_end at n bytes file end =
     ap (λ (b : Bool). if b then placed at bytes file else file) (le-leb at (length file) (omega (arith, end)))
@@ -34,7 +34,7 @@ with_end at n bytes file end =
     ∙ ap (λ (l : List ℕ). file ++ (bytes ++ l)) (drop_all (at + length bytes) file (omega (arith, end)))
     ∙ ap (λ (l : List ℕ). file ++ l) (append-nil bytes)
 
--- what a call that was noted made of its file
+-- contents of the file after a recorded call
 made : (note : Note) (old new : History) (file : Option (List ℕ)) → new ≡ noted note old → read_of old note.name ≡ file
     → read_of new note.name ≡ done note file
 made note old new file is there =
@@ -44,7 +44,7 @@ others : (note : Note) (old new : History) → IsChange note old new → (n : Li
     → read_of new n ≡ read_of old n
 others note old new change = (has_changed note old new change).others
 
--- what is read of the file after a call is one of the things that may become of it
+-- the contents read after a call are allowed by its step
 pub steps : (note : Note) (old new : History) → IsChange note old new
     → Changes (step note) note.name (read_of old) (read_of new)
 steps note old new change = record { here = here change; others = others note old new change }
@@ -56,7 +56,7 @@ steps note old new change = record { here = here change; others = others note ol
         (sym (made note old new (read_of old note.name) more refl))
         (does_by note.kind note (read_of old note.name))
 
--- a call on a bench leaves all files alone but the one that it names, whatever comes of it
+-- a call on a bench writes only to the file it names, whatever its result
 pub only_writes : (note : Note) (old new : MemoryBench) {quiet device failed : Type 0}
     → IsChange note (bench_history old) (bench_history new)
     → HasCause (bench_failures old) (bench_failures new) quiet device → failed
@@ -74,7 +74,7 @@ only_writes note old new change cause failed =
 
 module _ (name bytes : List ℕ) (at : ℕ) (old new : History)
     (there : Some at ≡ option_map (λ (file : List ℕ). length file) (read_of old name)) where
-  -- an append that has this part
+  -- an append that wrote `part` bytes
   abbrev pub note_by : ℕ → Note
   note_by part = record { name = name; kind = Append; at = at; bytes = bytes; part = part }
 
@@ -149,7 +149,7 @@ synced name old mid new same is =
     subst (HasSynced name old) (sym is)
     (subst (λ (h : History). HasSynced name old (noted (sync_of name) h)) (sym same) (has_synced (sync_of name) old refl))
 
--- a sync that may not have been noted
+-- a sync leaves no new outcome, whether it was recorded or not
 pub sync_leaves : (name : List ℕ) (old mid new : History) → mid ≡ old → IsChange (sync_of name) mid new
     → (c : Files) → MayLeave new c → MayLeave old c
 sync_leaves name old mid new same (inl none) c left = subst (λ (h : History). MayLeave h c) (none ∙ same) left

@@ -1,4 +1,4 @@
--- A copy of files by name has the same bytes.
+-- A copy of named files has the same contents.
 use Rattle.std.proofs.Common.{◌≡◌, ℕ, Bool, List, Option, Some, None, String, option_map, string_bytes, ap, MatchOption, IsSomeAnd}
 use Rattle.std.specs.Global as global
 use Rattle.std.specs.BTreeMap.{is_at}
@@ -8,7 +8,7 @@ use Rattle.std.specs.Map.{lookup}
 use Rattle.std.specs.List.{AllZip}
 use Rattle.std.proofs.lemmas.Map.Entries.{lookup_clone}
 
--- values that are alike have the same bytes
+-- corresponding values have the same bytes
 alike : (D : global.Vec ℕ → global.Vec ℕ → Type 0) → ((v w : global.Vec ℕ) → D v w → w.items ≡ v.items)
     → (old new : Option (global.Vec ℕ)) → MatchOption old (new ≡ None) (λ v. IsSomeAnd new (D v))
     → option_map (λ bytes. bytes.items) new ≡ option_map (λ bytes. bytes.items) old

@@ -1,4 +1,4 @@
--- What a change under one name makes of a map's files.
+-- Effect of a map update on the files of the map.
 use Rattle.std.proofs.Common.{◌≡◌, ◌≢◌, ℕ, List, Option, Some, String, string_bytes, option_map, true, false, sym, ◌∙◌, ap, subst, inl, inr}
 use Rattle.std.specs.BTreeMap.{BTreeMap, UpdatesBy, get_by_text}
 use Rattle.std.specs.String.{string_cmp}
@@ -17,7 +17,7 @@ Map = BTreeMap (String global.Global) (global.Vec ℕ)
 abbrev pub bytes_in : Map → Files
 bytes_in m name = option_map (λ bytes. bytes.items) (get_by_text m name)
 
--- the map has these bytes under the name, and every other file as it was
+-- the update sets the contents of this file and leaves all others unchanged
 pub changes : (step : Option (List ℕ) → Option (List ℕ) → Type 0) (m n : Map) (name : List ℕ) (v : global.Vec ℕ)
     → UpdatesBy string_cmp (λ k. slice_cmp nat_cmp name (string_bytes k)) m n (Some v)
     → step (bytes_in m name) (Some v.items) → Changes step name (bytes_in m) (bytes_in n)
@@ -33,7 +33,7 @@ changes step m n name v updates does = record {
         ∙ cond-false (bytes_eq name other) (Some v) (get_by_text m other)
         (false_from_ne_true _ (λ same. apart (sym ((bytes_eq-Decides name other).0 same))))
 
--- the map has the same bytes under the name, so all its files are as they were
+-- an update that keeps the contents changes no file
 pub stays : (m n : Map) (name : List ℕ) (v : global.Vec ℕ)
     → UpdatesBy string_cmp (λ k. slice_cmp nat_cmp name (string_bytes k)) m n (Some v) → bytes_in m name ≡ Some v.items
     → (other : List ℕ) → bytes_in n other ≡ bytes_in m other

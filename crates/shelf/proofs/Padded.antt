@@ -1,4 +1,4 @@
--- Reads of a list with zeros behind it.
+-- Reads of a list that is padded with zeros.
 use Rattle.std.proofs.Common.{◌≡◌, ℕ, zero, suc, ◌+◌, ◌-◌, ◌≤◌, min, List, [], ◌∷◌, ◌++◌, length, take, drop, replicate, refl, ap, ◌∙◌, arith}
 use native.Mathlib.Numerals.{unary_clauses}
 use Rattle.std.proofs.lemmas.List.{take_min, drop_min, take-replicate, drop-replicate, length-drop}
@@ -15,7 +15,7 @@ take_both [] ys (suc n) = simp unary_clauses refl
 take_both (x ∷ xs) ys zero = let none : 0 - suc (length xs) ≡ 0 = omega arith in rw none refl
 take_both (x ∷ xs) ys (suc n) = simp unary_clauses (ap (λ l. x ∷ l) (take_both xs ys n))
 
--- what is read there are bytes of the head, and zeros for those that it hasn't
+-- a read returns the bytes of the head, then zeros
 pub read_padded : (head : List ℕ) (at n zeros from count : ℕ) → at + n ≤ length head + zeros
     → from ≡ min at (length head) → count ≡ min n (length head - from)
     → take n (drop at (head ++ replicate zeros 0)) ≡ take count (drop from head) ++ drop count (replicate n 0)

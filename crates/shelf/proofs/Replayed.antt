@@ -1,4 +1,4 @@
--- Calls that are done once more, the oldest first: as they were, and as a crash leaves them.
+-- Calls replayed from the oldest to the newest, as performed and as left by a crash.
 use Rattle.std.proofs.Common.{◌≡◌, ◌∙◌, ℕ, true, false, if◌then◌else◌, Option, List, [], ◌∷◌, ◌++◌, length, map, sym, ap, subst, inl, inr, arith}
 use Rattle.std.specs.Str.{bytes_eq}
 use Rattle.std.proofs.lemmas.Bool.{cases_Bool}
@@ -10,14 +10,14 @@ use Rattle.shelf.specs.Files.{IsMade}
 use Rattle.shelf.specs.Crashes.{crash_held}
 use Rattle.shelf.specs.History.{History, MayHold, MayLeave, Note, note_of, history_by, read_of, done, replayed, left_of, crashed}
 
--- the calls but for some older ones, which were done already
+-- the remaining calls, with the files after all older calls
 pub record IsReplay (kept fill : ℕ) (start : Files) (all notes : List Note) (read left : Files) : Type 0 where
   pub older : List Note
   pub split : all ≡ notes ++ older
   pub reads : (name : List ℕ) → read name ≡ replayed start older name
   pub leaves : (name : List ℕ) → left name ≡ crashed kept fill start older name
 
--- files of which one was made anew
+-- files after one of them was changed
 updated : (make : List ℕ → Option (List ℕ) → Option (List ℕ)) (name : List ℕ) (old new base : Files)
     → Changes (IsMade (make name)) name old new → ((n : List ℕ) → old n ≡ base n) → (n : List ℕ)
     → new n ≡ (if bytes_eq n name then make n (base n) else base n)
@@ -35,7 +35,7 @@ module _ (kept fill : ℕ) (start : Files) (all : List Note) where
       → IsReplay kept fill start all all read left
   begins read left reads leaves = record { older = []; split = sym (append-nil all); reads = reads; leaves = leaves }
 
-  -- the newest of the older calls that are left is done
+  -- one step: the oldest of the remaining calls is replayed
   pub goes_on : (call : Call) (items rest : List Call) (read left read_next left_next : Files)
       → items ≡ rest ++ call ∷ [] → IsReplay kept fill start all (map note_of items) read left
       → Changes (IsMade (left_of kept fill (note_of call) (read (note_of call).name))) (note_of call).name left left_next

@@ -1,4 +1,4 @@
--- What holds of files as calls left them, and of what a crash may leave of them.
+-- Properties of recorded files, and of the files that a crash may leave.
 use Rattle.std.proofs.Common.{◌≡◌, ◌≢◌, ◌⊎◌, ◌∙◌, ℕ, ◌+◌, ◌-◌, ◌≤◌, nat_le, Bool, true, false, cond, if◌then◌else◌, ◌==◌, Option, Some, None, List, [], ◌∷◌, ◌++◌, length, take, drop, replicate, option_map, refl, sym, ap, subst, inl, inr, arith}
 use Rattle.std.specs.Str.{bytes_eq}
 use Rattle.std.proofs.lemmas.Bool.{false_from_ne_true, cases_Bool, leb-true}
@@ -10,18 +10,18 @@ use Rattle.shelf.specs.declared.memory.call.Kind.{Kind}
 use Rattle.shelf.specs.declared.memory.call.Kind.TheVariants.{Create, Append, Write, Sync}
 use Rattle.shelf.specs.History.{Note, History, noted, placed, with_bytes, done_by, done, replayed, read_of, step_by, step, HoldsBy, HoldsIf, MayHold, MayLeave, LeftSince, spoilt_by, left_by, crashed}
 
--- a name is itself
+-- a name equals itself
 pub same_name : (name : List ℕ) → bytes_eq name name ≡ true
 same_name name = (bytes_eq-Decides name name).1 refl
 
--- another name isn't
+-- different names compare unequal
 pub other_name : (name other : List ℕ) → name ≢ other → bytes_eq name other ≡ false
 other_name name other apart = false_from_ne_true _ (λ same. apart ((bytes_eq-Decides name other).0 same))
 
 placed_before : (at : ℕ) (bytes file : List ℕ) → at ≤ length file → take at (placed at bytes file) ≡ take at file
 placed_before at bytes file room = take_at (take at file) _ at (length-take-le at file room)
 
--- bytes behind others, no more than there is place for
+-- at most n bytes written at offset `at` leave the bytes after the n unchanged
 placed_behind : (at n : ℕ) (bytes file : List ℕ) → length bytes ≤ n → at ≤ length file
     → drop (at + n) (placed at bytes file) ≡ drop (at + n) file
 placed_behind at n bytes file few room =
@@ -48,7 +48,7 @@ placed_length at bytes file room =
       length-drop (at + length bytes) file,
     )
 
--- an append leaves no more than a torn end
+-- an append changes at most its n bytes at the end
 torn_end : (at n : ℕ) (bytes file : List ℕ) → length bytes ≤ n
     → HasTornEnd at n file (with_bytes Append at n bytes file)
 torn_end at n bytes file few = elim (cases_Bool (nat_le at (length file))) [
@@ -61,7 +61,7 @@ torn_end at n bytes file few = elim (cases_Bool (nat_le at (length file))) [
   | inr none ↦ rw none (record { before = refl; after = refl; no_shorter = omega arith; no_longer = omega arith })
 ]
 
--- a write leaves no more than a torn range
+-- an overwrite changes at most its n bytes
 torn_range : (at n : ℕ) (bytes file : List ℕ) → length bytes ≤ n
     → HasTornRange at n file (with_bytes Write at n bytes file)
 torn_range at n bytes file few = elim (cases_Bool (nat_le (at + n) (length file))) [
@@ -73,19 +73,19 @@ torn_range at n bytes file few = elim (cases_Bool (nat_le (at + n) (length file)
   | inr none ↦ rw none (record { before = refl; after = refl; same_length = refl })
 ]
 
--- a file that is there, or both say that there is none
+-- a change of an existing file satisfies the relation; a file that doesn't exist still doesn't
 of_file : (relation : List ℕ → List ℕ → Type 0) (change : List ℕ → List ℕ) → ((file : List ℕ) → relation file (change file))
     → (old : Option (List ℕ)) → OfFile relation old (option_map change old)
 of_file relation change each None = refl
 of_file relation change each (Some file) = (change file, refl, each file)
 
--- a file where nothing was done
+-- an unchanged file satisfies a reflexive relation
 same_file : (relation : List ℕ → List ℕ → Type 0) → ((file : List ℕ) → relation file file) → (old : Option (List ℕ))
     → OfFile relation old old
 same_file relation each None = refl
 same_file relation each (Some file) = (file, refl, each file)
 
--- a call may do nothing
+-- a call may have no effect
 pub stays_by : (kind : Kind) (note : Note) (old : Option (List ℕ)) → step_by kind note old old
 stays_by Create note old = inl refl
 stays_by Append note old = same_file _ (λ file. record {
@@ -100,7 +100,7 @@ stays_by Sync note old = refl
 short_take : (n : ℕ) (bytes : List ℕ) → length (take n bytes) ≤ length bytes
 short_take n bytes = omega (arith, length-take n bytes)
 
--- what a call did is one of the things that may become of the file
+-- the effect of a call is one that its step allows
 pub does_by : (kind : Kind) (note : Note) (old : Option (List ℕ)) → step_by kind note old (done_by kind note old)
 does_by Create note old = elim (cases_Bool (note.part == 0)) [
   | inl none ↦ rw none (inl refl)
@@ -112,7 +112,7 @@ does_by Write note old =
     of_file _ _ (λ file. torn_range note.at _ (take note.part note.bytes) file (short_take note.part note.bytes)) old
 does_by Sync note old = refl
 
--- no call takes a file away
+-- no call deletes a file
 stands_by : (kind : Kind) (note : Note) (old : Option (List ℕ)) → done_by kind note old ≡ None → old ≡ None
 stands_by Create note old none = elim (cases_Bool (note.part == 0)) [
   | inl none_of ↦ rw none_of at none
@@ -124,7 +124,7 @@ stands_by Write note None none = refl
 stands_by Write note (Some file) none = absurd (none-some _ (sym none))
 stands_by Sync note old none = none
 
--- what is read is one of the outcomes
+-- the contents that are read are one of the possible outcomes of a crash
 reads_by : (kind : Kind) (note : Note) (held : Option (List ℕ) → Type 0) (old : Option (List ℕ)) → held old
     → HoldsBy kind note (done_by kind note old) held (done_by kind note old)
 reads_by Create note held old was = record { before = old; was = was; changed = does_by Create note old; gone = inl }
@@ -141,7 +141,7 @@ reads_held start (note ∷ notes) name = elim (cases_Bool (bytes_eq name note.na
   | inr apart ↦ rw apart (reads_held start notes name)
 ]
 
--- where no file is read, none is left or an empty one
+-- if reads find no file, a crash leaves none or an empty one
 gone_by : (kind : Kind) (note : Note) (held : Option (List ℕ) → Type 0) (read x : Option (List ℕ)) → read ≡ None
     → HoldsBy kind note read held x → IsEmptyOrAbsent x
 gone_by Create note held read x none holds = holds.gone none
@@ -160,7 +160,7 @@ gone_held start (note ∷ notes) name x none holds = elim (cases_Bool (bytes_eq 
       (subst (λ (b : Bool). HoldsIf b note (replayed start (note ∷ notes) name) (MayHold start notes name) x) apart holds)
 ]
 
--- this moment is one of those since an earlier one, and since this moment there is no other
+-- an outcome of a crash now is also one since any earlier moment, and the only ones since now
 pub counts_now : (history : History) (t : ℕ) (c : Files) → MayLeave history c
     → LeftSince history.start history.notes t c
 counts_now history t c left = by_notes history.start history.notes left
@@ -176,7 +176,7 @@ only_now start [] c since = since
 only_now start (note ∷ notes) c (inl left) = left
 only_now start (note ∷ notes) c (inr since) = absurd (omega (arith, since.0))
 
--- what becomes of the files by a call
+-- a recorded call changes its own file and no other
 pub changes_noted : (note : Note) (start : Files) (notes : List Note)
     → Changes (λ old new. new ≡ done note old) note.name (replayed start notes) (replayed start (note ∷ notes))
 changes_noted note start notes = record {
@@ -187,11 +187,11 @@ changes_noted note start notes = record {
       (other_name other note.name apart);
 }
 
--- an outcome with one file of it exchanged
+-- an outcome with the contents of one file replaced
 abbrev exchanged : List ℕ → Option (List ℕ) → Files → Files
 exchanged name file c other = if bytes_eq other name then file else c other
 
--- an outcome after a call is one from before it, with this step
+-- an outcome after a call follows from one before it by the step of the call
 past_by : (kind : Kind) (note : Note) (held : Option (List ℕ) → Type 0) (old x : Option (List ℕ)) → held old
     → HoldsBy kind note (done_by kind note old) held x
     → (before : Option (List ℕ)) × held before × step_by kind note before x
@@ -200,7 +200,7 @@ past_by Append note held old x was holds = (holds.before, holds.was, holds.chang
 past_by Write note held old x was holds = (holds.before, holds.was, holds.changed)
 past_by Sync note held old x was holds = (old, was, holds)
 
--- each outcome after a call is an older one after its step
+-- each outcome after a call follows from an older outcome by the step of the call
 pub follows : (note : Note) (history : History)
     → Follows (Changes (step note) note.name) (MayLeave history) (MayLeave (noted note history))
 follows note history c left =
@@ -236,7 +236,7 @@ follows note history c left =
           (c other)) apart (left other))
     ]
 
--- time goes on by one moment
+-- a recorded call advances time by one moment
 pub elapses_noted : (note : Note) (history : History) → Elapses (length history.notes) (length (note ∷ history.notes))
     (LeftSince history.start history.notes) (LeftSince history.start (note ∷ history.notes))
     (MayLeave (noted note history))
@@ -251,7 +251,7 @@ elapses_noted note history = record {
     swapped t c (inl left) = inr left
     swapped t c (inr since) = inl since.1
 
--- no time goes by
+-- time doesn't advance without a call
 pub elapses_same : (history : History) → Elapses (length history.notes) (length history.notes)
     (LeftSince history.start history.notes) (LeftSince history.start history.notes) (MayLeave history)
 elapses_same history = record {
@@ -260,11 +260,11 @@ elapses_same history = record {
   keeps = λ t c early past. past;
 }
 
--- the call was noted, or left out
+-- the call was recorded, or nothing happened
 abbrev pub IsChange : Note → History → History → Type 0
 IsChange note old new = (new ≡ old) ⊎ (new ≡ noted note old)
 
--- what a call does that changes one file
+-- effect of a call on the files, on the outcomes of a crash, and on time
 pub record HasChanged (note : Note) (old new : History) : Type 0 where
   pub crash : Follows (Changes (step note) note.name) (MayLeave old) (MayLeave new)
   pub time : Elapses (length old.notes) (length new.notes) (LeftSince old.start old.notes) (LeftSince new.start new.notes)
@@ -293,7 +293,7 @@ has_changed note old new (inr more) = subst (HasChanged note old) (sym more) (re
       ∙ sym ((changes_noted note old.start old.notes).others n apart);
 })
 
--- after a sync the file is durable, and nothing else has changed
+-- effect of a sync: the file is durable, and no new outcome is possible
 pub record HasSynced (name : List ℕ) (old new : History) : Type 0 where
   pub crash : (c : Files) → MayLeave new c → MayLeave old c
   pub durable : IsDurable name (read_of new) (MayLeave new)
@@ -322,7 +322,7 @@ has_synced note old is = record { crash = crash; durable = durable }
         (subst (λ (b : Bool). HoldsIf b note (read_of (noted note old) note.name) (MayHold old.start old.notes note.name)
         (c note.name)) (same_name note.name) (left note.name))
 
--- where no file is read the crash leaves none
+-- if reads find no file, the simulated crash leaves none
 none_by : (kind : Kind) (kept fill : ℕ) (note : Note) (read file : Option (List ℕ)) → done_by kind note read ≡ None
     → file ≡ None → left_by kind kept fill note read file ≡ None
 none_by Create kept fill note read file none gone = elim (cases_Bool (kept == 0)) [
@@ -363,7 +363,7 @@ spoilt_length kept fill bytes =
 short_spoilt : (kept fill n : ℕ) (bytes : List ℕ) → length (spoilt_by kept fill (take n bytes)) ≤ length bytes
 short_spoilt kept fill n bytes = omega (arith, spoilt_length kept fill (take n bytes), length-take n bytes)
 
--- what the crash leaves is one of the outcomes
+-- the simulated crash is one of the possible outcomes
 left_holds : (kind : Kind) (kept fill : ℕ) (note : Note) (held : Option (List ℕ) → Type 0)
     (read file : Option (List ℕ)) → held file → (read ≡ None → file ≡ None)
     → HoldsBy kind note (done_by kind note read) held (left_by kind kept fill note read file)
@@ -403,7 +403,7 @@ crash_held kept fill start (note ∷ notes) name = elim (cases_Bool (bytes_eq na
   | inr apart ↦ rw apart (crash_held kept fill start notes name)
 ]
 
--- all that the step allows is an outcome
+-- every result that the step of a call allows is a possible outcome
 all_by : (kind : Kind) (note : Note) (held : Option (List ℕ) → Type 0) (read before x : Option (List ℕ)) → kind ≢ Sync
     → held before → step_by kind note before x → (read ≡ None → IsEmptyOrAbsent x) → HoldsBy kind note read held x
 all_by Create note held read before x apart was does gone = record {

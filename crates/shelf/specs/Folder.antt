@@ -1,27 +1,27 @@
--- Stores in a folder as their callers see them.
+-- Models of the stores in a folder.
 use Rattle.std.specs.Prelude.{◌≡◌, ℕ, true, false, List, [], ◌∷◌, codes}
 use Rattle.shelf.specs.declared.folder.open_files.Access.{Access}
 use Rattle.shelf.specs.declared.folder.open_files.Access.TheVariants.{Read, Write}
 use Rattle.shelf.specs.declared.folder.open_files.Overwrite.{Overwrite}
 use Rattle.shelf.specs.declared.folder.open_files.Overwrite.TheVariants.{Never}
 
--- the folder of sources, by its path, and how often a call on it has failed
+-- a folder of sources: its path and the number of failed calls
 pub record SourceFolder : Type 0 where
   pub folder : List ℕ
   pub failures : ℕ
 
--- the folder of outputs, whether a file in it may be replaced, and how often a call on it has failed
+-- a folder of outputs: its path, whether existing files may be replaced, and the number of failed calls
 pub record OutputFolder : Type 0 where
   pub folder : List ℕ
   pub overwrite : Overwrite
   pub failures : ℕ
 
--- the folder that a path names: the empty path is the current one
+-- path of the folder; the empty path is the current folder
 abbrev pub folder_named : List ℕ → List ℕ
 folder_named [] = codes "."
 folder_named (first ∷ rest) = first ∷ rest
 
--- whether files may be replaced: never where none is written
+-- the replacement rule for output files; never replace them if access is read-only
 abbrev pub overwrite_of : Access → Overwrite
 overwrite_of Read = Never
 overwrite_of (Write overwrite) = overwrite

@@ -1,4 +1,4 @@
--- Stores in memory as their callers see them.
+-- Models of the stores in memory.
 use Rattle.std.specs.Prelude.{ℕ, ◌-◌, Bool, ◌&&◌, ◌==◌, nat_lt, if◌then◌else◌, Result, IsOk, IsErr}
 use Rattle.work_terms.specs.Disk.{Files, HasCause}
 use Rattle.shelf.specs.declared.memory.device.Device.{Device}
@@ -7,50 +7,50 @@ use Rattle.shelf.specs.declared.memory.bench.MemoryBench.{MemoryBench}
 use Rattle.shelf.specs.Files.{files_of}
 use Rattle.shelf.specs.History.{History, history_by, read_of}
 
--- how many calls go on as before, and how many behind those fail
+-- the number of calls that succeed, and the number of calls after those that fail
 abbrev pub stretch_of : Device → ℕ × ℕ
 stretch_of device = (device.well, device.failing)
 
--- the next call is one of those that fail
+-- the next call must fail
 abbrev pub fails_now : ℕ × ℕ → Bool
 fails_now stretch = stretch.0 == 0 && nat_lt 0 stretch.1
 
--- the stretch one call later
+-- the stretch after one more call
 abbrev pub after_call : ℕ × ℕ → ℕ × ℕ
 after_call stretch = if nat_lt 0 stretch.0 then (stretch.0 - 1, stretch.1) else (0, stretch.1 - 1)
 
--- the bytes of each file of a shelf
+-- contents of the files of a shelf
 abbrev pub shelf_files : MemoryShelf → Files
 shelf_files shelf = files_of shelf.files
 
--- how often a shelf has failed
+-- number of failures of a shelf
 abbrev pub shelf_failures : MemoryShelf → ℕ
 shelf_failures shelf = shelf.device.failures
 
--- which calls of a shelf fail
+-- calls of a shelf that fail
 abbrev pub shelf_stretch : MemoryShelf → ℕ × ℕ
 shelf_stretch shelf = stretch_of shelf.device
 
--- the calls of a bench
+-- recorded calls of a bench
 abbrev pub bench_history : MemoryBench → History
 bench_history bench = history_by (files_of bench.record.start) bench.record.calls.items
 
--- the bytes of each file of a bench
+-- contents of the files of a bench
 abbrev pub bench_files : MemoryBench → Files
 bench_files bench = read_of (bench_history bench)
 
--- how often a bench has failed
+-- number of failures of a bench
 abbrev pub bench_failures : MemoryBench → ℕ
 bench_failures bench = bench.device.failures
 
--- what a call leaves of them: one more where it fails
+-- effect of a call on the failure count: one more if it fails
 abbrev pub CountsFault : {X E : Type 0} → MemoryBench → MemoryBench → Result X E → Type 0
 CountsFault old new result = HasCause (bench_failures old) (bench_failures new) (IsOk result) (IsErr result)
 
--- which calls of a bench fail
+-- calls of a bench that fail
 abbrev pub bench_stretch : MemoryBench → ℕ × ℕ
 bench_stretch bench = stretch_of bench.device
 
--- how many bytes the first call that fails writes
+-- number of bytes that the first failing call writes
 abbrev pub bench_part : MemoryBench → ℕ
 bench_part bench = bench.part

@@ -1,4 +1,4 @@
-// Files in memory, read and written at once. Tests make their calls fail where they want to.
+// In-memory stores for tests, whose calls can be made to fail.
 mod bench;
 mod call;
 mod device;

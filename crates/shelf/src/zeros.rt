@@ -1,4 +1,4 @@
-// A large file that takes no memory.
+// A large source file that needs little memory.
 ghost use Rattle.std.specs.Prelude.{◌≡◌, ◌+◌, ◌≤◌, ◌++◌, max, take, drop, replicate, ℕ, true, List, length, OnOk, string_bytes, ⊤};
 ghost use Rattle.work_terms.specs.Disk.{IsRange};
 ghost use Rattle.shelf.specs.Zeros.{file_named, padded, zero_failures, zero_files};
@@ -6,8 +6,8 @@ ghost use Rattle.shelf.specs.Zeros.{file_named, padded, zero_failures, zero_file
 use crate::failures::counted;
 use devices::{DeviceFault, Shelf, ShelfFault};
 
-/// One source of zeros behind given first bytes, of any length. It is for tests of long files: it keeps only the first
-/// bytes.
+/// A source of any length that consists of the given first bytes and then zeros. Only the first bytes are stored. For
+/// tests with long files.
 #[derive(Drop)]
 pub struct ZeroShelf {
     name: String,
@@ -17,8 +17,8 @@ pub struct ZeroShelf {
 }
 
 impl ZeroShelf {
-    /// A shelf with one file of this name: the bytes of `head`, and zeros behind them up to `length` bytes. A longer
-    /// `head` is the whole file.
+    /// Creates a shelf with one file `name` of `length` bytes: `head`, then zeros. If `head` is longer than `length`,
+    /// it is the whole file.
     pub fn new(name: String, head: Vec<u8>, length: u64) -> Self
         ensures files { zero_files result ≡ file_named (string_bytes name) (padded head.items length) }
         ensures failures { zero_failures result ≡ 0 }
@@ -31,21 +31,22 @@ impl ZeroShelf {
         }
     }
 
-    /// How often a call has failed.
+    /// Returns the number of failed calls.
     pub fn failures(&self) -> u64
         ensures { result ≡ zero_failures self.now }
     {
         self.failures
     }
 
-    /// How many bytes the file has.
+    /// Returns the length of the file in bytes.
     fn whole(&self) -> u64
         ensures { result ≡ length (padded self.now.head.items self.now.length) }
     {
         self.length.max(self.head.len() as u64)
     }
 
-    /// Fills the buffer from `at` on. It fails where that doesn't lie inside the file, or another file is meant.
+    /// Fills the buffer with the bytes from offset `at` on. Returns an error if the range isn't inside the file, or if
+    /// `name` is another file.
     fn read(&self, name: &str, at: u64, buffer: &mut [u8]) -> Result<(), DeviceFault>
         ensures { OnOk result (IsRange (zero_files self.now name.now) at buffer.new) }
     {
@@ -58,7 +59,7 @@ impl ZeroShelf {
     }
 }
 
-/// Fills the buffer with what lies from `at` on in a file of these first bytes, with zeros behind them.
+/// Fills the buffer with the bytes from offset `at` on of `head` padded with zeros.
 fn copy_padded(head: &[u8], at: u64, buffer: &mut [u8])
     ensures { (n : ℕ) → at + length buffer.old ≤ length (padded head.now n)
         → buffer.new ≡ take (length buffer.old) (drop at (padded head.now n)) }
@@ -76,7 +77,7 @@ impl Shelf for ZeroShelf {
 
     ghost failures = { zero_failures };
 
-    /// It keeps no names.
+    /// No file name is recorded.
     ghost failed_at = { λ _ _. ⊤ };
 
     fn length(&mut self, name: &str) -> Result<u64, ShelfFault> {

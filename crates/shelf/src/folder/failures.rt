@@ -1,4 +1,4 @@
-// The failures of a folder's files.
+// Failures of the files of a folder.
 ghost use Rattle.std.specs.Prelude.{◌≡◌, Ok, IfOk, IsOk, IsErr};
 ghost use Rattle.work_terms.specs.Disk.{HasCause};
 
@@ -6,18 +6,18 @@ use devices::DeviceFault;
 use std::alloc::Global;
 use std::io;
 
-/// How often calls have failed, and why and at which file the last one did. The count stays at its last value.
+/// The number of failed calls, which saturates, and the error and the file of the last failure.
 #[derive(Drop)]
 pub struct Failures {
     alloc: Global,
     pub count: u64,
     pub reason: Option<io::Error>,
-    /// Nothing where no memory was left for the name.
+    /// `None` without a failure, and if the name couldn't be stored for lack of memory.
     file: Option<String>,
 }
 
 impl Failures {
-    /// No failure yet.
+    /// Creates an empty record.
     pub fn none(alloc: Global) -> Failures
         ensures { result.count ≡ 0 }
     {
@@ -29,7 +29,7 @@ impl Failures {
         }
     }
 
-    /// The name of the file of the last failure.
+    /// Returns the name of the file of the last failure.
     pub fn file(&self) -> Option<&str> {
         match &self.file {
             Some(file) => Some(file.as_str()),
@@ -37,7 +37,7 @@ impl Failures {
         }
     }
 
-    /// The outcome of a call at the file of this name, counted and remembered where it is a failure.
+    /// Returns the outcome of a call on the file `name`; counts and records it if it is an error.
     pub fn counted<T>(&mut self, name: &str, outcome: io::Result<T>) -> Result<T, DeviceFault>
         ensures value { IfOk result (λ value. outcome ≡ Ok value) }
         ensures cause { HasCause self.old.count self.new.count (IsOk result) (IsErr result) }

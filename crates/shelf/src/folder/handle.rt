@@ -1,4 +1,4 @@
-// One open file.
+// An open file.
 ghost use Rattle.std.specs.Prelude.{◌≡◌, ◌+◌, ◌^◌, ◌<◌, ◌≤◌, ◌↔◌, All, length, IsTrue, IsErr, IfOk, OnOk, OnErr};
 
 use std::fs::OpenFile;
@@ -6,11 +6,11 @@ use std::io;
 use std::io::{Error, ErrorKind};
 use std::os::unix::fs::FileExt;
 
-/// How many bytes are written at once. Many more at once take the system longer.
+/// Maximum number of bytes per write. Much larger writes are slower.
 const AT_ONCE: usize = 262_144;
 
-/// An open file, how many bytes it has, and whether it was synced since it was opened and last written to. Nothing else
-/// is to write to it while it is open.
+/// An open file with its length in bytes, and whether it was synced after it was opened and last written. Nothing else
+/// may write to the file while it is open.
 #[derive(Drop)]
 pub struct Handle<F: OpenFile + FileExt + Drop> {
     file: F,
@@ -19,7 +19,7 @@ pub struct Handle<F: OpenFile + FileExt + Drop> {
 }
 
 impl<F: OpenFile + FileExt + Drop> Handle<F> {
-    /// The handle of an open file of so many bytes.
+    /// Creates a handle from an open file of `length` bytes.
     pub fn new(file: F, length: u64) -> Self
         ensures { result.length ≡ length }
     {
@@ -30,14 +30,15 @@ impl<F: OpenFile + FileExt + Drop> Handle<F> {
         }
     }
 
-    /// How many bytes the file has.
+    /// Returns the length of the file in bytes.
     pub fn length(&self) -> u64
         ensures { result ≡ self.now.length }
     {
         self.length
     }
 
-    /// Fills the buffer from `at` on. It fails where that doesn't lie inside the file, or the file was cut meanwhile.
+    /// Fills the buffer with the bytes from offset `at` on. Returns an error if the range isn't inside the file, or if
+    /// the file was truncated by others.
     pub fn read_at(&self, at: u64, buffer: &mut [u8]) -> io::Result<()>
         ensures outside { self.now.length < at + length buffer.old → IsErr result }
     {
@@ -45,7 +46,7 @@ impl<F: OpenFile + FileExt + Drop> Handle<F> {
         self.file.read_exact_at(buffer, at)
     }
 
-    /// Writes the bytes over those from `at` on. It fails where they don't lie inside the file.
+    /// Overwrites the bytes from offset `at` on. Returns an error if the range isn't inside the file.
     pub fn write_at(&mut self, at: u64, bytes: &[u8]) -> io::Result<()>
         ensures outside { self.old.length < at + length bytes.now → IsErr result }
         ensures length { self.new.length ≡ self.old.length }
@@ -55,8 +56,8 @@ impl<F: OpenFile + FileExt + Drop> Handle<F> {
         self.write_pieces(at, bytes)
     }
 
-    /// Writes the bytes from `at` on, piece by piece. Each but the last ends at a multiple of so many bytes in the file,
-    /// so that the system keeps it in few and large parts.
+    /// Writes in pieces that end at multiples of `AT_ONCE` in the file, so that the system stores the file in few,
+    /// large extents.
     fn write_pieces(&self, at: u64, bytes: &[u8]) -> io::Result<()> {
         let room = AT_ONCE - (at % AT_ONCE as u64) as usize;
         let (first, others) = bytes.split_at(room.min(bytes.len()));
@@ -69,8 +70,8 @@ impl<F: OpenFile + FileExt + Drop> Handle<F> {
         Ok(())
     }
 
-    /// Adds the bytes at the end of the file. Zeros are laid out as a hole, where the file system has holes. After an
-    /// `Err` the file may have grown by some of the bytes.
+    /// Appends the bytes to the file. Zeros are written as a hole if the file system supports holes. After an `Err` the
+    /// file may have grown by some of the bytes.
     pub fn append(&mut self, bytes: &[u8]) -> io::Result<()>
         ensures end { OnOk result (self.new.length ≡ self.old.length + length bytes.now) }
         ensures same_end { OnErr result (self.new.length ≡ self.old.length) }
@@ -85,7 +86,7 @@ impl<F: OpenFile + FileExt + Drop> Handle<F> {
         Ok(())
     }
 
-    /// Adds so many zeros at the end of the file, in one call, whatever their number.
+    /// Appends `count` zeros in one call.
     pub fn append_zeros(&mut self, count: u64) -> io::Result<()>
         ensures end { OnOk result (self.new.length ≡ self.old.length + count) }
         ensures same_end { OnErr result (self.new.length ≡ self.old.length) }
@@ -97,7 +98,7 @@ impl<F: OpenFile + FileExt + Drop> Handle<F> {
         Ok(())
     }
 
-    /// Waits until the file's bytes are on the disk.
+    /// Waits until the bytes of the file are on the disk.
     pub fn sync(&mut self) -> io::Result<()>
         ensures { self.new.length ≡ self.old.length }
     {
@@ -106,14 +107,14 @@ impl<F: OpenFile + FileExt + Drop> Handle<F> {
         Ok(())
     }
 
-    /// The same, where that wasn't done since the file was opened and last written to.
+    /// Syncs the file unless it was synced after it was opened and last written.
     pub fn sync_written(&mut self) -> io::Result<()>
         ensures { self.new.length ≡ self.old.length }
     {
         if self.is_synced { Ok(()) } else { self.sync() }
     }
 
-    /// Fails where the range of so many bytes from `at` on doesn't lie inside the file.
+    /// Returns an error unless the `count` bytes from offset `at` on are inside the file.
     fn require_inside(&self, at: u64, count: usize) -> io::Result<()>
         ensures inside { OnOk result (at + count ≤ self.now.length) }
         ensures outside { OnErr result (self.now.length < at + count) }
@@ -127,7 +128,7 @@ impl<F: OpenFile + FileExt + Drop> Handle<F> {
     }
 }
 
-/// Where a range of so many bytes from `at` on ends. It fails past the last place of 64 bits.
+/// Returns the end of a range, or an error if it doesn't fit in 64 bits.
 fn end_of(at: u64, count: usize) -> io::Result<u64>
     ensures end { IfOk result (λ end. end ≡ at + count) }
     ensures too_far { OnErr result (2 ^ 64 ≤ at + count) }
@@ -136,7 +137,7 @@ fn end_of(at: u64, count: usize) -> io::Result<u64>
         .ok_or(Error::from(ErrorKind::FileTooLarge))
 }
 
-/// Whether all bytes are zero.
+/// Returns whether all bytes are zero.
 fn is_silent(bytes: &[u8]) -> bool
     ensures { IsTrue result ↔ All (λ byte. byte ≡ 0) bytes.now }
 {
@@ -146,7 +147,7 @@ fn is_silent(bytes: &[u8]) -> bool
     }
 }
 
-/// The greatest byte, or 0. The loop has no other way out, so that it takes many bytes at a time.
+/// Returns the greatest byte, or 0 for an empty slice. The loop doesn't exit early, so that it can be vectorised.
 fn greatest(bytes: &[u8]) -> u8
     ensures { result ≡ 0 ↔ All (λ byte. byte ≡ 0) bytes.now }
 {

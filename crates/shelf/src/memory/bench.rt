@@ -12,16 +12,16 @@ use super::record::Record;
 use devices::{Bench, DeviceFault, ShelfFault};
 use std::alloc::{AllocError, Global};
 
-/// Outputs in memory, with a record of the calls that changed them, so that what a crash may leave is known, and each
-/// moment of it. A read takes no memory.
+/// Outputs in memory with a record of the calls that changed them, which determines the files that a crash may leave at
+/// each moment. Reads need no memory.
 pub struct MemoryBench {
     record: Record,
     device: Device,
-    /// How many bytes the next call that fails writes.
+    /// Number of bytes that the next failing call writes.
     part: u64,
 }
 
-// Written out, so that it is one call where a bench is dropped.
+// Written out so that dropping a bench is a single call.
 impl Drop for MemoryBench {
     fn drop(self) {
         let MemoryBench {
@@ -34,7 +34,7 @@ impl Drop for MemoryBench {
 }
 
 impl MemoryBench {
-    /// A bench with no file, whose calls don't fail.
+    /// Creates an output folder without files, whose calls don't fail.
     pub fn new(alloc: Global) -> Self
         ensures empty { (name : List ℕ) → bench_files result name ≡ None }
         ensures failures { bench_failures result ≡ 0 }
@@ -48,8 +48,7 @@ impl MemoryBench {
         }
     }
 
-    /// The same bench, whose next `from` calls go on as before and whose `count` calls behind those fail. They write
-    /// nothing.
+    /// Lets the next `from` calls succeed and the `count` calls after them fail. The failing calls write nothing.
     pub fn failing(mut self, from: u64, count: u64) -> Self
         ensures history { bench_history result ≡ bench_history self }
         ensures failures { bench_failures result ≡ bench_failures self }
@@ -61,9 +60,10 @@ impl MemoryBench {
         self
     }
 
-    /// The same bench, whose next `from` calls go on as before and whose others all fail, as where the program is
-    /// stopped. The first that fails writes its first `part` bytes, or all where it has fewer; a create makes its file
-    /// where `part` isn't 0.
+    /// Lets the next `from` calls succeed and all calls after them fail, as if the program were killed.
+    ///
+    /// The first failing call still writes its first `part` bytes, or all if it has fewer. If it is a create, it
+    /// creates its file unless `part` is 0.
     pub fn stop_at(mut self, from: u64, part: u64) -> Self
         ensures history { bench_history result ≡ bench_history self }
         ensures failures { bench_failures result ≡ bench_failures self }
@@ -75,9 +75,10 @@ impl MemoryBench {
         self
     }
 
-    /// What a crash now leaves, as a bench whose calls don't fail and of which nothing is pending. Of the bytes of each
-    /// call since the last sync of its file the first `kept` stand as they were written and the others are `fill`; a
-    /// create since then left the old bytes where `kept` is 0.
+    /// Simulates a crash. Returns the files it leaves as a new bench without pending calls or failures.
+    ///
+    /// Of the bytes of each call since the last sync of its file, the first `kept` are as written and the others are
+    /// `fill`. A create since the last sync has no effect if `kept` is 0. Returns `AllocError` if out of memory.
     pub fn after_crash(self, kept: u64, fill: u8) -> Result<Self, AllocError>
         ensures left { IfOk result (λ bench. (name : List ℕ) → bench_files bench name
             ≡ crashed kept fill (bench_history self).start (bench_history self).notes name) }
@@ -99,15 +100,17 @@ impl MemoryBench {
         })
     }
 
-    /// The bytes of the file, or `None` where no file has the name. It is no call of the device.
+    /// Returns the contents of the file, or `None` if it doesn't exist. Doesn't count as a call of the device.
     pub fn bytes(&self, name: &str) -> Option<&[u8]>
         ensures { option_copied result ≡ bench_files self.now name.now }
     {
         self.record.files.get(name)
     }
 
-    /// How many calls have changed files or synced them, also in part. What a crash may leave after the next is all
-    /// that the call's step allows; only where no file is read, none is left or an empty one.
+    /// Returns the number of calls that changed or synced a file, at least in part.
+    ///
+    /// After one more such call, a crash may leave any result that the step of the call allows. Only if reads find no
+    /// file, the crash leaves none or an empty one.
     pub fn calls(&self) -> usize
         ensures count { result ≡ length (bench_history self.now).notes }
         ensures all { (note : Note) → note.kind ≢ Sync → (d c : Files) → MayLeave (bench_history self.now) d
@@ -118,28 +121,28 @@ impl MemoryBench {
         self.record.calls.len()
     }
 
-    /// How often a call has failed.
+    /// Returns the number of failed calls.
     pub fn failures(&self) -> u64
         ensures { result ≡ bench_failures self.now }
     {
         self.device.failures
     }
 
-    /// How many bytes the file has, or `None` where no file has the name.
+    /// Returns the length of the file in bytes, or `None` if it doesn't exist.
     fn length_of(&self, name: &str) -> Option<u64>
         ensures { result ≡ option_map (λ bytes. length bytes) (bench_files self.now name.now) }
     {
         self.record.files.length(name)
     }
 
-    /// Whether so many bytes from `at` on lie inside a file that is there.
+    /// Returns whether the file exists and contains the `count` bytes from offset `at` on.
     fn has_range(&self, name: &str, at: u64, count: usize) -> bool
         ensures { IsTrue result → IsSomeAnd (bench_files self.now name.now) (λ file. at + count ≤ length file) }
     {
         self.record.files.has_range(name, at, count)
     }
 
-    /// One call begins that writes nothing.
+    /// Begins a call that writes nothing.
     fn begin(&mut self) -> Result<(), DeviceFault>
         ensures fails { IsErr result ↔ IsTrue (fails_now (bench_stretch self.old)) }
         ensures history { bench_history self.new ≡ bench_history self.old }
@@ -154,7 +157,7 @@ impl MemoryBench {
         }
     }
 
-    /// A call that names no file of the bench.
+    /// Makes a call fail that names no file of the bench or has no room.
     fn refused(&mut self) -> Result<(), DeviceFault>
         ensures history { bench_history self.new ≡ bench_history self.old }
         ensures fails { IsErr result }
@@ -166,7 +169,7 @@ impl MemoryBench {
         }
     }
 
-    /// Does so much of a call, and notes it.
+    /// Performs the first `part` bytes of a call and records it.
     fn note(
         &mut self,
         name: &str,
@@ -201,7 +204,7 @@ impl MemoryBench {
         }
     }
 
-    /// A call that writes: all of it, or its first part where the device fails. Of `whole` parts.
+    /// Performs a call completely (`whole` bytes), or only its first `self.part` bytes if the device fails.
     fn change(
         &mut self,
         name: &str,
@@ -247,7 +250,6 @@ impl MemoryBench {
     }
 }
 
-/// So many zeros.
 fn zeros_of(alloc: Global, count: u64) -> Result<Vec<u8>, AllocError>
     ensures { IfOk result (λ zeros. zeros.items ≡ replicate count 0) }
 {
@@ -261,12 +263,12 @@ impl Bench for MemoryBench {
 
     ghost failures = { bench_failures };
 
-    /// It keeps no names.
+    /// No file name is recorded.
     ghost failed_at = { λ _ _. ⊤ };
 
     ghost may_leave = { λ bench. MayLeave (bench_history bench) };
 
-    /// Each call that was noted is one moment more.
+    /// Each recorded call is one moment.
     ghost moment = { λ bench. length (bench_history bench).notes };
 
     ghost left_since = { λ bench. LeftSince (bench_history bench).start (bench_history bench).notes };
@@ -297,7 +299,7 @@ impl Bench for MemoryBench {
         }
     }
 
-    /// One call, of which the first zeros stand where it is stopped.
+    /// Appends all zeros as a single call; if it is interrupted, only the first zeros are written.
     fn append_zeros(&mut self, name: &str, count: u64) -> Result<(), DeviceFault> {
         let Ok(zeros) = zeros_of(self.record.alloc, count) else {
             return self.refused();

@@ -1,37 +1,37 @@
-// A call that changes files, as it is noted.
+// A recorded call that changes files.
 ghost use Rattle.std.specs.Prelude.{◌≡◌, IfOk, string_bytes, take};
 
 use std::alloc::{AllocError, Global};
 
-/// What a call does.
+/// The kind of a call.
 #[derive(Clone, Copy, PartialEq, Eq)]
 pub enum Kind {
-    /// It makes an empty file, or empties one.
+    /// Creates an empty file, or truncates an existing one.
     Create,
-    /// It adds bytes at the end.
+    /// Appends bytes.
     Append,
-    /// It writes bytes over others.
+    /// Overwrites bytes.
     Write,
-    /// It makes all that was done to the file before outlast a crash.
+    /// Makes all earlier changes of the file survive a crash.
     Sync,
 }
 
-/// A call that was made.
+/// A call with its arguments and the part of it that was performed.
 #[derive(Drop)]
 pub struct Call {
-    /// The name of the file.
+    /// Name of the file.
     pub name: String,
     pub kind: Kind,
-    /// The place of the first byte.
+    /// Offset of the first byte.
     pub at: u64,
-    /// The bytes that it was to write.
+    /// The bytes to write.
     pub bytes: Vec<u8>,
-    /// How many of them it wrote; of a create 0, where it made no file.
+    /// Number of bytes written. For a create, 0 if it didn't create the file.
     pub part: u64,
 }
 
 impl Call {
-    /// The call with copies of the name and of the bytes.
+    /// Creates a call with copies of the name and the bytes.
     pub fn new(
         alloc: Global,
         name: &str,
@@ -57,7 +57,7 @@ impl Call {
         })
     }
 
-    /// The bytes that it wrote.
+    /// Returns the bytes that were written.
     pub fn written(&self) -> &[u8]
         ensures { result.now ≡ take self.now.part self.now.bytes.items }
     {

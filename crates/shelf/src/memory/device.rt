@@ -1,4 +1,4 @@
-// The count of a device's failures, and a stretch of calls that fail on purpose.
+// The failure count of a device, and the calls that fail on purpose.
 ghost use Rattle.std.specs.Prelude.{◌≡◌, ◌↔◌, IsTrue, IsOk, IsErr, OnOk, OnErr};
 ghost use Rattle.shelf.specs.Memory.{stretch_of, fails_now, after_call};
 ghost use Rattle.work_terms.specs.Disk.{HasCause, Rises};
@@ -8,16 +8,16 @@ use devices::DeviceFault;
 
 #[derive(Clone, Copy)]
 pub struct Device {
-    /// How often it has failed. It stays at its last value.
+    /// Number of failures; saturates.
     pub failures: u64,
-    /// How many calls are still to go well.
+    /// Number of calls that still succeed.
     well: u64,
-    /// How many calls behind those are to fail.
+    /// Number of calls after those that fail.
     failing: u64,
 }
 
 impl Device {
-    /// A device that hasn't failed, and none of whose calls are to fail.
+    /// Creates a device without failures.
     pub fn new() -> Self
         ensures failures { result.failures ≡ 0 }
         ensures stretch { stretch_of result ≡ (0, 0) }
@@ -29,7 +29,7 @@ impl Device {
         }
     }
 
-    /// Sets which calls from now on fail: `count` of them, behind `from` others.
+    /// Lets the next `from` calls succeed and the `count` calls after them fail.
     pub fn fail_later(&mut self, from: u64, count: u64)
         ensures { self.new ≡ record self.old { well = from; failing = count } }
     {
@@ -37,7 +37,7 @@ impl Device {
         self.failing = count;
     }
 
-    /// One call begins. It fails, and is counted, where it is among those that are to fail.
+    /// Begins a call. Returns an error, which is counted, if the call is one that must fail.
     pub fn begin(&mut self) -> Result<(), DeviceFault>
         ensures fails { IsErr result ↔ IsTrue (fails_now (stretch_of self.old)) }
         ensures stretch { stretch_of self.new ≡ after_call (stretch_of self.old) }
@@ -55,7 +55,7 @@ impl Device {
         }
     }
 
-    /// The outcome, counted where it is a failure.
+    /// Returns the outcome, and counts it if it is an error.
     pub fn counted(&mut self, outcome: Result<(), DeviceFault>) -> Result<(), DeviceFault>
         ensures same { result ≡ outcome }
         ensures cause { HasCause self.old.failures self.new.failures (IsOk result) (IsErr result) }

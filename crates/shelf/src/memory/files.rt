@@ -1,4 +1,4 @@
-// Files by name, each with its bytes.
+// Files by name, with their contents.
 ghost use Rattle.std.specs.Prelude.{◌≡◌, ◌+◌, ◌<◌, ℕ, false, IsTrue, None, List, length, IfOk, OnOk, OnErr, IfSome, IfNone, IsSomeAnd, ◌≤◌, option_copied, option_map, string_bytes};
 ghost use Rattle.work_terms.specs.Disk.{Changes, IsRange};
 ghost use Rattle.shelf.specs.Files.{IsMade, IsOutside, IsPut, KeepsFiles, files_of};
@@ -16,7 +16,7 @@ pub struct NamedFiles {
 }
 
 impl NamedFiles {
-    /// No files.
+    /// Creates an empty set of files.
     pub fn new(alloc: Global) -> Self
         ensures { (name : List ℕ) → files_of result name ≡ None }
     {
@@ -26,21 +26,21 @@ impl NamedFiles {
         }
     }
 
-    /// The bytes of the file, or `None` where no file has the name.
+    /// Returns the contents of the file, or `None` if it doesn't exist.
     pub fn get(&self, name: &str) -> Option<&[u8]>
         ensures { option_copied result ≡ files_of self.now name.now }
     {
         self.files.get(name).map(|bytes| bytes.as_slice())
     }
 
-    /// How many bytes the file has, or `None` where no file has the name.
+    /// Returns the length of the file in bytes, or `None` if it doesn't exist.
     pub fn length(&self, name: &str) -> Option<u64>
         ensures { result ≡ option_map (λ bytes. length bytes) (files_of self.now name.now) }
     {
         self.get(name).map(|bytes| bytes.len() as u64)
     }
 
-    /// Puts the bytes under the name, in place of what is there.
+    /// Creates the file with these contents, or replaces its contents.
     pub fn put(&mut self, name: &str, bytes: &[u8]) -> Result<(), AllocError>
         ensures put { OnOk result (Changes (IsPut bytes.now) name.now (files_of self.old) (files_of self.new)) }
         ensures unchanged { KeepsFiles self.old self.new result }
@@ -50,7 +50,7 @@ impl NamedFiles {
         Ok(())
     }
 
-    /// Whether so many bytes from `at` on lie inside a file that is there.
+    /// Returns whether the file exists and contains the `count` bytes from offset `at` on.
     pub fn has_range(&self, name: &str, at: u64, count: usize) -> bool
         ensures { IsTrue result → IsSomeAnd (files_of self.now name.now) (λ file. at + count ≤ length file) }
     {
@@ -60,7 +60,7 @@ impl NamedFiles {
         }
     }
 
-    /// Writes the bytes, of `count` that were to be written, at their place, where a file is there that has one.
+    /// Writes the bytes at offset `at` if the file exists and has room for `count` bytes there.
     pub fn write(
         &mut self,
         name: &str,
@@ -82,7 +82,7 @@ impl NamedFiles {
         }
     }
 
-    /// Does what a call did.
+    /// Repeats the effect of a recorded call.
     pub fn apply(&mut self, call: &Call) -> Result<(), AllocError>
         ensures done { OnOk result (Changes (IsMade (done (note_of call.now))) (string_bytes call.now.name)
             (files_of self.old) (files_of self.new)) }
@@ -107,7 +107,7 @@ impl NamedFiles {
         }
     }
 
-    /// Does what a crash leaves of a call, where the files were read as `read` before it.
+    /// Applies the effect that a call has after a crash; `read` are the files as they were read before the call.
     pub fn lose(
         &mut self,
         read: &NamedFiles,
@@ -150,7 +150,7 @@ impl NamedFiles {
         }
     }
 
-    /// Puts the bytes that another file of the name has, where it is there.
+    /// Restores the contents of the file from `read`, if it exists there.
     fn put_again(&mut self, read: &NamedFiles, name: &str) -> Result<(), AllocError>
         ensures put { OnOk result (Changes (IsMade (or_else (files_of read.now name.now))) name.now
             (files_of self.old) (files_of self.new)) }
@@ -164,7 +164,7 @@ impl NamedFiles {
         }
     }
 
-    /// The same files once more.
+    /// Returns a copy of the files.
     pub fn copied(&self) -> Result<NamedFiles, AllocError>
         ensures { IfOk result (λ copy. (name : List ℕ) → files_of copy name ≡ files_of self.now name) }
     {
@@ -175,7 +175,7 @@ impl NamedFiles {
         })
     }
 
-    /// Fills the buffer from `at` on. It fails where that doesn't lie inside a file.
+    /// Fills the buffer with the bytes from offset `at` on. Returns an error if the range isn't inside the file.
     pub fn read_at(&self, name: &str, at: u64, buffer: &mut [u8]) -> Result<(), DeviceFault>
         ensures read { OnOk result (IsRange (files_of self.now name.now) at buffer.new) }
         ensures outside { OnErr result (IsOutside (files_of self.now name.now) at (length buffer.old)) }
@@ -187,7 +187,7 @@ impl NamedFiles {
     }
 }
 
-/// The place as an index, where a range of so many bytes from it on lies inside a file of this length.
+/// Returns the offset as an index if the range is inside a file of `file_length` bytes.
 fn place_of(at: u64, count: usize, file_length: usize) -> Option<usize>
     ensures inside { IfSome result (λ offset. (offset ≡ at) × (at + count ≤ file_length)) }
     ensures outside { IfNone result (file_length < at + count) }
@@ -197,7 +197,7 @@ fn place_of(at: u64, count: usize, file_length: usize) -> Option<usize>
     if end <= file_length { Some(at) } else { None }
 }
 
-/// The place as an index, where so many bytes have one in a file of this length.
+/// Returns the offset as an index if a call of this kind may write `count` bytes there.
 fn place_for(kind: Kind, at: u64, count: usize, length: usize) -> Option<usize>
     ensures offset { IfSome result (λ offset. (offset ≡ at) × IsTrue (has_place kind at count length)) }
     ensures none { IfNone result (has_place kind at count length ≡ false) }
@@ -216,7 +216,7 @@ fn place_for(kind: Kind, at: u64, count: usize, length: usize) -> Option<usize>
     }
 }
 
-/// Writes the bytes at their place, where the file has one.
+/// Writes the bytes at offset `at` if a call of this kind may write `count` bytes there.
 fn place_in(
     file: &mut Vec<u8>,
     kind: Kind,
@@ -233,7 +233,7 @@ fn place_in(
     }
 }
 
-/// Writes the bytes over those from `at` on, and behind the end where they reach further.
+/// Overwrites the bytes from offset `at` on and extends the file if necessary.
 fn write_over(file: &mut Vec<u8>, at: usize, bytes: &[u8]) -> Result<(), AllocError>
     requires { at ≤ length file.old.items }
     ensures placed { OnOk result (file.new.items ≡ placed at bytes.now file.old.items) }
@@ -245,7 +245,7 @@ fn write_over(file: &mut Vec<u8>, at: usize, bytes: &[u8]) -> Result<(), AllocEr
     Ok(())
 }
 
-/// Writes the bytes over those from `at` on.
+/// Overwrites the bytes from offset `at` on.
 fn copy_over(file: &mut [u8], at: usize, bytes: &[u8])
     requires { at + length bytes.now ≤ length file.old }
     ensures { file.new ≡ placed at bytes.now file.old }
@@ -253,7 +253,7 @@ fn copy_over(file: &mut [u8], at: usize, bytes: &[u8])
     file[at..at + bytes.len()].copy_from_slice(bytes);
 }
 
-/// The bytes as written up to the first `kept`, and `fill` from there on.
+/// Returns the bytes with all after the first `kept` replaced by `fill`.
 fn spoilt(alloc: Global, bytes: &[u8], kept: u64, fill: u8) -> Result<Vec<u8>, AllocError>
     ensures { IfOk result (λ spoilt. spoilt.items ≡ spoilt_by kept fill bytes.now) }
 {

@@ -1,4 +1,4 @@
-// Files with the calls that made them.
+// Files with the calls that changed them.
 ghost use Rattle.std.specs.Prelude.{◌≡◌, ℕ, None, List, [], IfOk, OnOk, OnErr, map};
 ghost use Rattle.shelf.specs.Files.{files_of};
 ghost use Rattle.shelf.specs.History.{History, crashed, history_by, note_of, noted, replayed};
@@ -8,21 +8,21 @@ use super::files::NamedFiles;
 use std::alloc::{AllocError, Global};
 use std::collections::VecDeque;
 
-/// Files with the calls that made them.
+/// Files with the calls that changed them.
 #[derive(Drop)]
 pub struct Record {
     pub alloc: Global,
-    /// The files that were there first.
+    /// The files before the first call.
     pub start: NamedFiles,
-    /// The files as they are read.
+    /// The files as they are read now.
     pub files: NamedFiles,
-    /// The calls, the newest first.
+    /// The calls, newest first.
     pub calls: VecDeque<Call>,
     ghost same: { (name : List ℕ) → files_of files name ≡ replayed (files_of start) (map note_of calls.items) name },
 }
 
 impl Record {
-    /// No files and no calls.
+    /// Creates a record without files and calls.
     pub fn new(alloc: Global) -> Self
         ensures empty { (name : List ℕ) → files_of result.start name ≡ None }
         ensures none { result.calls.items ≡ [] }
@@ -35,7 +35,7 @@ impl Record {
         }
     }
 
-    /// Does what a call did, and notes it.
+    /// Performs a call and records it. Changes nothing if out of memory.
     pub fn note(&mut self, call: Call) -> Result<(), AllocError>
         ensures noted { OnOk result (history_by (files_of self.new.start) self.new.calls.items
             ≡ noted (note_of call) (history_by (files_of self.old.start) self.old.calls.items)) }
@@ -48,7 +48,7 @@ impl Record {
         Ok(())
     }
 
-    /// The files as a crash leaves them, with no calls.
+    /// Returns the files that a crash leaves, with no calls.
     pub fn after_crash(self, kept: u64, fill: u8) -> Result<Self, AllocError>
         ensures left { IfOk result (λ after. (name : List ℕ) → files_of after.start name
             ≡ crashed kept fill (files_of self.start) (map note_of self.calls.items) name) }

@@ -9,13 +9,13 @@ use super::files::NamedFiles;
 use devices::{Shelf, ShelfFault};
 use std::alloc::{AllocError, Global};
 
-/// Sources in memory.
+/// Source files in memory, whose calls can be made to fail.
 pub struct MemoryShelf {
     files: NamedFiles,
     device: Device,
 }
 
-// Written out, so that it is one call where a shelf is dropped.
+// Written out so that dropping a shelf is a single call.
 impl Drop for MemoryShelf {
     fn drop(self) {
         let MemoryShelf { files, device: _ } = self;
@@ -24,7 +24,7 @@ impl Drop for MemoryShelf {
 }
 
 impl MemoryShelf {
-    /// A shelf with no file, whose calls don't fail.
+    /// Creates a shelf without files, whose calls don't fail.
     pub fn new(alloc: Global) -> Self
         ensures empty { (name : List ℕ) → shelf_files result name ≡ None }
         ensures failures { shelf_failures result ≡ 0 }
@@ -36,7 +36,7 @@ impl MemoryShelf {
         }
     }
 
-    /// The same shelf with one file more, or with other bytes in the file of that name.
+    /// Adds a file with these bytes, or replaces its contents. Returns `AllocError` if out of memory.
     pub fn with_file(mut self, name: &str, bytes: &[u8]) -> Result<Self, AllocError>
         ensures file { IfOk result (λ shelf. Changes (IsPut bytes.now) name.now (shelf_files self) (shelf_files
             shelf)) }
@@ -47,7 +47,7 @@ impl MemoryShelf {
         Ok(self)
     }
 
-    /// The same shelf, whose next `from` calls go on as before and whose `count` calls behind those fail.
+    /// Lets the next `from` calls succeed and the `count` calls after them fail.
     pub fn failing(mut self, from: u64, count: u64) -> Self
         ensures files { shelf_files result ≡ shelf_files self }
         ensures failures { shelf_failures result ≡ shelf_failures self }
@@ -57,7 +57,7 @@ impl MemoryShelf {
         self
     }
 
-    /// How often a call has failed.
+    /// Returns the number of failed calls.
     pub fn failures(&self) -> u64
         ensures { result ≡ shelf_failures self.now }
     {
@@ -72,7 +72,7 @@ impl Shelf for MemoryShelf {
 
     ghost failures = { shelf_failures };
 
-    /// It keeps no names.
+    /// No file name is recorded.
     ghost failed_at = { λ _ _. ⊤ };
 
     fn length(&mut self, name: &str) -> Result<u64, ShelfFault> {

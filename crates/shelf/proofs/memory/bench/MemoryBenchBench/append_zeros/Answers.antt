@@ -33,7 +33,7 @@ grown_none n (Some file) new same =
     let none : 0 ≤ n = omega arith in (file, same, ([], none, sym (append-nil file)))
 
 module _ (name text : List ℕ) (old new : MemoryBench) where
-  -- a call that fails and writes nothing
+  -- a call that fails without writing
   untouched : (result : Result ⊤ DeviceFault) → bench_history new ≡ bench_history old → IsErr result
       → HasCause (bench_failures old) (bench_failures new) (IsOk result) (IsErr result)
       → Appends memory name text old new result
