@@ -1,4 +1,4 @@
--- The paths that are known once one more file was named.
+-- Paths known after one more file was named.
 use Rattle.std.proofs.Common.{◌≡◌, ◌∙◌, ◌∷◌, ◌++◌, [], ℕ, List, Bool, true, false, Option, None, Some, String, string_bytes, ap, cond, option_map, refl, sym}
 use Rattle.std.specs.BTreeMap.{BTreeMap, UpdatesBy, get_by_text}
 use Rattle.std.specs.String.{string_cmp}
@@ -14,7 +14,7 @@ use Rattle.std.proofs.lemmas.Slice.Eq.{bytes_eq-Decides}
 use Rattle.list_terms.specs.Names.{Place}
 use Rattle.opening.specs.Paths.{path_among}
 
--- the path of a name among some places, or among one more
+-- the path of a name among locations with one more at the end
 path_further : (name : List ℕ) (places : List Place) (place : Place)
     → path_among name (places ++ place ∷ [])
     ≡ option_or (path_among name places) (cond (bytes_eq place.name name) (Some place.path) None)
@@ -29,7 +29,7 @@ path_further name places place =
     by_first None false = refl
     by_first (Some p) is = refl
 
--- a place whose name is known changes nothing
+-- a location with a known name changes nothing
 pub knows_again : (known : List ℕ → Option (List ℕ)) (places : List Place) (place : Place) (path : List ℕ)
     → ((name : List ℕ) → known name ≡ path_among name places) → known place.name ≡ Some path
     → (name : List ℕ) → known name ≡ path_among name (places ++ place ∷ [])
@@ -53,7 +53,7 @@ knows_again known places place path knows is name =
         by_path (path_among name places) _ (sym (knows name) ∙ ap known (sym same) ∙ is)
     by_name false e = rw e (by_none (path_among name places))
 
--- one more place, whose name is new
+-- a location with a new name adds its path
 pub knows_more : (old new : BTreeMap (String Global) (List ℕ)) (places : List Place) (place : Place)
     → ((name : List ℕ) → get_by_text old name ≡ path_among name places) → get_by_text old place.name ≡ None
     → UpdatesBy string_cmp (λ k. slice_cmp nat_cmp place.name (string_bytes k)) old new (Some place.path)

@@ -1,4 +1,4 @@
--- One more fault behind those told.
+-- Faults reported so far, and one more.
 use Rattle.devices.specs.declared.source.Shelf as source
 use Rattle.std.proofs.Common.{arith, ◌≡◌, ◌∙◌, ◌+◌, ◌<◌, ◌∷◌, ◌++◌, [], ℕ, true, List, Option, None, Some, add-one, ap, length, sym, slice_index_or, subst, map, option_map, refl, take, take-suc}
 use Rattle.std.specs.List.{cons_option}
@@ -29,7 +29,7 @@ one_more_entry binding told events event faults fault before here =
     mapped None = refl
     mapped (Some fault) = refl
 
--- what is told of some sources, and then of others
+-- the faults of some sources and of the sources after them
 pub told_further : (files : Files) (named : List Place) (sources more : List Source) (faults further : List Fault)
     → AreTold files named sources faults → AreTold files (named ++ places_of sources) more further
     → AreTold files named (sources ++ more) (faults ++ further)
@@ -52,19 +52,19 @@ told_further files named (source ∷ sources) more faults further before behind 
     cons_option-append None xs ys = refl
     cons_option-append (Some x) xs ys = refl
 
--- what is told of one source
+-- the fault of one source
 pub told_one : (files : Files) (named : List Place) (events : List Event) (source : Source) (told : Option Fault)
     → is_used events source.number ≡ true → IsToldOf files named source told
     → AreTold files named (used_of events (source ∷ [])) (cons_option told [])
 told_one files named events source told used is = rw used (told, [], refl, is, refl)
 
--- the place that one source names
+-- the location of one used source
 pub named_one : (events : List Event) (source : Source) (place : Place)
     → is_used events source.number ≡ true → place_of_url source.url ≡ Some place
     → places_of (used_of events (source ∷ [])) ≡ place ∷ []
 named_one events source place used is = rw (used, is) refl
 
--- the sources up to one, and that one
+-- the used sources up to and including one more
 pub used_further : (events : List Event) (sources : List Source) (place : ℕ) (source : Source)
     → place < length sources → slice_index_or sources place source ≡ source
     → used_of events (take (place + 1) sources) ≡ used_of events (take place sources) ++ used_of events (source ∷ [])
@@ -73,14 +73,14 @@ used_further events sources place source within there =
     ∙ ap (used_of events) (take-suc sources place source within ∙ ap (λ s. take place sources ++ s ∷ []) there)
     ∙ filter-append (λ s. is_used events s.number) (take place sources) (source ∷ [])
 
--- the places behind those named before
+-- the locations of sources, appended to the earlier ones
 pub named_further : (named : List Place) (sources more : List Source)
     → (named ++ places_of sources) ++ places_of more ≡ named ++ places_of (sources ++ more)
 named_further named sources more =
     append_assoc named (places_of sources) (places_of more)
     ∙ ap (λ places. named ++ places) (sym (filter_map-append (λ s. place_of_url s.url) sources more))
 
--- a store that was read, and then read once more
+-- two reads of a store in sequence are a read
 pub read_on : {S : Type 0} (shelf : source.Ghosts S) {old between new : S} → WasRead shelf old between
     → WasRead shelf between new → WasRead shelf old new
 read_on shelf before after = record {

@@ -1,4 +1,4 @@
--- Which source and which index a fault of binding is about.
+-- The source and the index that a fault of binding is about.
 use Rattle.std.proofs.Common.{◌≡◌, ℕ, List, Ok, refl}
 use Rattle.work_terms.specs.Disk.{Files}
 use Rattle.list_terms.specs.Project.{ListProject}
@@ -26,7 +26,7 @@ opening_first text files project (fault.Entry entry) spelt first = tt
 opening_first text files project (fault.SameName index) spelt first = tt
 opening_first text files project (fault.Media index name media) spelt first = (project, spelt, first)
 
--- a fault of binding comes in the second turn
+-- a fault of binding belongs to stage 2
 pub bound_turn : (told : BindFault) → turn_of (binding.refusal_of told) ≡ 2
 bound_turn (bound.SameName index) = refl
 bound_turn (bound.Media index name NotFound) = refl

@@ -1,4 +1,4 @@
--- In which turn the refusals of a list come.
+-- The stages of the refusals of a list.
 use Rattle.std.proofs.Common.{◌≡◌, ℕ, ◌≤◌, Bool, true, false, List, [], ◌∷◌, Option, None, Some, arith, refl}
 use Rattle.std.specs.Prelude.{IfErr, IfSome, Result, Ok, Err, MatchBool, ⊤, option_map, slice_get, bytes_eq}
 use Rattle.std.proofs.lemmas.Bool.Decides.{nat_tests}
@@ -20,9 +20,9 @@ use Rattle.list_terms.specs.Accepted.{entry_fault, entry_refusal, event_fault, f
 use Rattle.list_terms.specs.Heard.{bound_fault, project_fault}
 use Rattle.list_terms.specs.Text.{text_value}
 
--- ---- the second turn: files
+-- ---- stage 2: files
 
--- a refusal of binding: of a file, before the first write
+-- a refusal of binding is about a file and isn't late
 record IsOfFiles (refusal : Refusal) : Type 0 where
   number : (21 ≤ refusal.number) × (refusal.number ≤ 31)
   early : refusal.late ≡ false
@@ -95,7 +95,7 @@ sources_refusal files events binding (source ∷ sources) =
 files_turn : (refusal : Refusal) → IsOfFiles refusal → turn_of refusal ≡ 2
 files_turn refusal of_files = let number = of_files.number in rw (of_files.early) (grind (arith, nat_tests, number))
 
--- ---- the third turn: entries
+-- ---- stage 3: entries
 
 span_number : (index : BoundIndex) (facts : SoundFacts) (event : Event)
     → IfSome (span_fault index facts event) (λ n. (41 ≤ n) × (n ≤ 46))
@@ -125,13 +125,13 @@ event_turn binding (event ∷ events) =
       either None behind number later = later
       either (Some n) behind number later = grind (arith, nat_tests)
 
--- what is due behind the text comes in the second turn at the earliest
+-- faults after the text belong to stage 2 or later
 bound_turn : (project : ListProject) (bound : Result Binding Refusal) → IfErr bound IsOfFiles
     → IfSome (bound_fault project bound) (λ due. 2 ≤ turn_of due)
 bound_turn project (Ok binding) of_files = event_turn binding project.events
 bound_turn project (Err due) of_files = omega (arith, files_turn due of_files)
 
--- ---- what is due
+-- ---- the expected refusal
 
 turn_positive : (refusal : Refusal) → 1 ≤ turn_of refusal
 turn_positive refusal = grind (arith, nat_tests)
@@ -139,12 +139,12 @@ turn_positive refusal = grind (arith, nat_tests)
 first_turn : (refusal : Refusal) → refusal.number ≤ 18 → refusal.late ≡ false → turn_of refusal ≡ 1
 first_turn refusal few early = rw early (grind (arith, nat_tests, few))
 
--- a refusal of the first turn may come in place of any
+-- a refusal of stage 1 may replace any other
 first_in_turn : (refusal : Refusal) (due : Option Refusal) → turn_of refusal ≡ 1 → ComesInTurn refusal due
 first_in_turn refusal None first = tt
 first_in_turn refusal (Some due) first = rw first (turn_positive due)
 
--- a refusal of the text is due
+-- a refusal of the text is the expected one or may replace it
 pub text_due : (refusal : Refusal) (text : List ℕ) (files : Files) → refusal.number ≤ 18 → refusal.late ≡ false
     → MatchBool (is_excused refusal.number) ⊤ (text_value text ≡ Err refusal) → IsDue refusal (project_fault text files)
 text_due refusal text files few early told = by_excuse (is_excused refusal.number) refl where
@@ -152,7 +152,7 @@ text_due refusal text files few early told = by_excuse (is_excused refusal.numbe
   by_excuse true is = rw is (first_in_turn refusal (project_fault text files) (first_turn refusal few early))
   by_excuse false is = let known = rw is at told in rw (is, known) refl
 
--- an excused refusal of binding comes in turn
+-- an excused refusal of binding may replace the expected one
 pub files_due : (refusal : Refusal) (project : ListProject) (text : List ℕ) (files : Files)
     → text_value text ≡ Ok project → turn_of refusal ≡ 2
     → MatchBool (is_excused refusal.number) ⊤ (binding_of project files ≡ Err refusal)

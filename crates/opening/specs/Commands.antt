@@ -1,4 +1,4 @@
--- What a call that opens a list answers, and what it leaves of the sources.
+-- Results of a call that opens a list, and its effect on the sources.
 use Rattle.std.specs.Prelude.{◌≡◌, ℕ, List, Result, Err, Some, IfErr, IsOk, length, ◌++◌}
 use Rattle.devices.specs.declared.source.Shelf as source
 use Rattle.devices.specs.Frame.{OnlyReads}
@@ -14,29 +14,29 @@ use Rattle.opening.specs.Faults.{refusal_of}
 use Rattle.opening.specs.declared.fault.Fault.{Fault}
 use Rattle.opening.specs.declared.accepted_list.Accepted as declared
 
--- the place names a file of which this holds
+-- P holds of the name of the file at this location
 abbrev pub HoldsOfFile : (List ℕ → Type 0) → Where → Type 0
 HoldsOfFile P (IndexFile index name) = P name
 HoldsOfFile P (File name) = P name
 HoldsOfFile P _ = ⊥
 
--- a call that only reads sources: 22 tells that their device failed, at the file that is named
+-- The call only reads sources. Refusal 22 means that the device failed on the named file.
 abbrev pub ReadsSources : {S X : Type 0} → source.Ghosts S → S → S → Result X Fault → Type 0
 ReadsSources shelf old new result =
     OnlyReads shelf old new result (λ fault. (refusal_of fault).number ≡ 22)
     (λ fault failed. HoldsOfFile failed (refusal_of fault).location)
 
--- a text with a fault is refused, whatever the files are
+-- an invalid list text is refused, whatever the files contain
 abbrev pub RefusesBadText : {X : Type 0} → List ℕ → Result X Fault → Type 0
 RefusesBadText text result =
     (refusal : Refusal) → text_value text ≡ Err refusal
     → IfErr result (λ fault. IsDue (refusal_of fault) (Some refusal)) × (IsOk result → ⊥)
 
--- the notices of a list, and then those of its files
+-- the notices of the list, followed by the notices of its files
 abbrev pub all_notices : ListProject → Binding → List Notice
 all_notices project binding = project.notices ++ binding.notices
 
--- what is told of an accepted list: all its notices, and how many entries and bound indexes it has
+-- report of an accepted list: all its notices and the numbers of entries and bound indexes
 pub record Reports (text : List ℕ) (files : Files) (told : declared.Accepted) : Type 0 where
   pub project : ListProject
   pub binding : Binding

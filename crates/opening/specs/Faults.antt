@@ -1,4 +1,4 @@
--- The number and the place of each fault.
+-- Number and location of each fault.
 use Rattle.std.specs.Prelude.{◌≡◌, false}
 use Rattle.work_terms.specs.Refusals.{Refusal, Index}
 use Rattle.riff.specs.Fault as media
@@ -15,6 +15,6 @@ refusal_of (fault.Media index name fault) =
     record { number = media.number_of fault; location = file_at index name; late = false }
 refusal_of (fault.Entry fault) = entry.refusal_of fault
 
--- it comes before anything is written
+-- the fault is found before anything is written
 abbrev pub IsEarly : Fault → Type 0
 IsEarly fault = (refusal_of fault).late ≡ false

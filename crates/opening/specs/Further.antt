@@ -1,4 +1,4 @@
--- What else is at fault in a list that is refused.
+-- Further faults of a refused list.
 use Rattle.std.specs.Prelude.{◌≡◌, ◌≤◌, ◌<◌, ◌^◌, ◌+◌, ◌-◌, ◌==◌, ◌⊎◌, ℕ, IsTrue, List, [], ◌∷◌, ◌++◌, Option, None, Some, Result, Ok, Err, if◌then◌else◌, drop, length, map, option_map, position, take, unwrap_or, ⊤}
 use Rattle.std.specs.List.{cons_option, filter, filter_map}
 use Rattle.sound_terms.specs.declared.Event.{Event}
@@ -28,7 +28,7 @@ use Rattle.opening.specs.declared.further.untold.Untold.TheVariants as untold
 use Rattle.opening.specs.declared.further.paths.Naming.{Naming}
 use Rattle.opening.specs.declared.further.paths.Naming.TheVariants.{First, Again, ByOtherPath}
 
--- what is wrong with an entry by itself, unless it is the one of this number
+-- fault of a single entry, unless it is the entry with this number
 abbrev pub fault_beside : Binding → ℕ → Event → Option Refusal
 fault_beside binding told event =
     if event.number == told then None else option_map (entry_refusal event) (entry_fault binding event)
@@ -36,78 +36,78 @@ fault_beside binding told event =
 abbrev pub faults_beside : Binding → ℕ → List Event → List Refusal
 faults_beside binding told = filter_map (fault_beside binding told)
 
--- the places that these sources name
+-- locations of the files of the sources
 abbrev pub places_of : List Source → List Place
 places_of sources = filter_map (λ source. place_of_url source.url) sources
 
--- those of these sources that an entry names
+-- the sources that an entry uses
 abbrev pub used_of : List Event → List Source → List Source
 used_of events sources = filter (λ source. is_used events source.number) sources
 
--- what is wrong with a file by itself
+-- fault of a single file
 abbrev pub fault_of_file : Source → Result SoundFacts MediaFault → Option Refusal
 fault_of_file source (Ok facts) = None
 fault_of_file source (Err of) = Some (refusal_of_source source (of_source.Media of))
 
--- the same where its name is new; 30 where it was named by another path before
+-- fault of a file named for the first time; 30 if an earlier source named it by another path
 abbrev pub fault_of_name : Files → Source → Place → Naming → Option Refusal
 fault_of_name files source place First = fault_of_file source (sound_of_file place.name (files place.name))
 fault_of_name files source place Again = None
 fault_of_name files source place ByOtherPath = Some (refusal_of (fault.SameName source.number))
 
--- what is wrong with the file of a source, where these places were named before
+-- fault of the file of a source, given the locations of the earlier sources
 abbrev pub fault_behind : Files → List Place → Source → Option Place → Option Refusal
 fault_behind files named source None = None
 fault_behind files named source (Some place) =
     fault_of_name files source place (naming_of (path_among place.name named) place.path)
 
--- the device of the source failed
+-- the fault reports a device failure for the source
 abbrev pub IsDeviceOf : Source → Option Fault → Type 0
 IsDeviceOf source (Some (fault.Media index name of)) =
     (file_at index name ≡ IndexFile source.number (name_of_source source)) × IsTrue (is_device (media.number_of of))
 IsDeviceOf source _ = ⊥
 
--- this is told of the file of a source at this place
+-- a fault that may be reported for the file of a source at this location
 abbrev pub IsFileTold : Files → Source → Place → Option Fault → Type 0
 IsFileTold files source place told =
     (option_map refusal_of told ≡ fault_of_file source (sound_of_file place.name (files place.name)))
     ⊎ IsDeviceOf source told
 
--- this is told of a source: what is wrong with its file, or that its device failed
+-- a fault that may be reported for a source: the fault of its file, or a device failure
 abbrev pub IsToldOf : Files → List Place → Source → Option Fault → Type 0
 IsToldOf files named source told =
     (option_map refusal_of told ≡ fault_behind files named source (place_of_url source.url)) ⊎ IsDeviceOf source told
 
--- these are told of all these sources, in their order, where these places were named before
+-- the faults that may be reported for these sources, in order, given the locations of the earlier sources
 abbrev pub AreTold : Files → List Place → List Source → List Fault → Type 0
 AreTold files named [] faults = faults ≡ []
 AreTold files named (source ∷ behind) faults =
     (told : Option Fault) × (rest : List Fault) × (faults ≡ cons_option told rest)
     × IsToldOf files named source told × AreTold files (named ++ places_of (source ∷ [])) behind rest
 
--- how many sources there are up to the one of this number; all of them where there is none
+-- number of sources up to and including the one with this number, or of all sources if there is none
 abbrev pub count_up_to : ℕ → List Source → ℕ
 count_up_to number sources =
     unwrap_or (option_map (λ place. place + 1) (position (λ source. source.number == number) sources)) (length sources)
 
--- the faults of the files that used sources behind the one of this number name, each file once
+-- faults of the files of the used sources after the source with this number, each file once
 abbrev pub AreOfFiles : ListProject → Files → ℕ → List Fault → Type 0
 AreOfFiles project files number faults =
     let count = count_up_to number project.sources in
     AreTold files (places_of (used_of project.events (take count project.sources)))
     (used_of project.events (drop count project.sources)) faults
 
--- the faults of all entries of a bound project but of the one of this number
+-- faults of all entries of a bound project except the entry with this number
 abbrev pub AreOfEntries : ListProject → Files → ℕ → List Fault → Type 0
 AreOfEntries project files told faults =
     (binding : Binding) × (binding_of project files ≡ Ok binding)
     × (map refusal_of faults ≡ faults_beside binding told project.events)
 
--- the first of all these faults are told, so many at most, and how many more there are
+-- the first `most` faults, and the number of the others
 abbrev pub IsCut : (most : ℕ) → List Fault → Further → Type 0
 IsCut most all further = (further.faults.items ≡ take most all) × (further.more ≡ length all - most)
 
--- all further faults of the text, the files or the entries, by the first of them
+-- all faults of the same stage as the first fault: text, files or entries
 abbrev pub AreAll : List ℕ → Files → Fault → List Fault → Type 0
 AreAll text files (fault.List first) all = all ≡ []
 AreAll text files (fault.SameName index) all = OfText text (λ project. AreOfFiles project files index all)
@@ -117,27 +117,27 @@ AreAll text files (fault.Entry first) all = OfText text (λ project. AreOfEntrie
 abbrev pub AreFurther : (most : ℕ) → List ℕ → Files → Fault → Further → Type 0
 AreFurther most text files first further = (all : List Fault) × AreAll text files first all × IsCut most all further
 
--- a store was only read: its files and its honesty are as they were, and no failure is forgotten
+-- effect of reading a store: files and honesty are unchanged, and no recorded failure is lost
 pub record WasRead {S : Type 0} (shelf : source.Ghosts S) (old new : S) : Type 0 where
   pub same : shelf.stored new ≡ shelf.stored old
   pub honest_same : shelf.honest new ≡ shelf.honest old
   pub later : shelf.failures old ≤ shelf.failures new
   pub keeps : (n : List ℕ) → shelf.failed_at old n → shelf.failed_at new n
 
--- the text, or a file that it names, is at fault
+-- the text or one of its files is invalid
 abbrev pub IsUnbound : List ℕ → Files → Type 0
 IsUnbound text files =
     ((refusal : Refusal) × (text_value text ≡ Err refusal))
     ⊎ OfText text (λ project. (refusal : Refusal) × (binding_of project files ≡ Err refusal))
 
--- why a list isn't read again: no memory was left, or its text is at fault
+-- reasons why the list can't be read again: out of memory, or an invalid text
 abbrev pub IsUnread : List ℕ → Untold → Type 0
 IsUnread text untold.Memory = ⊤
 IsUnread text untold.Device = ⊥
 IsUnread text untold.NotFirst = (refusal : Refusal) × (text_value text ≡ Err refusal)
 
--- why further faults aren't told: no memory was left, the device failed and counted that, or before each entry something
--- else is at fault
+-- reasons for missing further faults: out of memory, a device failure, which is counted, or a fault of an earlier stage
+-- than the entries
 abbrev pub HasReason : {S : Type 0} → source.Ghosts S → List ℕ → S → S → Untold → Type 0
 HasReason shelf text old new untold.Memory = ⊤
 HasReason shelf text old new untold.Device = shelf.failures old + 1 < 2 ^ 64 → shelf.failures old < shelf.failures new

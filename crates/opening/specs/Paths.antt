@@ -1,4 +1,4 @@
--- How a file is named, beside the path by which it was named before.
+-- Naming of a file, compared with the path by which it was named before.
 use Rattle.std.specs.Prelude.{◌≡◌, ℕ, List, Option, None, Some, bytes_eq, if◌then◌else◌, option_map}
 use Rattle.std.specs.BTreeMap.{get_by_text}
 use Rattle.std.specs.List.{find}
@@ -7,11 +7,11 @@ use Rattle.opening.specs.declared.further.paths.Naming.{Naming}
 use Rattle.opening.specs.declared.further.paths.Paths.{Paths}
 use Rattle.opening.specs.declared.further.paths.Naming.TheVariants.{First, Again, ByOtherPath}
 
--- the path of the first of these places whose file has this name
+-- path of the first location with this file name
 abbrev pub path_among : List ℕ → List Place → Option (List ℕ)
 path_among name places = option_map (λ place. place.path) (find (λ place. bytes_eq place.name name) places)
 
--- just the paths of these places are known, by the names of their files
+-- the known paths are those of these locations, by file name
 abbrev pub Knows : Paths → List Place → Type 0
 Knows paths places = (name : List ℕ) → get_by_text paths.paths name ≡ path_among name places
 

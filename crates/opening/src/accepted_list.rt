@@ -1,4 +1,4 @@
-// A list that is accepted, and what is reported of it.
+// Accepted lists and the report of them.
 ghost use Rattle.std.specs.Prelude.{◌≡◌, ◌++◌, Ok, IsTrue, IfOk, IfErr, length};
 ghost use Rattle.work_terms.specs.Refusals.{Answers};
 ghost use Rattle.list_terms.specs.Heard.{IsAccepted, project_fault};
@@ -16,7 +16,7 @@ use list_terms::Notice;
 use projectcheck::Checked;
 use std::alloc::{AllocError, Global};
 
-/// What is reported of a list that is accepted: its notices, and how many entries and bound indexes it has.
+/// The report of an accepted list: its notices and the numbers of entries and bound indexes.
 #[derive(Debug, Drop)]
 pub struct Accepted {
     pub notices: Vec<Notice>,
@@ -24,14 +24,14 @@ pub struct Accepted {
     pub indexes: u32,
 }
 
-/// A project without a fault, and what its user should know of it: the notices of its list, and then those of its files.
+/// A project without faults, and the notices of its list followed by the notices of its files.
 #[derive(Drop)]
 pub struct Opened {
     pub checked: Checked,
     pub notices: Vec<Notice>,
 }
 
-/// An accepted list: what is reported of it, and its project.
+/// An accepted list: its report and its project.
 #[derive(Drop)]
 pub struct AcceptedList {
     pub accepted: Accepted,
@@ -39,7 +39,7 @@ pub struct AcceptedList {
 }
 
 impl Opened {
-    /// What is reported of the project, beside it.
+    /// Separates the project from its report.
     pub fn into_accepted(self) -> AcceptedList
         ensures same { result.checked ≡ self.checked }
         ensures notices { result.accepted.notices ≡ self.notices }
@@ -58,7 +58,7 @@ impl Opened {
     }
 }
 
-/// The notices of a list, and then those of its files.
+/// Returns the notices of the list, followed by the notices of its files.
 fn notices_of(alloc: Global, checked: &Checked) -> Result<Vec<Notice>, AllocError>
     ensures { IfOk result (λ notices. notices.items ≡ checked.now.project.notices ++ checked.now.bound.notices) }
 {
@@ -67,8 +67,9 @@ fn notices_of(alloc: Global, checked: &Checked) -> Result<Vec<Notice>, AllocErro
     Ok(notices)
 }
 
-/// Opens the project of a list over the sources of a shelf, with its notices. The refusals are those of `open_project`,
-/// and 18 where no memory was left for the notices.
+/// Opens the project of a list over the sources of a shelf, with its notices.
+///
+/// Returns the errors of `open_project`, and 18 if there is no memory for the notices.
 pub fn open_list<S: Shelf>(alloc: Global, list: &[u8], shelf: &mut S) -> Result<Opened, Fault>
     ensures accepted { IsTrue (S.honest shelf.old)
         → IfOk result (λ opened. IsAccepted list.now (S.stored shelf.old) opened.checked.project opened.checked.bound) }

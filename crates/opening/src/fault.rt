@@ -1,4 +1,4 @@
-// Why a list isn't accepted.
+// Reasons to refuse a list.
 ghost use Rattle.std.specs.Prelude.{◌≡◌};
 ghost use Rattle.opening.specs.Faults.{refusal_of};
 
@@ -7,32 +7,33 @@ use projectcheck::EventFault;
 use thiserror::Error;
 use wavread::MediaFault;
 
-/// Why a list isn't accepted over the files that are there, in the order in which its stages come.
+/// The reason why a list isn't accepted with these files, in the order in which they are checked.
 #[derive(Debug, Drop, Error)]
 pub enum Fault {
-    /// The text of the list: 1 to 18.
+    /// An invalid list text: 1 to 18.
     #[error("{0}")]
     List(AdlFault),
-    /// 30: another path names the file of this index in an earlier one.
+    /// 30: a source with an earlier index names this file by another path.
     #[error("index {index}: another path names its file")]
     SameName {
         index: u32,
     },
-    /// The file of an index, of this media name: 21 to 29, and 31 where no memory was left to bind the index, be it for
-    /// the name, which is `None` then alone.
+    /// An unusable source file: 21 to 29, or 31 if out of memory while binding the index.
+    ///
+    /// `name` is the file name; it is `None` only if there was no memory for it.
     #[error("index {index}: {fault}")]
     Media {
         index: u32,
         name: Option<String>,
         fault: MediaFault,
     },
-    /// An entry: 41 to 44, or 46.
+    /// An invalid entry: 41 to 44, or 46.
     #[error("{0}")]
     Entry(EventFault),
 }
 
 impl Fault {
-    /// The number of the refusal.
+    /// Returns the number of the refusal.
     pub fn number(&self) -> u8
         ensures { result ≡ (refusal_of self.now).number }
     {

@@ -1,4 +1,4 @@
-// What else is at fault in a list that is refused: the faults of the stage of the first one that don't hang on it.
+// Further faults of a refused list: the faults of the same stage that don't depend on the first one.
 ghost use Rattle.std.specs.Prelude.{◌≡◌, ◌≤◌, ℕ, IfErr, IfOk, IsTrue, List, Ok, length};
 ghost use Rattle.list_terms.specs.Bound.{binding_of};
 ghost use Rattle.list_terms.specs.Text.{text_value};
@@ -19,8 +19,7 @@ use sourceindex::{Bound, bind};
 use std::alloc::{AllocError, Global};
 pub use untold::Untold;
 
-/// The further faults of a list: so many at most, in the order in which they would be told, and how many more there
-/// are.
+/// The further faults of a list, up to a limit and in the order of checking, and the number of the others.
 #[derive(Debug, Drop)]
 pub struct Further {
     pub faults: Vec<Fault>,
@@ -28,7 +27,7 @@ pub struct Further {
 }
 
 impl Further {
-    /// The first of all these faults, at most so many, and how many more there are.
+    /// Keeps the first `most` faults and counts the others.
     fn of(all: Vec<Fault>, most: usize) -> Further
         ensures cut { IsCut most all.items result }
         ensures few { length result.faults.items ≤ most }
@@ -40,10 +39,12 @@ impl Further {
     }
 }
 
-/// What else is at fault in a list that is refused over these sources, by its first fault: so many faults at most, and
-/// how many more there are. Behind a fault of the text there is nothing. Behind that of a file, the files that later
-/// used indexes name are opened, each by itself and once. Beside that of an entry, each other entry is looked at by
-/// itself. Where they can't be told, no memory was left, the device failed, or that fault isn't the first one.
+/// Finds up to `most` further faults of a list that was refused with the fault `first`, and counts the others.
+///
+/// After a fault of the text there are none. After a fault of a file, the files of the later used indexes are opened,
+/// each once and independently. After a fault of an entry, each other entry is checked independently.
+///
+/// Returns an error if out of memory, if the device fails, or if `first` isn't the first fault.
 pub fn further_faults<S: Shelf>(
     alloc: Global,
     list: &[u8],
@@ -61,7 +62,7 @@ pub fn further_faults<S: Shelf>(
     Ok(Further::of(all, most))
 }
 
-/// All further faults behind the first one.
+/// Returns all further faults.
 fn all_faults<S: Shelf>(
     alloc: Global,
     list: &[u8],
@@ -107,7 +108,7 @@ fn bind_again<S: Shelf>(alloc: Global, project: &Project, shelf: &mut S) -> Resu
     }
 }
 
-/// All faults of the files behind those of this index.
+/// Returns the faults of all files after the file of this index.
 fn behind_file<S: Shelf>(
     alloc: Global,
     list: &[u8],
@@ -125,7 +126,7 @@ fn behind_file<S: Shelf>(
     Ok(faults)
 }
 
-/// All faults of entries but of that of this number.
+/// Returns the faults of all entries except the one with this number.
 fn beside_entry<S: Shelf>(
     alloc: Global,
     list: &[u8],

@@ -1,4 +1,4 @@
-// Opens the project of a list.
+// Opening of the project of a list.
 ghost use Rattle.std.specs.Prelude.{◌≡◌, ◌≤◌, Err, Ok, IsTrue, IfOk, IfErr, MatchBool, ⊤};
 ghost use Rattle.work_terms.specs.Disk.{Files};
 ghost use Rattle.work_terms.specs.Refusals.{Answers, is_excused, turn_of};
@@ -22,7 +22,6 @@ use projectcheck::{Checked, check};
 use sourceindex::{BindFault, Bound, bind};
 use std::alloc::Global;
 
-/// Reads the list.
 fn read_list(alloc: Global, list: &[u8]) -> Result<Project, Fault>
     ensures spelt { IfOk result (IsTextOf list.now) }
     ensures spelled { IfOk result (Spells list.now) }
@@ -39,7 +38,7 @@ fn read_list(alloc: Global, list: &[u8]) -> Result<Project, Fault>
     }
 }
 
-/// The fault of a project that isn't bound.
+/// Converts a fault of binding.
 fn told_of(fault: BindFault) -> Fault
     ensures refusal { refusal_of result ≡ binding.refusal_of fault }
     ensures own { (project : ListProject) → IsOfProject project fault → IsOfBinding project result }
@@ -52,7 +51,6 @@ fn told_of(fault: BindFault) -> Fault
     }
 }
 
-/// Binds the used indexes of a project.
 fn bind_project<S: Shelf>(
     alloc: Global,
     project: Project,
@@ -75,8 +73,10 @@ fn bind_project<S: Shelf>(
     }
 }
 
-/// Reads the list, binds its used indexes, and checks its entries: the first fault of the text, then of a file in the
-/// order of the source index, then of an entry in the order of the list.
+/// Reads the list, binds the indexes that its entries use, and checks the entries.
+///
+/// Returns the first fault of the text, else of a file, in the order of the source index, else of an entry, in the
+/// order of the list.
 pub fn open_project<S: Shelf>(alloc: Global, list: &[u8], shelf: &mut S) -> Result<Checked, Fault>
     ensures accepted { IsTrue (S.honest shelf.old)
         → IfOk result (λ checked. IsAccepted list.now (S.stored shelf.old) checked.project checked.bound) }

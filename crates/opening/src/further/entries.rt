@@ -1,4 +1,4 @@
-// The faults of entries, each by itself.
+// Faults of entries, each checked independently.
 ghost use Rattle.std.specs.Prelude.{◌≡◌, IfOk, map, option_map};
 ghost use Rattle.opening.specs.Faults.{refusal_of};
 ghost use Rattle.opening.specs.Further.{fault_beside, faults_beside};
@@ -9,7 +9,7 @@ use sound_terms::Event;
 use sourceindex::Bound;
 use std::alloc::{AllocError, Global};
 
-/// What is wrong with an entry, unless it is the one of this number, which is told.
+/// Returns the fault of an entry, unless it is the entry already reported.
 fn entry_fault(bound: &Bound, event: &Event, reported: u32) -> Option<Fault>
     ensures { option_map refusal_of result ≡ fault_beside bound.now reported event.now }
 {
@@ -23,7 +23,7 @@ fn entry_fault(bound: &Bound, event: &Event, reported: u32) -> Option<Fault>
     }))
 }
 
-/// What is wrong with each of these entries but the one of this number, in their order.
+/// Returns the faults of these entries in order, without the entry already reported.
 pub fn entry_faults(
     alloc: Global,
     bound: &Bound,

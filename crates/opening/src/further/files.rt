@@ -1,4 +1,4 @@
-// The faults of files, each by itself.
+// Faults of source files, each checked independently.
 ghost use Rattle.std.specs.Prelude.{◌≡◌, ◌≤◌, ◌==◌, ◌∷◌, ◌++◌, [], List, IfOk, IsTrue, OnOk, Some, length, position};
 ghost use Rattle.std.specs.List.{cons_option};
 ghost use Rattle.list_terms.specs.Names as names;
@@ -15,7 +15,7 @@ use sourceindex::UsedNumbers;
 use std::alloc::{AllocError, Global};
 use wavread::{MediaFault, open};
 
-/// What is wrong with the file of this source, which lies at this place.
+/// Returns the fault of the file of this source, at this location.
 fn file_fault<S: Shelf>(
     alloc: Global,
     source: &Source,
@@ -38,7 +38,7 @@ fn file_fault<S: Shelf>(
     }
 }
 
-/// What is wrong with the file that this source names, where an entry names the source; and notes it.
+/// Returns the fault of the file of this source and records its path. Ignores a source that no entry uses.
 fn source_fault<S: Shelf>(
     alloc: Global,
     used: &UsedNumbers,
@@ -68,7 +68,7 @@ fn source_fault<S: Shelf>(
     }
 }
 
-/// Notes the file that this source names, where an entry names the source.
+/// Records the path of the file of this source. Ignores a source that no entry uses.
 fn note_file(
     alloc: Global,
     used: &UsedNumbers,
@@ -87,7 +87,7 @@ fn note_file(
     Ok(())
 }
 
-/// Notes the files that the used ones of these sources name.
+/// Records the paths of the files of the used sources.
 fn note_files(
     alloc: Global,
     used: &UsedNumbers,
@@ -103,7 +103,7 @@ fn note_files(
     Ok(())
 }
 
-/// What is wrong with the files that the used ones of these sources name, each file once.
+/// Returns the faults of the files of the used sources, each file once.
 fn tell_files<S: Shelf>(
     alloc: Global,
     used: &UsedNumbers,
@@ -124,14 +124,14 @@ fn tell_files<S: Shelf>(
     Ok(faults)
 }
 
-/// The place of the source of this number.
+/// Returns the position of the source with this number.
 fn place_of_number(sources: &[Source], number: u32) -> Option<usize>
     ensures { result ≡ position (λ source. source.number == number) sources.now }
 {
     sources.iter().position(|source| source.number() == number)
 }
 
-/// How many sources there are up to the one of this number; all of them where there is none.
+/// Returns the number of sources up to and including the one with this number, or of all sources if there is none.
 fn count_up_to(sources: &[Source], number: u32) -> usize
     ensures count { result ≡ spec.count_up_to number sources.now }
     ensures within { result ≤ length sources.now }
@@ -142,8 +142,8 @@ fn count_up_to(sources: &[Source], number: u32) -> usize
     }
 }
 
-/// What is wrong with the files that used indexes behind this one name, each file once, in the order of the source
-/// index.
+/// Returns the faults of the files of the used indexes after the index already reported, each file once, in the order
+/// of the source index.
 pub fn file_faults<S: Shelf>(
     alloc: Global,
     project: &Project,

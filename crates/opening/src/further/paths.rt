@@ -1,4 +1,4 @@
-// By which paths files are named.
+// Paths by which files are named.
 ghost use Rattle.std.specs.Prelude.{◌≡◌, ◌∷◌, ◌++◌, [], List, IfOk, OnOk};
 ghost use Rattle.list_terms.specs.Names as names;
 ghost use Rattle.opening.specs.Paths.{Knows, naming_of, path_among};
@@ -7,7 +7,7 @@ use adlmodel::{Bytes, Place};
 use std::alloc::{AllocError, Global};
 use std::collections::BTreeMap;
 
-/// How a file is named, beside how it was named before.
+/// Naming of a file, compared with the path by which it was named before.
 #[derive(Clone, Copy, Debug, PartialEq, Eq)]
 pub enum Naming {
     First,
@@ -15,14 +15,14 @@ pub enum Naming {
     ByOtherPath,
 }
 
-/// The path by which each file was named first, by the name of the file.
+/// The path by which each file was first named, by file name.
 #[derive(Drop)]
 pub struct Paths {
     paths: BTreeMap<String, Bytes>,
 }
 
 impl Paths {
-    /// No file was named.
+    /// Creates an empty map.
     pub fn new(alloc: Global) -> Self
         ensures { Knows result [] }
     {
@@ -31,7 +31,7 @@ impl Paths {
         }
     }
 
-    /// Notes that the file at this place is named, and tells whether it was named before, and by this path.
+    /// Records the path of the file at this location, and returns how it was named before.
     pub fn note(&mut self, alloc: Global, location: &Place) -> Result<Naming, AllocError>
         ensures naming { (places : List names.Place) → Knows self.old places → IfOk result (λ naming. naming
             ≡ naming_of (path_among location.now.name places) location.now.path) }

@@ -1,4 +1,4 @@
-// Why the further faults of a list can't be told.
+// Reasons for missing further faults.
 ghost use Rattle.std.specs.Prelude.{◌≡◌, false};
 ghost use Rattle.work_terms.specs.Refusals.{is_excused};
 ghost use Rattle.sourceindex.specs.Fault as binding;
@@ -9,23 +9,22 @@ use std::alloc::AllocError;
 use thiserror::Error;
 use wavread::MediaFault;
 
-/// Why the further faults of a list can't be told.
+/// The reason why the further faults of a list can't be reported.
 #[derive(Clone, Copy, Debug, PartialEq, Eq, Error)]
 pub enum Untold {
-    /// No memory was left.
+    /// Out of memory.
     #[error("out of memory for the further faults of the list")]
     Memory,
-    /// The device of the sources failed, which it counts, when they were bound again.
+    /// The device of the sources failed when they were bound again. The failure is counted.
     #[error("the device failed when the sources were read again")]
     Device,
-    /// The fault that is told isn't the first one of this list over these sources: before each entry its text or a file
-    /// is at fault.
+    /// The reported fault isn't the first one: the text or a file is invalid, but the fault is of an entry.
     #[error("the text of the list or a file is at fault before the entries")]
     NotFirst,
 }
 
 impl Untold {
-    /// Why nothing is told behind this fault of binding.
+    /// Returns the reason that corresponds to a fault of binding.
     pub fn of(fault: BindFault) -> Untold
         ensures device { result ≡ Untold.Device
             → (binding.refusal_of fault).number ≡ 22 }

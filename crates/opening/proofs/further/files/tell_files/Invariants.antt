@@ -4,7 +4,7 @@ use Rattle.opening.specs.Further.{AreTold, WasRead, places_of, used_of}
 use Rattle.opening.specs.Paths.{Knows}
 use Rattle.opening.proofs.further.files.tell_files.Given as goal
 
--- what is wrong with the files of the sources so far is told, and these are noted; the store was only read
+-- the faults of the sources so far are reported, their paths are recorded, and the store was only read
 pub record IsWalked (Read Told Noted : Type 0) : Type 0 where
   pub read : Read
   pub reported : Told
