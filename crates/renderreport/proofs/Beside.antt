@@ -1,10 +1,10 @@
--- What a crash leaves of all other files, call after call.
+-- Outcomes of a crash for all other files, over several calls.
 use Rattle.std.proofs.Common.{◌∙◌, ℕ, List, Option, refl, sym, inl, inr, arith}
 use Rattle.work_terms.specs.Disk.{Changes, Elapses, Files, Follows, IsBeside, LeavesOthers}
 use Rattle.devices.specs.declared.bench.Bench as bench
 
 module _ {B : Type 0} (g : bench.Ghosts B) (name : List ℕ) where
-  -- a call that changes this file
+  -- a call that changes only this file
   pub one_call : {step : Option (List ℕ) → Option (List ℕ) → Type 0} {old new : B}
       → ((c : Files) → g.left_since old (g.moment old) c → g.may_leave old c)
       → Elapses (g.moment old) (g.moment new) (g.left_since old) (g.left_since new) (g.may_leave new)

@@ -1,4 +1,4 @@
--- A file, hashed piece by piece.
+-- A file hashed in pieces.
 use Rattle.std.proofs.Common.{◌≡◌, ◌∙◌, ◌+◌, ◌++◌, [], ℕ, List, Option, ap, drop, length, subst, sym, take}
 use Rattle.std.specs.Prelude.{unwrap_or}
 use Rattle.std.proofs.Math.Seq.{take-add}
@@ -6,7 +6,7 @@ use Rattle.sha2.specs.declared.Sha256.{Sha256}
 use Rattle.sha2.specs.Hashers.{Holds256}
 use Rattle.work_terms.specs.Disk.{IsRange}
 
--- the bytes of a file up to a piece, and the piece
+-- a hashed prefix of the file, extended by a piece
 pub one_more : (stored : Option (List ℕ)) (at count : ℕ) (bytes : List ℕ) (hasher : Sha256) → IsRange stored at bytes
     → length bytes ≡ count → Holds256 hasher (take at (unwrap_or stored []) ++ bytes)
     → Holds256 hasher (take (at + count) (unwrap_or stored []))

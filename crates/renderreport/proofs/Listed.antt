@@ -1,15 +1,15 @@
--- Numbers with commas between them, one more at the end and any behind it.
+-- Numbers separated by commas, extended by one more or by any others.
 use Rattle.std.proofs.Common.{◌≡◌, ◌∙◌, ◌+◌, ◌++◌, ◌∷◌, [], Bool, true, false, ◌||◌, ℕ, zero, suc, List, add-one, ap, append_assoc, append-nil, if◌then◌else◌, refl, sym, arith}
 use native.Mathlib.Numerals.{unary_clauses}
 use Rattle.renderreport.specs.Parts.{channel_text, item_text, listed, listed_behind}
 use Rattle.renderreport.specs.Report.{channels_to, is_marked}
 
--- there is one
+-- the list isn't empty
 abbrev pub is_some_listed : List ℕ → Bool
 is_some_listed [] = false
 is_some_listed (n ∷ ns) = true
 
--- numbers behind others
+-- a list of numbers followed by others
 pub both : (later : Bool) (xs ys : List ℕ)
     → listed_behind later (xs ++ ys) ≡ listed_behind later xs ++ listed_behind (later || is_some_listed xs) ys
 both true [] ys = refl
@@ -21,7 +21,7 @@ both false (x ∷ xs) ys =
     ap (λ (text : List ℕ). item_text false x ++ text) (both true xs ys)
     ∙ sym (append_assoc (item_text false x) (listed_behind true xs) (listed_behind true ys))
 
--- one channel more, where its bit is set
+-- one more channel, if its bit is set
 module _ (mask n : ℕ) where
   abbrev own : Bool → List ℕ
   own set = if set then suc n ∷ [] else []
@@ -62,7 +62,7 @@ module _ (mask n : ℕ) where
       ap (λ (b : Bool). b || is_marked mask n) is ∙ later_by (is_marked mask n)
       ∙ ap (λ (m : ℕ). is_some_listed (channels_to mask m)) (sym (add-one n))
 
--- the channels behind these
+-- the numbers of the `more` channels from n on whose bits are set
 abbrev rest_of : (mask n more : ℕ) → List ℕ
 rest_of mask n zero = []
 rest_of mask n (suc more) = (if is_marked mask n then suc n ∷ [] else []) ++ rest_of mask (suc n) more
@@ -74,7 +74,7 @@ front_of mask n (suc more) =
     sym (append_assoc (channels_to mask n) (if is_marked mask n then suc n ∷ [] else []) (rest_of mask (suc n) more))
     ∙ front_of mask (suc n) more ∙ ap (channels_to mask) same
 
--- what is listed behind these
+-- the text of those channels
 abbrev pub text_behind : (mask n more : ℕ) → List ℕ
 text_behind mask n more = listed_behind (is_some_listed (channels_to mask n)) (rest_of mask n more)
 
@@ -84,7 +84,7 @@ all_listed mask n more all is =
     sym (both false (channels_to mask n) (rest_of mask n more)) ∙ ap listed (front_of mask n more)
     ∙ ap (λ (k : ℕ). listed (channels_to mask k)) is
 
--- with one channel more and all behind it
+-- one more channel and all channels after it
 pub all_but : (mask n more all : ℕ) (later : Bool) → later ≡ is_some_listed (channels_to mask n) → (n + 1) + more ≡ all
     → listed (channels_to mask n) ++ (channel_text later mask n ++ text_behind mask (n + 1) more)
     ≡ listed (channels_to mask all)

@@ -1,4 +1,4 @@
--- The parts of a report, one after another, are its text.
+-- The concatenated parts of a report are its text.
 use Rattle.std.proofs.Common.{◌≡◌, ◌∙◌, ◌++◌, ◌∷◌, [], Bool, true, false, ℕ, List, ap, append_assoc, map, option_map, refl, sym}
 use Rattle.std.specs.Prelude.{codes, decimal}
 use Rattle.hex.specs.Hex.{encode_lower}
@@ -10,14 +10,14 @@ use Rattle.sound_terms.specs.Depth.{bits_of}
 use Rattle.renderreport.specs.Parts.{clipped_end, end_text, item_text, listed, listed_behind, opening_text, range_text, report_parts}
 use Rattle.renderreport.specs.Report.{Facts, channels_of, count, form, known, report_data, time_of}
 
--- numbers with the end of their array
+-- numbers and the bracket that ends their array
 numbers_text : (later : Bool) (ns : List ℕ) → listed_behind later ns ++ 93 ∷ [] ≡ items_text later (items_of (map count ns))
 unfolding item_text
 numbers_text later [] = refl
 numbers_text later (n ∷ ns) =
     simp append_assoc (ap (λ (text : List ℕ). comma_if later ++ (decimal n ++ text)) (numbers_text true ns))
 
--- as the parts are grouped
+-- grouped by parts
 by_parts : (l1 c l2 n l3 f l4 p l5 s l6 r1 d r2 t r3 w r4 u e : List ℕ)
     → (l1 ++ (c ++ l2)) ++ (n ++ ((l3 ++ (f ++ (l4 ++ (p ++ (l5 ++ (s ++ l6)))))) ++ ((r1 ++ (d ++ (r2 ++ (t ++ (r3
     ++ (w ++ (r4 ++ u))))))) ++ e)))
@@ -25,7 +25,7 @@ by_parts : (l1 c l2 n l3 f l4 p l5 s l6 r1 d r2 t r3 w r4 u e : List ℕ)
     (r4 ++ (u ++ e))))))))))))))))))
 by_parts l1 c l2 n l3 f l4 p l5 s l6 r1 d r2 t r3 w r4 u e = simp append_assoc
 
--- as the value is, whose strings have an end of their own
+-- grouped by members, with the closing quotes of strings separate
 by_members : (l1 c l2 n z1 l3 f l4 p l5 s l6 r1 d r2 t r3 w r4 u t1 h q t2 m t3 g u1 k u2 v e1 e2 : List ℕ)
     → (l1 ++ (c ++ ((l2 ++ ((n ++ z1) ++ (l3 ++ (f ++ (l4 ++ (p ++ (l5 ++ (s ++ l6)))))))) ++ (r1 ++ (d ++ (r2 ++ (t
     ++ (r3 ++ (w ++ (r4 ++ (u ++ (t1 ++ ((h ++ q) ++ (t2 ++ (m ++ (t3 ++ ((g ++ q) ++ (u1 ++ ((k ++ q) ++ (u2 ++ ((v
@@ -59,7 +59,7 @@ module _ (facts : Facts) (digest : List ℕ) where
       facts.depth)) (codes ",\"first\":") (decimal facts.start) (codes ",\"form\":") (decimal form) (codes
       ",\"frames\":") (decimal facts.frames) (end_text facts digest)
 
-  -- with these items of the array
+  -- the report with these items in the array
   abbrev with_items : List ℕ → List ℕ
   with_items items =
       (codes "{\"channels\":" ++ (decimal facts.channels ++ ((codes ",\"clipped\":{\"channels\":[" ++ (items ++

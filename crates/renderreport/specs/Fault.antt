@@ -1,4 +1,4 @@
--- The file at which a report failed.
+-- Name of the file at which a report failed.
 use Rattle.std.specs.Prelude.{ℕ, List}
 use Rattle.renderreport.specs.Report.{report_name, sound_name}
 use Rattle.renderreport.specs.declared.fault.ReportFault.{ReportFault}

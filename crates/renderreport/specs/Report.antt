@@ -1,4 +1,4 @@
--- The report of a rendering, as a value of JSON (RFC 8259).
+-- The report of a rendering as a JSON value (RFC 8259).
 use Rattle.std.specs.Prelude.{ℕ, zero, suc, ◌+◌, ◌/◌, ◌^◌, ◌==◌, max, bit_and, Bool, List, [], ◌∷◌, ◌++◌, map, Option, option_map, unwrap_or, if◌then◌else◌, codes}
 use Rattle.hex.specs.Hex.{encode_lower}
 use Rattle.serde_json.specs.Data.{Data, null, number, unsigned, string, array, object, member, no_members}
@@ -17,12 +17,12 @@ report_name = codes "render.json"
 abbrev pub sound_name : List ℕ
 sound_name = codes "render.wav"
 
--- the bytes of a file, none where it isn't there
+-- contents of a file, empty if it does not exist
 abbrev pub content : Files → List ℕ → List ℕ
 content files name = unwrap_or (files name) []
 
--- what is reported of a rendering: the program that made it, its list and its depth; its range, so many frames of so many
--- channels from this time on; what of it was clipped; and where it was gone on with, how many blocks were marked before
+-- The content of a report: the program, the list and the depth; the range from `start` on, in sample frames, and the
+-- number of channels; the clipping; and for a resumed rendering the number of blocks marked before.
 pub record Facts : Type 0 where
   pub program : List ℕ
   pub version : List ℕ
@@ -50,7 +50,7 @@ facts_of facts = record {
 abbrev pub count : ℕ → Data
 count n = number (unsigned n)
 
--- where there is one
+-- a number, or null if there is none
 abbrev pub known : Option ℕ → Data
 known n = unwrap_or (option_map count n) null
 
@@ -58,25 +58,25 @@ known n = unwrap_or (option_map count n) null
 abbrev pub digest_data : List ℕ → Data
 digest_data digest = string (encode_lower digest)
 
--- the bit of this channel, counted from 0, is set
+-- the bit of the channel is set; channels count from 0
 abbrev pub is_marked : (mask channel : ℕ) → Bool
 is_marked mask channel = bit_and (mask / 2 ^ channel) 1 == 1
 
--- of the first n channels, counted from 1, those whose bits are set
+-- 1-based numbers of those of the first n channels whose bits are set
 abbrev pub channels_to : (mask n : ℕ) → List ℕ
 channels_to mask zero = []
 channels_to mask (suc n) = channels_to mask n ++ (if is_marked mask n then suc n ∷ [] else [])
 
--- all channels whose bits are set
+-- 1-based numbers of all channels whose bits are set
 unfoldable pub channels_of : (mask : ℕ) → List ℕ
 channels_of mask = channels_to mask 64
 
--- the time of the frame that has this sample, counted from 0 channel by channel
+-- time of the sample frame that contains a sample; samples count from 0, interleaved by channel
 abbrev pub time_of : Facts → (sample : ℕ) → ℕ
 time_of facts sample = facts.start + sample / max facts.channels 1
 
--- what was clipped: on which channels, the time of the first sample, the greatest distance from zero of an exact sum,
--- where full scale is 2^47, and how many samples
+-- the clipping: the channels, the time of the first clipped sample, the greatest absolute value of an exact sum (full
+-- scale is 2^47), and the number of clipped samples
 abbrev pub clipped_data : Facts → Data
 clipped_data facts =
     object (member (codes "channels") (array (items_of (map count (channels_of facts.clips.channels))))
@@ -84,11 +84,11 @@ clipped_data facts =
     (member (codes "peak") (count facts.clips.peak)
     (member (codes "samples") (count facts.clips.samples) no_members))))
 
--- the version of the form
+-- version of the report format
 abbrev pub form : ℕ
 form = 1
 
--- a rendering, whose file has this digest
+-- the report of a rendering; `digest` is the SHA-256 of its file
 abbrev pub report_data : Facts → (digest : List ℕ) → Data
 report_data facts digest =
     object (member (codes "channels") (count facts.channels)
@@ -103,6 +103,6 @@ report_data facts digest =
     (member (codes "sha256") (digest_data digest)
     (member (codes "version") (string facts.version) no_members)))))))))))
 
--- the value in a line, for a file of these bytes
+-- the report as one line of JSON, for a file with these bytes
 abbrev pub report_text : Facts → (sound : List ℕ) → List ℕ
 report_text facts sound = compact_text (report_data facts (sha256 sound)) ++ 10 ∷ []

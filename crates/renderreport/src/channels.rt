@@ -1,4 +1,4 @@
-// The channels on which something was clipped.
+// The channels on which samples were clipped.
 ghost use Rattle.std.specs.Prelude.{◌≡◌, ◌<◌, ◌++◌, ◌||◌, OnOk, decimal};
 ghost use Rattle.serde_json.specs.Written.{comma_if};
 ghost use Rattle.devices.specs.Frame.{Appends};
@@ -8,7 +8,7 @@ ghost use Rattle.renderreport.specs.Report.{channels_of, is_marked, report_name}
 use crate::texts::{Part, put};
 use devices::{Bench, DeviceFault};
 
-/// The channels whose bits are set, with a comma between two.
+/// Appends the 1-based numbers of the channels whose bits are set, separated by commas.
 #[tactic(auto, unfolding(crate::specs::Report::channels_of))]
 pub fn put_channels<B: Bench>(bench: &mut B, mask: u64) -> Result<(), DeviceFault>
     ensures { Appends B.Bench report_name (listed (channels_of mask)) bench.old bench.new result }
@@ -20,7 +20,7 @@ pub fn put_channels<B: Bench>(bench: &mut B, mask: u64) -> Result<(), DeviceFaul
     Ok(())
 }
 
-/// A channel, counted from 0, where its bit is set: behind a comma where others are before it.
+/// Appends the number of a channel, counted from 0, if its bit is set, preceded by a comma unless it is the first.
 fn put_channel<B: Bench>(
     bench: &mut B,
     mask: u64,
@@ -38,7 +38,7 @@ fn put_channel<B: Bench>(
     Ok(())
 }
 
-/// Whether the bit of this channel, counted from 0, is set.
+/// Returns whether the bit of the channel is set. Channels count from 0.
 fn has_channel(mask: u64, channel: u32) -> bool
     requires { channel < 64 }
     ensures { result ≡ is_marked mask channel }
@@ -46,7 +46,7 @@ fn has_channel(mask: u64, channel: u32) -> bool
     mask >> channel & 1 == 1
 }
 
-/// A number, behind a comma where others are before it.
+/// Appends a number, preceded by a comma unless it is the first.
 #[tactic(auto, unfolding(crate::specs::Parts::item_text, crate::specs::Parts::all_of))]
 fn put_item<B: Bench>(bench: &mut B, is_later: bool, number: u32) -> Result<(), DeviceFault>
     ensures { Appends B.Bench report_name (item_text is_later number) bench.old bench.new result }

@@ -1,5 +1,5 @@
-// Hashes the rendered file.
-ghost use Rattle.std.specs.Prelude.{◌≡◌, ◌+◌, ◌≤◌, IfOk, IsSome, IsTrue, OnOk, length, take, ⊤};
+// Hashing of the rendered file.
+ghost use Rattle.std.specs.Prelude.{◌≡◌, ◌+◌, ◌≤◌, IfOk, IsTrue, OnOk, length, take, ⊤};
 ghost use Rattle.sha2.specs.Hashers.{Holds256};
 ghost use Rattle.sha2.specs.Sha256.{sha256};
 ghost use Rattle.renderreport.specs.Report.{content, sound_name};
@@ -8,14 +8,16 @@ ghost use Rattle.renderreport.specs.Reads.{ReadsSound};
 use devices::{Bench, DeviceFault, ShelfFault};
 use sha2::{Digest, Sha256};
 
-/// The name of the rendered file.
+/// Name of the rendered file.
 const SOUND: &str = "render.wav";
 
-/// How many bytes are read at once.
+/// Number of bytes per read.
 const ROOM: usize = 65_536;
 
-/// How many bytes the rendered file has. One that is gone is read, which its bench counts as a failure; where that can be
-/// read after all, it is taken as longer than any file, so that a later read of it fails.
+/// Returns the length of the rendered file in bytes.
+///
+/// A missing file is read, so that the bench counts a failure. If that read succeeds, the length is `u64::MAX`, so that
+/// a later read fails.
 fn sound_length<B: Bench>(bench: &mut B) -> Result<u64, DeviceFault>
     ensures length { IsTrue (B.honest bench.old)
         → IfOk result (λ n. length (content (B.stored bench.old) sound_name) ≡ n) }
@@ -32,7 +34,7 @@ fn sound_length<B: Bench>(bench: &mut B) -> Result<u64, DeviceFault>
     }
 }
 
-/// Hashes so many bytes of the rendered file, from `at` on, after those before them, through `room`.
+/// Reads `count` bytes at offset `at` of the rendered file into `room` and hashes them.
 fn hash_bytes<B: Bench>(
     bench: &mut B,
     at: u64,
@@ -55,7 +57,7 @@ fn hash_bytes<B: Bench>(
     }
 }
 
-/// The SHA-256 of the rendered file.
+/// Returns the SHA-256 of the rendered file.
 pub fn sound_digest<B: Bench>(bench: &mut B) -> Result<[u8; 32], DeviceFault>
     ensures digest { IsTrue (B.honest bench.old)
         → IfOk result (λ digest. digest ≡ sha256 (content (B.stored bench.old) sound_name)) }

@@ -1,10 +1,10 @@
-// At which file a report failed.
+// Faults of writing a report.
 
-/// At which file the device failed.
+/// The file at which the device failed.
 #[derive(Clone, Copy, Debug, PartialEq, Eq)]
 pub enum ReportFault {
     /// `render.wav`, which is read again.
     Sound,
-    /// `render.json`: what stands in it is unfinished.
+    /// `render.json`, whose contents are incomplete.
     Report,
 }

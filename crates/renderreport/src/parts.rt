@@ -1,4 +1,4 @@
-// The parts of a report, one after another.
+// The parts of a report, in order.
 ghost use Rattle.std.specs.Prelude.{◌≡◌, ◌++◌, ◌/◌, codes, decimal, max, option_map};
 ghost use Rattle.sha2.specs.Sha256.{sha256};
 ghost use Rattle.devices.specs.Frame.{Appends};
@@ -12,10 +12,10 @@ use crate::texts::{Part, found, put};
 use devices::{Bench, DeviceFault};
 use sha2::{Digest, Sha256};
 
-/// The version of the form of reports.
+/// Version of the report format.
 const FORM: u8 = 1;
 
-/// The whole report.
+/// Appends the whole report.
 pub fn put_report<B: Bench>(bench: &mut B, report: &Report<'_, '_>) -> Result<(), DeviceFault>
     ensures { Appends B.Bench report_name (report_parts (facts_of report.now.facts.now) report.now.digest) bench.old bench.new result }
 {
@@ -26,7 +26,7 @@ pub fn put_report<B: Bench>(bench: &mut B, report: &Report<'_, '_>) -> Result<()
     put_end(bench, report)
 }
 
-/// The number of channels, up to the channels on which something was clipped.
+/// Appends the members up to the list of clipped channels.
 #[tactic(auto, unfolding(crate::specs::Parts::opening_text, crate::specs::Parts::all_of))]
 fn put_opening<B: Bench>(bench: &mut B, facts: &ReportFacts<'_>) -> Result<(), DeviceFault>
     ensures { Appends B.Bench report_name (opening_text (facts_of facts.now)) bench.old bench.new result }
@@ -39,7 +39,8 @@ fn put_opening<B: Bench>(bench: &mut B, facts: &ReportFacts<'_>) -> Result<(), D
     put(bench, &parts)
 }
 
-/// The time of the frame that has this sample, counted from 0 channel by channel.
+/// Returns the time, in samples, of the sample frame that contains a sample. Samples count from 0, interleaved by
+/// channel.
 fn time_of(facts: &ReportFacts<'_>, sample: u64) -> u128
     ensures { result ≡ time_of (facts_of facts.now) sample }
 {
@@ -47,7 +48,7 @@ fn time_of(facts: &ReportFacts<'_>, sample: u64) -> u128
     u128::from(facts.start.get()) + u128::from(frame)
 }
 
-/// The time of the first clipped sample.
+/// Returns the time of the first clipped sample.
 fn first_time(facts: &ReportFacts<'_>) -> Option<u128>
     ensures { result ≡ option_map (time_of (facts_of facts.now)) facts.now.clips.first }
 {
@@ -57,7 +58,7 @@ fn first_time(facts: &ReportFacts<'_>) -> Option<u128>
     }
 }
 
-/// What was clipped, behind the channels.
+/// Appends the rest of the clipping, after the list of channels.
 #[tactic(auto, unfolding(crate::specs::Parts::clipped_end, crate::specs::Parts::all_of))]
 fn put_clipped_end<B: Bench>(bench: &mut B, facts: &ReportFacts<'_>) -> Result<(), DeviceFault>
     ensures { Appends B.Bench report_name (clipped_end (facts_of facts.now)) bench.old bench.new result }
@@ -74,7 +75,7 @@ fn put_clipped_end<B: Bench>(bench: &mut B, facts: &ReportFacts<'_>) -> Result<(
     put(bench, &parts)
 }
 
-/// The depth and the range.
+/// Appends the depth and the range.
 #[tactic(auto, unfolding(crate::specs::Parts::range_text, crate::specs::Parts::all_of))]
 fn put_range<B: Bench>(bench: &mut B, facts: &ReportFacts<'_>) -> Result<(), DeviceFault>
     ensures { Appends B.Bench report_name (range_text (facts_of facts.now)) bench.old bench.new result }
@@ -92,7 +93,7 @@ fn put_range<B: Bench>(bench: &mut B, facts: &ReportFacts<'_>) -> Result<(), Dev
     put(bench, &parts)
 }
 
-/// The list, the blocks that were marked, the program and the file.
+/// Appends the hashes of the list and the file, the marked blocks and the program.
 fn put_end<B: Bench>(bench: &mut B, report: &Report<'_, '_>) -> Result<(), DeviceFault>
     ensures { Appends B.Bench report_name (end_text (facts_of report.now.facts.now) report.now.digest) bench.old bench.new result }
 {
@@ -113,14 +114,13 @@ fn put_end<B: Bench>(bench: &mut B, report: &Report<'_, '_>) -> Result<(), Devic
     put(bench, &parts)
 }
 
-/// The SHA-256 of the list.
 fn list_digest(facts: &ReportFacts<'_>) -> [u8; 32]
     ensures { result ≡ sha256 facts.now.list.now }
 {
     Sha256::digest(facts.list)
 }
 
-/// How many blocks were marked, where a rendering was gone on with.
+/// Returns the number of blocks marked before, if the rendering was resumed.
 fn marked_in(facts: &ReportFacts<'_>) -> Option<u128>
     ensures { result ≡ facts.now.marked }
 {

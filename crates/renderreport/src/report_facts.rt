@@ -1,11 +1,13 @@
-// What a report tells of a rendering.
+// The content of a report.
 use clipping::Clips;
 use sampletime::SampleTime;
 use sound_terms::Depth;
 
-/// A rendering: the name and the version of the program that made it, and the text of its list; its depth, its range, so
-/// many frames of so many channels from this time on, and what of it was clipped. Where it was gone on with, how many of
-/// its blocks were marked before: what is clipped is then that of the others.
+/// The content of a report: the program that rendered the file, the text of the list, the bit depth, the range and the
+/// clipping.
+///
+/// The range starts at `start` and has `frames` sample frames. `marked` is the number of blocks that were marked before
+/// a rendering was resumed, or `None` if it wasn't; then `clips` covers only the other blocks.
 #[derive(Clone, Copy, Debug)]
 pub struct ReportFacts<'a> {
     pub program: &'a str,
@@ -19,7 +21,7 @@ pub struct ReportFacts<'a> {
     pub marked: Option<u32>,
 }
 
-/// The same, with the SHA-256 of its file.
+/// The content of a report, with the SHA-256 of the rendered file.
 #[derive(Clone, Copy, Debug)]
 pub struct Report<'a, 'b> {
     pub facts: &'a ReportFacts<'b>,

@@ -1,4 +1,4 @@
-// Texts that are added at the end of the report. None takes memory.
+// Texts appended to the report, without using memory.
 ghost use Rattle.std.specs.Prelude.{◌≡◌, ◌<◌, ◌++◌, ◌∷◌, [], false, option_map, true};
 ghost use Rattle.std.specs.Char.{digit_char};
 ghost use Rattle.hex.specs.Hex.{encode_lower};
@@ -16,24 +16,23 @@ use itoa::Buffer;
 /// A part of a report.
 #[derive(Clone, Copy, Debug)]
 pub enum Part<'a> {
-    /// A text as it is.
+    /// A text that needs no escapes.
     Plain(&'a [u8]),
-    /// A text as it is in a string.
+    /// A text to be escaped for a JSON string.
     InString(&'a [u8]),
-    /// A number in decimal digits.
+    /// A number in decimal.
     Number(u128),
-    /// A digest in hexadecimal digits.
+    /// A digest in hexadecimal.
     Digest([u8; 32]),
 }
 
-/// This text.
 fn put_text<B: Bench>(bench: &mut B, text: &[u8]) -> Result<(), DeviceFault>
     ensures { Appends B.Bench report_name text.now bench.old bench.new result }
 {
     bench.append(RENDER_REPORT, text)
 }
 
-/// These parts, one after another.
+/// Appends the parts, in order.
 pub fn put<B: Bench>(bench: &mut B, parts: &[Part<'_>]) -> Result<(), DeviceFault>
     ensures { Appends B.Bench report_name (all_of parts.now) bench.old bench.new result }
 {
@@ -43,7 +42,6 @@ pub fn put<B: Bench>(bench: &mut B, parts: &[Part<'_>]) -> Result<(), DeviceFaul
     Ok(())
 }
 
-/// This part.
 fn put_part<B: Bench>(bench: &mut B, part: &Part<'_>) -> Result<(), DeviceFault>
     ensures { Appends B.Bench report_name (part_text part.now) bench.old bench.new result }
 {
@@ -55,7 +53,7 @@ fn put_part<B: Bench>(bench: &mut B, part: &Part<'_>) -> Result<(), DeviceFault>
     }
 }
 
-/// A text as it is in a string: at once, where none of its bytes is escaped.
+/// Appends a text, escaped for a JSON string. A text without escapes is appended in a single call.
 fn put_as_string<B: Bench>(bench: &mut B, text: &[u8]) -> Result<(), DeviceFault>
     ensures { Appends B.Bench report_name (json.escape text.now) bench.old bench.new result }
 {
@@ -66,7 +64,7 @@ fn put_as_string<B: Bench>(bench: &mut B, text: &[u8]) -> Result<(), DeviceFault
     }
 }
 
-/// Whether no byte of a text is escaped in a string.
+/// Returns whether the text needs no escapes in a JSON string.
 fn is_plain(text: &[u8]) -> bool
     ensures { result ≡ true → json.escape text.now ≡ text.now }
 {
@@ -78,7 +76,7 @@ fn is_plain(text: &[u8]) -> bool
     true
 }
 
-/// Whether a byte of a text is escaped in a string.
+/// Returns whether the byte is escaped in a JSON string.
 #[tactic(auto, unfolding(json::specs::Print::escape_byte))]
 fn is_escaped(byte: u8) -> bool
     ensures { result ≡ false → escape_byte byte ≡ byte ∷ [] }
@@ -87,7 +85,7 @@ fn is_escaped(byte: u8) -> bool
     if letter > 0 { true } else { byte < 32 }
 }
 
-/// Bytes of a text as they are in a string.
+/// Appends the bytes, each escaped if necessary.
 fn put_escaped<B: Bench>(bench: &mut B, bytes: &[u8]) -> Result<(), DeviceFault>
     ensures { Appends B.Bench report_name (json.escape bytes.now) bench.old bench.new result }
 {
@@ -97,7 +95,6 @@ fn put_escaped<B: Bench>(bench: &mut B, bytes: &[u8]) -> Result<(), DeviceFault>
     Ok(())
 }
 
-/// A byte of a text as it is in a string.
 #[tactic(auto, unfolding(json::specs::Print::escape_byte))]
 fn put_byte<B: Bench>(bench: &mut B, byte: u8) -> Result<(), DeviceFault>
     ensures { Appends B.Bench report_name (escape_byte byte) bench.old bench.new result }
@@ -115,7 +112,7 @@ fn put_byte<B: Bench>(bench: &mut B, byte: u8) -> Result<(), DeviceFault>
     }
 }
 
-/// The letter of the short escape of a byte; 0 where it has none.
+/// Returns the letter of the short escape of a byte, or 0 if it has none.
 fn escape_letter(byte: u8) -> u8
     ensures { result ≡ json.escape_letter byte }
 {
@@ -130,7 +127,6 @@ fn escape_letter(byte: u8) -> u8
     }
 }
 
-/// The hexadecimal digit of a number below 16.
 fn digit(number: u8) -> u8
     requires { number < 16 }
     ensures { result ≡ digit_char number }
@@ -142,7 +138,7 @@ fn digit(number: u8) -> u8
     }
 }
 
-/// A number, or null.
+/// Returns the number as a part, or null if there is none.
 pub fn found<'a>(number: Option<u128>) -> Part<'a>
     ensures { part_text result ≡ compact_text (known number) }
 {
@@ -152,7 +148,7 @@ pub fn found<'a>(number: Option<u128>) -> Part<'a>
     }
 }
 
-/// The digits of a digest.
+/// Returns the hexadecimal digits of a digest.
 fn hex_of(digest: &[u8; 32]) -> [u8; 64]
     ensures { result ≡ encode_lower digest.now }
 {

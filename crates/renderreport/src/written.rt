@@ -1,5 +1,5 @@
-// The report of a rendering, written beside the file.
-ghost use Rattle.std.specs.Prelude.{◌≡◌, ◌≢◌, IsErrOf, IsSome, IsTrue, OnOk, Some, ⊤};
+// Writing of the report of a rendering.
+ghost use Rattle.std.specs.Prelude.{◌≡◌, ◌≢◌, IsTrue, OnOk, Some, ⊤};
 ghost use Rattle.work_terms.specs.Disk.{IsDurable};
 ghost use Rattle.devices.specs.Frame.{OnlyWrites};
 ghost use Rattle.renderreport.specs.Fault.{name_of};
@@ -13,10 +13,10 @@ use crate::report_facts::Report;
 use crate::{ReportFacts, ReportFault};
 use devices::{Bench, DeviceFault};
 
-/// The name of the report of a rendering.
+/// Name of the report file.
 pub const RENDER_REPORT: &str = "render.json";
 
-/// Makes the file of a report.
+/// Creates the report file and writes the report.
 fn begin<B: Bench>(bench: &mut B, report: &Report<'_, '_>) -> Result<(), DeviceFault>
     ensures written { IsTrue (B.honest bench.old)
         → OnOk result (B.stored bench.new report_name ≡ Some (report_parts (facts_of report.now.facts.now) report.now.digest)) }
@@ -31,7 +31,7 @@ fn begin<B: Bench>(bench: &mut B, report: &Report<'_, '_>) -> Result<(), DeviceF
     put_report(bench, report)
 }
 
-/// The same, synced.
+/// Creates, writes and syncs the report file.
 fn write<B: Bench>(bench: &mut B, report: &Report<'_, '_>) -> Result<(), DeviceFault>
     ensures written { IsTrue (B.honest bench.old)
         → OnOk result (B.stored bench.new report_name ≡ Some (report_parts (facts_of report.now.facts.now) report.now.digest)) }
@@ -48,10 +48,10 @@ fn write<B: Bench>(bench: &mut B, report: &Report<'_, '_>) -> Result<(), DeviceF
     bench.sync(RENDER_REPORT)
 }
 
-/// Writes the report of a rendering to the file `render.json` of a bench, and syncs it: a value of JSON (RFC 8259) in a
-/// line, whose members are in order. `render.wav` is read once, from its first byte to its last, for its SHA-256. It
-/// takes no memory, and leaves each other file as it was. An error says at which of both files the device failed. If
-/// `render.wav` can't be read, nothing is written: a report that exists stays as it is.
+/// Writes and syncs `render.json`, the report of a rendering: one line of JSON (RFC 8259) with sorted members.
+///
+/// Reads `render.wav` once, in order, for its SHA-256. Uses no memory and changes no other file. The error names the
+/// file at which the device failed.
 pub fn write_report<B: Bench>(bench: &mut B, facts: &ReportFacts<'_>) -> Result<(), ReportFault>
     ensures written { IsTrue (B.honest bench.old)
         → OnOk result (B.stored bench.new report_name

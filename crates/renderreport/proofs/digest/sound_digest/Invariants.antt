@@ -4,7 +4,7 @@ use Rattle.renderreport.specs.Reads.{ReadsSound}
 use Rattle.renderreport.specs.Report.{content, sound_name}
 use Rattle.renderreport.proofs.digest.sound_digest.Given as goal
 
--- the bytes so far are hashed, and nothing has failed
+-- the bytes so far are hashed, and no call failed
 abbrev pub invariant-loop-done : goal.invariant-loop-done
 invariant-loop-done g l =
     (l.done ≤ l.end) × (length l.room ≡ 65536) × ReadsSound g.B.Bench l.initial.bench l.bench (Ok (tt {0}))

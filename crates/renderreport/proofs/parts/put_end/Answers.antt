@@ -8,7 +8,7 @@ use Rattle.renderreport.specs.Parts.{all_of, end_text}
 use Rattle.renderreport.specs.Report.{Facts, facts_of, known, report_name}
 use Rattle.renderreport.proofs.parts.put_end.Goals as goal
 
--- the end of a report, by its parts
+-- the end of a report is the concatenation of its parts
 end_of_parts : (facts : Facts) (digest list marked program version : List ℕ) → list ≡ sha256 facts.list
     → marked ≡ compact_text (known facts.marked) → program ≡ facts.program → version ≡ facts.version
     → codes ",\"given_list_sha256\":\"" ++ (escape (encode_lower list) ++ (codes "\",\"marked\":" ++ (marked

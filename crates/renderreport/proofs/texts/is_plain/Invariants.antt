@@ -2,6 +2,6 @@ use Rattle.std.proofs.Common.{◌≡◌, take}
 use Rattle.json.specs.Print.{escape}
 use Rattle.renderreport.proofs.texts.is_plain.Given as goal
 
--- no byte before the place is escaped
+-- no byte so far is escaped
 abbrev pub invariant-loop-byte : goal.invariant-loop-byte
 invariant-loop-byte l = escape (take l.byte-index l.text) ≡ take l.byte-index l.text
