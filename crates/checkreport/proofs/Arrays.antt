@@ -1,4 +1,4 @@
--- Parts of an array or an object, one after another.
+-- Parts of an array or an object in sequence.
 use Rattle.std.proofs.Common.{◌≡◌, ◌++◌, [], ◌∷◌, Bool, List, Option, ℕ, length, subst, sym}
 use Rattle.console.specs.Printing.{Prints}
 use Rattle.console.specs.PrintingLaws.{prints_more}
@@ -13,7 +13,7 @@ use Rattle.checkreport.proofs.Parts.{empty, refused_text}
 
 module _ {O X : Type 0} (contents : O → Option (List ℕ)) (failures : O → ℕ) (whole : List X → List ℕ) (xs : List X)
   where
-    -- the first of them, the others, and the end
+    -- a nonempty list: the first element, the others and the end
     pub some_printed : (first : X) (rest : List X) {old one two new : O} {front more end : List ℕ} → xs ≡ first ∷ rest
         → front ++ (more ++ end) ≡ whole (first ∷ rest) → Prints contents failures old one front
         → Prints contents failures one two more → Prints contents failures two new end
@@ -23,13 +23,13 @@ module _ {O X : Type 0} (contents : O → Option (List ℕ)) (failures : O → �
         (subst (Prints contents failures old new) is
         (prints_more contents failures one_printed (prints_more contents failures more_printed ended)))
 
-    -- none of them, and the end
+    -- an empty list: only the end
     pub none_printed : {old new : O} → length xs ≡ 0 → Prints contents failures old new (whole [])
         → Prints contents failures old new (whole xs)
     none_printed {old = old} {new = new} none =
         subst (λ (xs : List X). Prints contents failures old new (whole xs)) (sym (empty xs none))
 
--- the first fault, the further ones, and what stands behind them
+-- the first fault, the further ones and the end of the report
 pub refused_printed : {O : Type 0} (out : Ghosts O) (first : Fault) (AreThese : List Fault → Bool → Type 0)
     (explained : Data) (further : List ExplainedFault) (media_error : Option (List ℕ)) (are_all : Bool)
     {old one two new : O} → AreThese (faults_of further) are_all
@@ -49,7 +49,7 @@ refused_printed out first AreThese explained further media_error are_all {old = 
           (prints_more out.contents out.failures front (prints_more out.contents out.failures more end));
     }
 
--- a fault behind a text
+-- a fault after a text
 pub fault_printed : {O : Type 0} (out : Ghosts O) (text : ExplainedFault → List ℕ) (fault : Fault) (explained value : Data)
     {before : List ℕ} {old mid new : O} → before ++ compact_text value ≡ text (record { fault = fault; explained = explained })
     → Prints out.contents out.failures old mid before → Prints out.contents out.failures mid new (compact_text value)

@@ -1,4 +1,4 @@
--- The parts that are printed are the texts of values.
+-- The printed parts are the texts of the values.
 use Rattle.std.proofs.Common.{◌≡◌, ◌∙◌, ◌+◌, ◌<◌, ◌++◌, ◌∷◌, [], ◌||◌, Bool, true, false, List, None, Option, ℕ, zero, suc, add-one, ap, arith, append_assoc, get_or, if◌then◌else◌, length, map, refl, sym, take}
 use Rattle.std.proofs.lemmas.List.{append-nil, map-append, take_more}
 use Rattle.std.specs.Prelude.{codes, decimal}
@@ -25,7 +25,7 @@ pub empty : {X : Type 0} (xs : List X) → length xs ≡ 0 → xs ≡ []
 empty [] none = refl
 empty (x ∷ xs) none = absurd (omega (arith, none))
 
--- values, each after a comma, and the end of their array
+-- values after commas, and the end of the array
 further : {X : Type 0} (told : X → Data) (xs : List X)
     → after_commas (λ x. compact_text (told x)) xs ++ 93 ∷ [] ≡ items_text true (items_of (map told xs))
 further told [] = refl
@@ -34,7 +34,7 @@ further told (x ∷ xs) =
     (append_assoc (compact_text (told x)) (after_commas (λ x. compact_text (told x)) xs) (93 ∷ [])
     ∙ ap (λ (text : List ℕ). compact_text (told x) ++ text) (further told xs))
 
--- an array of values, the first of them by itself
+-- an array from its first element on
 array_of : {X : Type 0} (told : X → Data) (x : X) (xs : List X)
     → compact_text (told x) ++ (after_commas (λ x. compact_text (told x)) xs ++ 93 ∷ [])
     ≡ items_text false (items_of (map told (x ∷ xs)))
@@ -52,7 +52,7 @@ pub indexes_text : (sounds : List SoundFacts) (notices : List Notice) (index : B
 unfolding index_text
 indexes_text sounds notices = array_of (index_data sounds notices)
 
--- those of a list, and then those of its files
+-- two lists of values after commas, concatenated
 pub after_both : {X : Type 0} (text : X → List ℕ) (xs ys : List X)
     → after_commas text xs ++ after_commas text ys ≡ after_commas text (xs ++ ys)
 after_both text [] ys = refl
@@ -69,7 +69,7 @@ both_text notice notices others =
     ∙ ap (λ (text : List ℕ). text ++ 93 ∷ []) (after_both notice_text notices others))
     ∙ notices_text notice (notices ++ others)
 
--- values with the end of their array
+-- values separated by commas, and the end of the array
 listed_text : (later : Bool) (values : List Data) → listed later values ++ 93 ∷ [] ≡ items_text later (items_of values)
 listed_text later [] = refl
 listed_text later (value ∷ values) =
@@ -78,7 +78,7 @@ listed_text later (value ∷ values) =
     (append_assoc (compact_text value) (listed true values) (93 ∷ [])
     ∙ ap (λ (text : List ℕ). compact_text value ++ text) (listed_text true values))
 
--- an index over a file
+-- the parts of an index
 pub index_parts : (notices : List Notice) (index : BoundIndex) (facts : SoundFacts)
     → counted (codes "{\"base\":") index.base ++ (counted (codes ",\"channels\":") facts.channels
     ++ (counted (codes ",\"depth\":") (bits_of facts.depth) ++ (codes ",\"file\":" ++ (quoted facts.name
@@ -96,14 +96,14 @@ index_parts notices index facts =
     ++ (counted (codes ",\"frames\":") facts.frames ++ (counted (codes ",\"index\":") index.number
     ++ (codes ",\"notices\":[" ++ text)))))))) text
 
--- the room of outputs
+-- the parts of the maximum size of the outputs
 pub room_parts : (room : Room)
     → (codes "{\"media\":" ++ compact_text (count_in room.media))
     ++ ((codes ",\"rendering\":" ++ compact_text (count_in room.rendering)) ++ codes "}") ≡ room_text room
 unfolding escape_byte room_text
 room_parts room = refl
 
--- a list that is accepted
+-- the parts of the report of an accepted list
 pub accepted_parts : (rate entries : ℕ) (indexes notices : List Data) (beside : Beside)
     → counted (codes "{\"accepted\":true,\"entry_count\":") entries ++ (counted (codes ",\"form\":") form
     ++ (codes ",\"indexes\":["
@@ -125,7 +125,7 @@ accepted_parts rate entries indexes notices beside =
     ∙ ap (λ (text : List ℕ). media ++ (codes ",\"most_bytes\":" ++ text))
     (append_assoc room (codes ",\"not_honoured\":[" ++ passed) end))
 
--- the lines of which something isn't honoured
+-- an array of the lines that aren't fully honoured
 pub passed_text_of : (passed : PassedLine) (more : List PassedLine)
     → passed_text passed ++ (after_commas passed_text more ++ 93 ∷ [])
     ≡ items_text false (items_of (map passed_data (passed ∷ more)))
@@ -195,7 +195,7 @@ any_step index k notices d below =
           or_more (is_of_index index notice) (list_any (is_of_index index) (take k notices)) _
           ∙ ap (λ (any : Bool). is_of_index index notice || any) (any_more index k notices (omega arith))
 
--- a fault, by the parts of its place
+-- the parts of a fault
 pub fault_parts : (entry : Option ℕ) (explained file : Data) (index line : Option ℕ) (refusal : ℕ)
     → (codes "{\"entry\":" ++ compact_text (count_in entry)) ++ (codes ",\"explained\":" ++ (compact_text explained
     ++ (codes ",\"file\":" ++ (compact_text file
@@ -205,7 +205,7 @@ pub fault_parts : (entry : Option ℕ) (explained file : Data) (index line : Opt
 unfolding escape_byte
 fault_parts entry explained file index line refusal = refl
 
--- members, each after a comma, and the end of their object
+-- members after commas, and the end of the object
 members_further : (members : List Member)
     → after_commas member_text members ++ 125 ∷ [] ≡ members_text true (members_of members)
 unfolding member_text
@@ -219,7 +219,7 @@ members_further (one ∷ more) =
     ∙ ap (λ (text : List ℕ). quoted one.name.now ++ 58 ∷ (compact_text (value_data one.value) ++ text))
     (members_further more))
 
--- the members of an object
+-- an object from its first member on
 pub members_text_of : (one : Member) (more : List Member)
     → member_text one ++ (after_commas member_text more ++ 125 ∷ []) ≡ members_text false (members_of (one ∷ more))
 unfolding member_text
@@ -229,7 +229,7 @@ members_text_of one more =
     ∙ ap (λ (text : List ℕ). quoted one.name.now ++ 58 ∷ (compact_text (value_data one.value) ++ text))
     (members_further more)
 
--- the first fault, and a further one
+-- the start of a refused report with its first fault, and a further fault
 pub front_first : (first : ExplainedFault) (value : Data) → value ≡ explained_fault first
     → codes "{\"accepted\":false,\"faults\":[" ++ compact_text value ≡ refused_front first []
 unfolding refused_front fault_text
@@ -256,7 +256,7 @@ joined first more items end is =
     ∙ ap (λ (text : List ℕ). first ++ text) (sym (append_assoc more (93 ∷ []) end)
     ∙ ap (λ (text : List ℕ). text ++ end) is) ∙ sym (append_assoc first items end)
 
--- a list that is refused
+-- the parts of the report of a refused list
 pub refused_text : (first : ExplainedFault) (faults : List ExplainedFault) (media_error : Option (List ℕ))
     (are_all : Bool)
     → refused_front first [] ++ (after_commas fault_text faults ++ refused_end media_error are_all)
@@ -270,7 +270,7 @@ refused_text first faults media_error are_all =
     ++ (codes ",\"complete\":" ++ (compact_text (boolean are_all) ++ codes "}")))))
     (further explained_fault faults))
 
--- a list that isn't read
+-- the parts of the report of a list that can't be read
 pub unread_text : (fault : Data)
     → codes "{\"accepted\":false,\"faults\":[" ++ (compact_text fault ++ refused_end None false)
     ≡ compact_text (refused_of (fault ∷ []) null false)
@@ -280,7 +280,7 @@ unread_text fault =
     (sym (append_assoc (compact_text fault) (93 ∷ []) (counted (codes ",\"form\":") form ++ (codes ",\"media_error\":"
     ++ (codes "null" ++ (codes ",\"complete\":" ++ (codes "false" ++ codes "}")))))))
 
--- one more fault is reported
+-- one more reported fault
 pub faults_step : (reported : List ExplainedFault) (one : ExplainedFault) (k : ℕ) (faults : List Fault) (d : Fault)
     → k < length faults → faults_of reported ≡ take k faults → one.fault ≡ get_or faults k d
     → faults_of (reported ++ one ∷ []) ≡ take (k + 1) faults

@@ -1,4 +1,4 @@
--- What explains a fault, as a value of JSON (RFC 8259).
+-- The explanation of a fault as a JSON value (RFC 8259).
 use Rattle.std.specs.Prelude.{List, [], ◌∷◌, Option, None, Some, Vec, string_bytes}
 use Rattle.std.specs.declared.alloc.Global.{Global}
 use Rattle.serde_json.specs.Data.{Data, null, number, unsigned, string, object, Members, member, no_members}
@@ -15,7 +15,7 @@ abbrev pub members_of : List Member → Members
 members_of [] = no_members
 members_of (one ∷ more) = member one.name.now (value_data one.value) (members_of more)
 
--- an object of these members, where there is one
+-- an object with these members, or null
 abbrev pub explained_data : Option (Vec Member Global) → Data
 explained_data None = null
 explained_data (Some members) = object (members_of members.items)

@@ -1,4 +1,4 @@
--- The parts in which a report is printed.
+-- The parts of a printed report.
 use Rattle.std.specs.Prelude.{ℕ, List, [], ◌∷◌, ◌++◌, Bool, false, true, Option, map, option_map, string_bytes, codes}
 use Rattle.std.specs.List.{flat_map}
 use Rattle.serde_json.specs.Data.{Data, boolean}
@@ -21,12 +21,12 @@ use Rattle.checkreport.specs.declared.refused.ReportedFault.{ReportedFault}
 abbrev pub after_commas : {X : Type 0} → (X → List ℕ) → List X → List ℕ
 after_commas text xs = flat_map (λ x. 44 ∷ text x) xs
 
--- values with a comma between two; the first one too has one where others are before it
+-- values separated by commas; the flag says whether others precede them
 abbrev pub listed : (is_later : Bool) → List Data → List ℕ
 listed is_later [] = []
 listed is_later (value ∷ values) = comma_if is_later ++ (compact_text value ++ listed true values)
 
--- a notice, an index, a fault
+-- texts of a notice, an index and a fault
 unfoldable pub notice_text : Notice → List ℕ
 notice_text notice = compact_text (notice_data notice)
 
@@ -36,31 +36,31 @@ index_text sounds notices index = compact_text (index_data sounds notices index)
 unfoldable pub fault_text : ExplainedFault → List ℕ
 fault_text fault = compact_text (explained_fault fault)
 
--- a member of an object
+-- text of a member of an object
 unfoldable pub member_text : Member → List ℕ
 member_text member = quoted member.name.now ++ 58 ∷ compact_text (value_data member.value)
 
--- what of a line isn't honoured
+-- text of a line that isn't fully honoured
 unfoldable pub passed_text : PassedLine → List ℕ
 passed_text passed = compact_text (passed_data passed)
 
--- the room of the outputs of a project
+-- text of the maximum size of the outputs
 unfoldable pub room_text : Room → List ℕ
 room_text room = compact_text (room_data room)
 
--- what is reported beside a project, up to the end of the array
+-- the supplements to a project, up to the end of the array
 unfoldable pub beside_text : Beside → List ℕ
 beside_text beside = codes ",\"media_error\":" ++ (compact_text (text_in beside.media_error)
     ++ (codes ",\"most_bytes\":" ++ (room_text beside.room
     ++ (codes ",\"not_honoured\":[" ++ items_text false (items_of (map passed_data beside.passed))))))
 
--- a fault that is ready to be printed
+-- a prepared fault
 abbrev pub ready_data : ReportedFault → Data
 ready_data fault =
     fault_of fault.entry (explained_data fault.explained) (text_in (option_map string_bytes fault.file)) fault.index
     fault.line fault.number
 
--- the report of a list that is refused up to the last of these faults, and from there on
+-- the report of a refused list up to the last of these faults, and the rest of it
 unfoldable pub refused_front : ExplainedFault → List ExplainedFault → List ℕ
 refused_front first further =
     codes "{\"accepted\":false,\"faults\":[" ++ (fault_text first ++ after_commas fault_text further)

@@ -1,4 +1,4 @@
--- What a check tells a script, as a value of JSON (RFC 8259).
+-- The report of a check as a JSON value (RFC 8259).
 use Rattle.std.specs.Prelude.{ℕ, ◌==◌, ◌&&◌, nat_lt, Bool, true, false, List, [], ◌∷◌, ◌++◌, map, length, Option, None, Some, slice_get, unwrap_or, option_map, string_bytes, if◌then◌else◌, codes}
 use Rattle.std.specs.List.{flat_map}
 use Rattle.serde_json.specs.Data.{Data, null, boolean, string, array, object, member, no_members}
@@ -18,7 +18,7 @@ use Rattle.report_terms.specs.Report.{count, form, notice_data}
 use Rattle.checkreport.specs.declared.explained.PassedLine.{PassedLine}
 use Rattle.checkreport.specs.declared.explained.Room.{Room}
 
--- the numbers of the notices of an index
+-- numbers of the notices of an index
 abbrev pub is_of_index : ℕ → Notice → Bool
 is_of_index index notice = nat_lt 2 notice.kind && notice.at == index
 
@@ -28,7 +28,7 @@ kind_at index notice = if is_of_index index notice then count notice.kind ∷ []
 abbrev pub kinds_of : ℕ → List Notice → List Data
 kinds_of index notices = flat_map (kind_at index) notices
 
--- an index over this file
+-- an index with this file
 abbrev pub index_of_file : List Notice → BoundIndex → SoundFacts → Data
 index_of_file notices index facts =
     object (member (codes "base") (count index.base)
@@ -39,39 +39,39 @@ index_of_file notices index facts =
     (member (codes "index") (count index.number)
     (member (codes "notices") (array (items_of (kinds_of index.number notices))) no_members)))))))
 
--- an index over these opened files
+-- an index, or null if its file is not among the opened ones
 abbrev pub index_data : List SoundFacts → List Notice → BoundIndex → Data
 index_data sounds notices index =
     unwrap_or (option_map (index_of_file notices index) (slice_get sounds index.file)) null
 
--- a text, where there is one
+-- a text, or null
 abbrev pub text_in : Option (List ℕ) → Data
 text_in text = unwrap_or (option_map string text) null
 
--- a number, where there is one
+-- a number, or null
 abbrev pub count_in : Option ℕ → Data
 count_in found = unwrap_or (option_map count found) null
 
--- what of a line isn't honoured
+-- a line that isn't fully honoured
 abbrev pub passed_data : PassedLine → Data
 passed_data passed =
     object (member (codes "line") (count passed.line)
     (member (codes "words") (text_in (option_map string_bytes passed.words)) no_members))
 
--- how many bytes the media of a consolidation and a rendering take at most, where that is known
+-- upper bounds in bytes for the files of a consolidation and for a rendering, or null if unknown
 abbrev pub room_data : Room → Data
 room_data room =
     object (member (codes "media") (count_in room.media)
     (member (codes "rendering") (count_in room.rendering) no_members))
 
--- what is reported beside a project that is accepted: why the folder of its media can't be listed, if it can't, the room
--- that its outputs take, and what of its list isn't honoured
+-- supplements to an accepted project: why its media folder can't be listed, if it can't, the maximum size of its
+-- outputs, and the lines that aren't fully honoured
 pub record Beside : Type 0 where
   pub media_error : Option (List ℕ)
   pub room : Room
   pub passed : List PassedLine
 
--- an accepted list of this rate, with so many entries, these indexes and these notices
+-- report of an accepted list from its parts
 abbrev pub accepted_of : (rate entries : ℕ) (indexes : List Data) (media_error room : Data)
     (passed notices : List Data) → Data
 accepted_of rate entries indexes media_error room passed notices =
@@ -85,14 +85,14 @@ accepted_of rate entries indexes media_error room passed notices =
     (member (codes "notices") (array (items_of notices))
     (member (codes "rate") (count rate) no_members)))))))))
 
--- a project that is accepted, by what it is bound to
+-- report of an accepted project
 abbrev pub accepted_data : ListProject → Binding → Beside → Data
 accepted_data project binding beside = accepted_of project.rate (length project.events)
     (map (index_data (sounds_of binding) binding.notices) binding.indexes)
     (text_in beside.media_error) (room_data beside.room) (map passed_data beside.passed)
     (map notice_data (project.notices ++ binding.notices))
 
--- the line, the entry, the index and the file of a place
+-- line, entry, index and file of a location
 abbrev pub line_in : Where → Option ℕ
 line_in (refused.Line line) = Some line
 line_in (refused.LineEntry line entry) = Some line
@@ -115,7 +115,7 @@ file_in (refused.IndexFile index name) = string name
 file_in (refused.File name) = string name
 file_in place = null
 
--- a fault of this number, by the parts of its place and by what explains it
+-- a fault from the parts of its location, its explanation and its number
 abbrev pub fault_of : (entry : Option ℕ) (explained file : Data) (index line : Option ℕ) (refusal : ℕ) → Data
 fault_of entry explained file index line refusal =
     object (member (codes "entry") (count_in entry)
@@ -130,7 +130,7 @@ fault_data refusal explained =
     fault_of (entry_in refusal.location) explained (file_in refusal.location) (index_in refusal.location) (line_in refusal.location)
     refusal.number
 
--- a fault of a list, and what explains it
+-- a fault and its explanation
 pub record ExplainedFault : Type 0 where
   pub fault : Fault
   pub explained : Data
@@ -138,12 +138,12 @@ pub record ExplainedFault : Type 0 where
 abbrev pub explained_fault : ExplainedFault → Data
 explained_fault told = fault_data (refusal_of told.fault) told.explained
 
--- the faults that are reported
+-- faults without their explanations
 abbrev pub faults_of : List ExplainedFault → List Fault
 faults_of reported = map (λ one. one.fault) reported
 
--- a list that is refused, by its faults; why the folder of its media can't be listed, if it can't; whether these are
--- all, which is known last
+-- report of a refused list: its faults, why its media folder can't be listed, if it can't, and whether the faults are
+-- all
 abbrev pub refused_of : (faults : List Data) (media_error : Data) (are_all : Bool) → Data
 refused_of faults media_error are_all =
     object (member (codes "accepted") (boolean false)
@@ -152,12 +152,12 @@ refused_of faults media_error are_all =
     (member (codes "media_error") media_error
     (member (codes "complete") (boolean are_all) no_members)))))
 
--- a list that is refused, by its first fault and further ones
+-- report of a refused list from its first and its further faults
 abbrev pub refused_data : ExplainedFault → List ExplainedFault → Option (List ℕ) → Bool → Data
 refused_data first further media_error are_all =
     refused_of (map explained_fault (first ∷ further)) (text_in media_error) are_all
 
--- a list that isn't read, or a report for which there is no memory: nothing more is looked for
+-- report of a list that can't be read, or of out of memory
 abbrev pub unread_data : ℕ → (place : Where) (explained : Data) → Data
 unread_data which place explained =
     refused_of (fault_data (record { number = which; location = place; late = false }) explained ∷ []) null false

@@ -1,4 +1,4 @@
--- What a check whose report is asked for prints and answers.
+-- Output and exit status of a check with a report.
 use Rattle.std.specs.Prelude.{◌≡◌, ◌⊎◌, ℕ, Bool, IsTrue, List, [], ◌∷◌, ◌++◌, Option, Some, Ok, Err, false, map, true, ⊤}
 use Rattle.serde_json.specs.Written.{compact_text}
 use Rattle.work_terms.specs.Disk.{Files}
@@ -18,15 +18,14 @@ use Rattle.checkreport.specs.Report.{Beside, ExplainedFault, accepted_data, faul
 use Rattle.console.specs.declared.console.Console as console
 use Rattle.console.specs.Printing.{Prints}
 
--- what is told: an accepted list; one that is refused by its first fault, with further ones, and whether these are all;
--- or that no memory was left for either
+-- a report: an accepted list, a refused list with its faults and whether they are all, or out of memory
 pub data Report : Type 0 where
   Accepted : (project : ListProject) (binding : Binding) (beside : Beside) → Report
   Refused : (first : ExplainedFault) (further : List ExplainedFault) (media_error : Option (List ℕ)) (are_all : Bool)
       → Report
   Untold : Report
 
--- no memory was left for the list, or for its report
+-- the out-of-memory report
 abbrev pub no_memory : Data
 no_memory = unread_data 18 Nowhere null
 
@@ -35,32 +34,30 @@ text_of (Accepted project binding beside) = compact_text (accepted_data project 
 text_of (Refused first further media_error are_all) = compact_text (refused_data first further media_error are_all)
 text_of Untold = compact_text no_memory
 
--- 0 accepted, 1 refused or untold
+-- exit status: 0 accepted, 1 refused or out of memory
 abbrev pub status_of : Report → ℕ
 status_of (Accepted project binding beside) = 0
 status_of (Refused first further media_error are_all) = 1
 status_of Untold = 1
 
--- Of all of these, which are complete or not, some are listed, and whether that is all: each then, and they are complete;
--- else the first of them.
+-- `listed` is a prefix of all values; `are_all` only if it has them all and they are complete
 abbrev pub AreListed : {X : Type 0} (all : List X) (complete : Bool) (listed : List X) (are_all : Bool) → Type 0
 AreListed all complete listed true = (listed ≡ all) × (complete ≡ true)
 AreListed {X} all complete listed false = (rest : List X) × (listed ++ rest ≡ all)
 
--- these are listed of the further faults of a text, behind its first one
+-- faults that may be listed after the first fault of a text
 abbrev pub AreOfText : List ℕ → (first : AdlFault) → List Fault → (are_all : Bool) → Type 0
 AreOfText text first listed are_all =
     (all : List Refusal) × (complete : Bool) × AreFurther text first all complete
     × AreListed all complete (map refusal_of listed) are_all
 
--- these of the further faults of the files or the entries of a list, or none where they can't be looked for
+-- faults that may be listed after the first fault of a file or an entry; none if they can't be found
 abbrev pub AreOfSources : List ℕ → Files → (first : Fault) → List Fault → (are_all : Bool) → Type 0
 AreOfSources list files first listed are_all =
     ((listed ≡ []) × (are_all ≡ false))
     ⊎ ((all : List Fault) × AreAll list files first all × AreListed all true listed are_all)
 
--- these of the further faults of a list over these files: of its text whatever they are, of files and entries where they
--- are honest
+-- faults that may be listed after the first fault of a list; for files and entries, on honest sources only
 abbrev pub AreOfList : (honest : Bool) → List ℕ → Files → (first : Fault) → List Fault → (are_all : Bool) → Type 0
 AreOfList honest list files (fault.List first) listed are_all = AreOfText list first listed are_all
 AreOfList honest list files (fault.SameName index) listed are_all =
@@ -70,11 +67,11 @@ AreOfList honest list files (fault.Media index name first) listed are_all =
 AreOfList honest list files (fault.Entry first) listed are_all =
     IsTrue honest → AreOfSources list files (fault.Entry first) listed are_all
 
--- where the text is at fault, that is told, whatever the files are
+-- an invalid text is reported as such, whatever the files contain
 abbrev pub IsOfText : List ℕ → (first : Refusal) → Type 0
 IsOfText text first = (refusal : Refusal) → text_value text ≡ Err refusal → IsDue first (Some refusal)
 
--- the text is as it is told, and the list over these files where they are honest
+-- the report is true of the text, and, on honest sources, of the list over these files
 abbrev pub Holds : (honest : Bool) → List ℕ → Files → Report → Type 0
 Holds honest list files (Accepted project binding beside) =
     (text_value list ≡ Ok project) × (IsTrue honest → IsAccepted list files project binding)
@@ -84,7 +81,7 @@ Holds honest list files (Refused first further media_error are_all) =
     × AreOfList honest list files first.fault (faults_of further) are_all
 Holds honest list files Untold = ⊤
 
--- the list was checked over these files; the status is the report's, and its text was printed in a line
+-- the list was checked over these files, and the report printed as one line with its exit status
 pub record IsReported {O : Type 0} (list : List ℕ) (files : Files) (out : console.Ghosts O) (old new : O) (status : ℕ)
     : Type 0 where
   pub report : Report
@@ -92,12 +89,12 @@ pub record IsReported {O : Type 0} (list : List ℕ) (files : Files) (out : cons
   pub status_is : status ≡ status_of report
   pub printed : Prints out.contents out.failures old new (text_of report ++ 10 ∷ [])
 
--- that a list isn't read was reported in a line, by a refusal of this number and this place
+-- prints that a list can't be read, as one line
 pub record PrintsUnread {O : Type 0} (out : console.Ghosts O) (old new : O) (number : ℕ) (place : Where) : Type 0 where
   pub explained : Data
   pub printed : Prints out.contents out.failures old new (compact_text (unread_data number place explained) ++ 10 ∷ [])
 
--- the report of a list that is refused by this first fault was printed, with such further faults, and whether they are all
+-- prints the report of a refused list with its first and its further faults, and whether they are all
 pub record PrintsRefused {O : Type 0} (out : console.Ghosts O) (old new : O) (first : Fault)
     (AreThese : List Fault → (are_all : Bool) → Type 0) : Type 0 where
   pub explained : Data
@@ -108,7 +105,7 @@ pub record PrintsRefused {O : Type 0} (out : console.Ghosts O) (old new : O) (fi
   pub printed : Prints out.contents out.failures old new
       (compact_text (refused_data (record { fault = first; explained = explained }) further media_error are_all))
 
--- the same in a line; or that no memory was left for it
+-- prints the report of a refused list as one line, or the out-of-memory report
 abbrev pub PrintsRefusedLine : {O : Type 0} (out : console.Ghosts O) (old new : O) (first : Fault)
     (AreThese : List Fault → (are_all : Bool) → Type 0) → Type 0
 PrintsRefusedLine out old new first AreThese =

@@ -1,4 +1,4 @@
-// The report of a list that is accepted.
+// Reports of accepted lists.
 ghost use Rattle.std.specs.Prelude.{◌≡◌, ◌++◌, ◌||◌, codes, decimal, false, map, option_map, slice_get};
 ghost use Rattle.serde_json.specs.View.{items_of};
 ghost use Rattle.serde_json.specs.Written as written;
@@ -18,7 +18,7 @@ use sound_terms::BoundIndex;
 use std::alloc::Global;
 use wavread::Sound;
 
-/// Prints the report of a list without a fault, and what else is reported of it.
+/// Prints the report of a list without faults as one JSON value.
 pub fn put_report<X: Explains, O: Console>(
     alloc: Global,
     checked: &Checked,
@@ -46,8 +46,8 @@ pub fn put_report<X: Explains, O: Console>(
     out.put(b"}");
 }
 
-/// Prints why the folder of the media can't be listed, if it can't, how much room the outputs take, and what of the list
-/// isn't honoured.
+/// Prints the error of listing the media folder, if any, the size of the outputs, and the lines that aren't fully
+/// honoured.
 fn put_beside<X: Explains, O: Console>(
     alloc: Global,
     checked: &Checked,
@@ -66,7 +66,7 @@ fn put_beside<X: Explains, O: Console>(
     put_all_passed(alloc, explains, out);
 }
 
-/// Prints the notices of a list and then those of its files, and the end of their array.
+/// Prints the notices of the list and of its files, and the end of the array.
 fn put_notices<O: Console>(out: &mut O, list: &[Notice], files: &[Notice])
     ensures { Prints O.contents O.failures out.old out.new
         (items_text false (items_of (map notice_data (list.now ++ files.now)))) }
@@ -82,7 +82,7 @@ fn put_notices<O: Console>(out: &mut O, list: &[Notice], files: &[Notice])
     }
 }
 
-/// Prints notices, and the end of their array.
+/// Prints the notices and the end of the array.
 fn put_notices_of_files<O: Console>(out: &mut O, notices: &[Notice])
     ensures { Prints O.contents O.failures out.old out.new
         (items_text false (items_of (map notice_data notices.now))) }
@@ -97,7 +97,7 @@ fn put_notices_of_files<O: Console>(out: &mut O, notices: &[Notice])
     }
 }
 
-/// Prints notices, each after a comma.
+/// Prints the notices, each after a comma.
 fn put_further_notices<O: Console>(out: &mut O, notices: &[Notice])
     ensures { Prints O.contents O.failures out.old out.new (after_commas notice_text notices.now) }
 {
@@ -107,7 +107,7 @@ fn put_further_notices<O: Console>(out: &mut O, notices: &[Notice])
     }
 }
 
-/// Prints a notice: its number, and its line or index.
+/// Prints the number of a notice and its line or index.
 #[tactic(auto, unfolding(crate::specs::Parts::notice_text, json::specs::Print::escape_byte))]
 fn put_notice<O: Console>(out: &mut O, notice: &Notice)
     ensures { Prints O.contents O.failures out.old out.new (notice_text notice.now) }
@@ -119,7 +119,7 @@ fn put_notice<O: Console>(out: &mut O, notice: &Notice)
     }
 }
 
-/// Prints a notice, with these words before its line or index.
+/// Prints a notice; `words` is the JSON text before its line or index.
 fn put_notice_at<O: Console>(out: &mut O, words: &str, notice: &Notice)
     ensures { Prints O.contents O.failures out.old out.new (words.now
         ++ (decimal notice.now.at ++ (codes ",\"notice\":" ++ (decimal notice.now.kind ++ codes "}")))) }
@@ -129,7 +129,7 @@ fn put_notice_at<O: Console>(out: &mut O, words: &str, notice: &Notice)
     out.put(b"}");
 }
 
-/// Prints indexes over these opened files, and the end of their array.
+/// Prints the indexes and the end of the array.
 fn put_indexes<O: Console>(
     out: &mut O,
     indexes: &[BoundIndex],
@@ -149,7 +149,7 @@ fn put_indexes<O: Console>(
     }
 }
 
-/// Prints indexes, each after a comma.
+/// Prints the indexes, each after a comma.
 fn put_further_indexes<O: Console>(
     out: &mut O,
     indexes: &[BoundIndex],
@@ -165,7 +165,7 @@ fn put_further_indexes<O: Console>(
     }
 }
 
-/// Prints an index.
+/// Prints an index, or null if its file is unknown.
 #[tactic(auto, unfolding(crate::specs::Parts::index_text))]
 fn put_index<O: Console>(out: &mut O, index: &BoundIndex, sounds: &[Sound], notices: &[Notice])
     ensures { Prints O.contents O.failures out.old out.new (index_text sounds.now notices.now index.now) }
@@ -176,14 +176,13 @@ fn put_index<O: Console>(out: &mut O, index: &BoundIndex, sounds: &[Sound], noti
     }
 }
 
-/// The file at this place.
 fn sound_at(sounds: &[Sound], position: u32) -> Option<&Sound>
     ensures { option_map (λ sound. sound.now) result ≡ slice_get sounds.now position }
 {
     sounds.get(position as usize)
 }
 
-/// Prints an index of this file.
+/// Prints an index whose file is `sound`.
 fn put_index_of<O: Console>(out: &mut O, index: &BoundIndex, sound: &Sound, notices: &[Notice])
     ensures { Prints O.contents O.failures out.old out.new
         (compact_text (index_of_file notices.now index.now sound.now)) }
@@ -200,7 +199,7 @@ fn put_index_of<O: Console>(out: &mut O, index: &BoundIndex, sound: &Sound, noti
     out.put(b"]}");
 }
 
-/// Prints the numbers of the notices of an index, a comma between two.
+/// Prints the numbers of the notices of an index, separated by commas.
 fn put_kinds<O: Console>(out: &mut O, index: u32, notices: &[Notice])
     ensures { Prints O.contents O.failures out.old out.new (listed false (spec.kinds_of index notices.now)) }
 {
@@ -210,8 +209,8 @@ fn put_kinds<O: Console>(out: &mut O, index: u32, notices: &[Notice])
     }
 }
 
-/// Prints the number of a notice, where it is of this index, after a comma where others are before it. Answers whether
-/// one is before the next.
+/// Prints the number of the notice if it belongs to the index, after a comma if `is_later`. Returns whether the next
+/// number needs a comma.
 fn put_kind<O: Console>(out: &mut O, index: u32, notice: &Notice, is_later: bool) -> bool
     ensures printed { Prints O.contents O.failures out.old out.new (listed is_later (spec.kind_at index notice.now)) }
     ensures later { result ≡ is_later || spec.is_of_index index notice.now }
@@ -223,14 +222,14 @@ fn put_kind<O: Console>(out: &mut O, index: u32, notice: &Notice, is_later: bool
     true
 }
 
-/// A comma, where another value is before the next one.
+/// Returns a comma if another value precedes.
 fn comma_if(is_later: bool) -> &'static str
     ensures { result.now ≡ written.comma_if is_later }
 {
     if is_later { "," } else { "" }
 }
 
-/// Whether a notice is of this index.
+/// Returns whether the notice belongs to the index.
 fn is_of_index(index: u32, notice: &Notice) -> bool
     ensures { result ≡ spec.is_of_index index notice.now }
 {

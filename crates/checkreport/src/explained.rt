@@ -1,4 +1,4 @@
-// What is reported beside faults and projects, as it is printed.
+// Explanations and other supplements to faults and projects.
 ghost use Rattle.std.specs.Prelude.{◌++◌, ◌∷◌, List, false, map};
 ghost use Rattle.serde_json.specs.View.{items_of};
 ghost use Rattle.serde_json.specs.Written.{compact_text, items_text, members_text};
@@ -13,7 +13,7 @@ use opening::Fault;
 use projectcheck::Checked;
 use std::alloc::Global;
 
-/// A count or a text, or neither where there is none.
+/// A member value: a count, a text or null.
 #[derive(Drop)]
 pub enum Value {
     Nothing,
@@ -21,46 +21,46 @@ pub enum Value {
     Text(String),
 }
 
-/// A value by its name.
+/// A value with its name.
 #[derive(Drop)]
 pub struct Member {
     pub name: &'static str,
     pub value: Value,
 }
 
-/// A line of the list of which something isn't honoured, and its words; without these where no memory was left for them.
+/// A line of the list that isn't fully honoured, and the ignored words; `None` if there was no memory for them.
 #[derive(Drop)]
 pub struct PassedLine {
     pub line: u64,
     pub words: Option<String>,
 }
 
-/// How many bytes the media of a consolidation with the default handle and a rendering as a whole take at most; nothing
-/// where that isn't known.
+/// Upper bounds in bytes for the files of a consolidation with default handles and for a full rendering. `None` if
+/// unknown.
 #[derive(Clone, Copy, Debug, PartialEq, Eq)]
 pub struct Room {
     pub media: Option<u64>,
     pub rendering: Option<u64>,
 }
 
-/// What explains the faults of a list beside their numbers and places, and what else is reported of the list. No clause
-/// speaks of what it says.
+/// The source of explanations for faults, and of other supplements to the report of a list. Its answers are
+/// unspecified.
 pub trait Explains {
-    /// What explains this fault, in the order of the names; nothing where no memory was left, or where so many faults were
-    /// explained that no more are.
+    /// Returns the explanation of a fault, sorted by name. Returns `None` if out of memory, or if the limit of
+    /// explained faults is reached.
     fn explain(&mut self, alloc: Global, fault: &Fault) -> Option<Vec<Member>>;
 
-    /// The next line of the list of which something isn't honoured.
+    /// Returns the next line of the list that isn't fully honoured.
     fn next_passed(&mut self, alloc: Global) -> Option<PassedLine>;
 
-    /// Why the folder of the media can't be listed, if it can't.
+    /// Returns why the media folder can't be listed, if it can't.
     fn media_error(&mut self, alloc: Global) -> Option<String>;
 
-    /// How much room the outputs of an accepted list take.
+    /// Returns the maximum size of the outputs of an accepted list.
     fn room(&mut self, alloc: Global, checked: &Checked) -> Room;
 }
 
-/// Prints what explains a fault as an object, or null.
+/// Prints an explanation as a JSON object, or null.
 pub fn put_explained<O: Console>(out: &mut O, explained: &Option<Vec<Member>>)
     ensures { Prints O.contents O.failures out.old out.new (compact_text (explained_data explained.now)) }
 {
@@ -73,7 +73,7 @@ pub fn put_explained<O: Console>(out: &mut O, explained: &Option<Vec<Member>>)
     }
 }
 
-/// Prints members, and the end of their object.
+/// Prints the members and the end of the object.
 fn put_members<O: Console>(out: &mut O, members: &[Member])
     ensures { Prints O.contents O.failures out.old out.new (members_text false (members_of members.now)) }
 {
@@ -87,7 +87,7 @@ fn put_members<O: Console>(out: &mut O, members: &[Member])
     }
 }
 
-/// Prints members, each after a comma.
+/// Prints the members, each after a comma.
 fn put_further_members<O: Console>(out: &mut O, members: &[Member])
     ensures { Prints O.contents O.failures out.old out.new (after_commas member_text members.now) }
 {
@@ -97,7 +97,7 @@ fn put_further_members<O: Console>(out: &mut O, members: &[Member])
     }
 }
 
-/// Prints a value after its name.
+/// Prints the name and the value of a member.
 #[tactic(auto, unfolding(crate::specs::Parts::member_text))]
 fn put_member<O: Console>(out: &mut O, member: &Member)
     ensures { Prints O.contents O.failures out.old out.new (member_text member.now) }
@@ -107,7 +107,6 @@ fn put_member<O: Console>(out: &mut O, member: &Member)
     put_value(out, &member.value);
 }
 
-/// Prints a value.
 fn put_value<O: Console>(out: &mut O, value: &Value)
     ensures { Prints O.contents O.failures out.old out.new (compact_text (value_data value.now)) }
 {
@@ -118,7 +117,7 @@ fn put_value<O: Console>(out: &mut O, value: &Value)
     }
 }
 
-/// Prints the lines of a list of which something isn't honoured, and the end of their array.
+/// Prints the lines that aren't fully honoured, and the end of the array.
 pub fn put_all_passed<X: Explains, O: Console>(alloc: Global, explains: &mut X, out: &mut O)
     ensures { (passed : List PassedLine) × Prints O.contents O.failures out.old out.new
         (items_text false (items_of (map passed_data passed))) }
@@ -133,7 +132,7 @@ pub fn put_all_passed<X: Explains, O: Console>(alloc: Global, explains: &mut X, 
     }
 }
 
-/// Prints further ones, each after a comma.
+/// Prints the remaining lines, each after a comma.
 fn put_further_passed<X: Explains, O: Console>(alloc: Global, explains: &mut X, out: &mut O)
     ensures { (passed : List PassedLine) × Prints O.contents O.failures out.old out.new (after_commas passed_text passed) }
 {
@@ -145,7 +144,7 @@ fn put_further_passed<X: Explains, O: Console>(alloc: Global, explains: &mut X, 
     }
 }
 
-/// Prints one more, after a comma.
+/// Prints one more line, after a comma.
 fn put_next_passed<O: Console>(out: &mut O, passed: &PassedLine)
     ensures { Prints O.contents O.failures out.old out.new (44 ∷ passed_text passed.now) }
 {
@@ -153,7 +152,7 @@ fn put_next_passed<O: Console>(out: &mut O, passed: &PassedLine)
     put_passed(out, passed);
 }
 
-/// Prints a line of which something isn't honoured.
+/// Prints a line that isn't fully honoured.
 #[tactic(auto, unfolding(crate::specs::Parts::passed_text, json::specs::Print::escape_byte))]
 fn put_passed<O: Console>(out: &mut O, passed: &PassedLine)
     ensures { Prints O.contents O.failures out.old out.new (passed_text passed.now) }
@@ -164,7 +163,7 @@ fn put_passed<O: Console>(out: &mut O, passed: &PassedLine)
     out.put(b"}");
 }
 
-/// Prints how much room outputs take.
+/// Prints the maximum size of the outputs.
 pub fn put_room<O: Console>(out: &mut O, room: Room)
     ensures { Prints O.contents O.failures out.old out.new (room_text room) }
 {

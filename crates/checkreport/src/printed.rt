@@ -1,4 +1,4 @@
-// Reports as they are printed.
+// Printing of whole reports.
 ghost use Rattle.std.specs.Prelude.{◌≡◌, ◌≤◌, ◌++◌, ◌∷◌, [], ℕ, IsTrue, List, OnErr, OnOk, false, string_bytes};
 ghost use Rattle.serde_json.specs.Data.{Data};
 ghost use Rattle.serde_json.specs.Written.{compact_text};
@@ -21,8 +21,9 @@ use opening::{Fault, further_faults};
 use projectcheck::Checked;
 use std::alloc::{AllocError, Global};
 
-/// Prints the report of a list without a fault as a line of JSON, part by part, and answers the status 0. It takes no
-/// memory but for what is reported beside the project, line by line.
+/// Prints the report of a list without faults as one line of JSON, and returns the exit status, 0.
+///
+/// Printed part by part. Needs memory only for the supplements, and for one line of the list at a time.
 pub fn put_accepted<X: Explains, O: Console>(
     alloc: Global,
     checked: &Checked,
@@ -40,10 +41,13 @@ pub fn put_accepted<X: Explains, O: Console>(
     0
 }
 
-/// Prints the report of a list that is refused by this first fault as a line of JSON, fault by fault, and answers the
-/// status 1. Further faults are looked for in the list and in the sources of the shelf, and each is explained. Where no
-/// memory was left before the first byte, the report has the refusal 18 alone; where none was left for a later fault, the
-/// report ends before it and says that it isn't complete.
+/// Prints the report of a list that was refused with the fault `first` as one line of JSON, and returns the exit
+/// status, 1.
+///
+/// Finds and explains further faults of the list and of the sources on the shelf.
+///
+/// If out of memory before the first byte, the report only has the refusal 18. If out of memory later, the report ends
+/// with the faults so far and says that it isn't complete.
 pub fn put_refused<S: Shelf, X: Explains, O: Console>(
     alloc: Global,
     list: &[u8],
@@ -68,8 +72,8 @@ pub fn put_refused<S: Shelf, X: Explains, O: Console>(
     }
 }
 
-/// Prints the report of a list that isn't read, for a refusal of this number at its path, and what explains that. The
-/// status is 1.
+/// Prints the report of a list that can't be read, with the refusal `number`, its path and its explanation. Returns the
+/// exit status, 1.
 pub fn put_unread<O: Console>(
     number: u8,
     path: String,
@@ -84,7 +88,7 @@ pub fn put_unread<O: Console>(
     1
 }
 
-/// Prints that no memory was left for a list or for its report, and answers the status.
+/// Prints the out-of-memory report, and returns the exit status, 1.
 pub fn put_no_memory<O: Console>(out: &mut O) -> u8
     ensures status { result ≡ 1 }
     ensures printed { Prints O.contents O.failures out.old out.new (compact_text no_memory ++ 10 ∷ []) }
@@ -95,8 +99,7 @@ pub fn put_no_memory<O: Console>(out: &mut O) -> u8
     1
 }
 
-/// Prints the report of a list that is refused, without the line's end. Nothing where no memory was left before the
-/// first byte.
+/// Prints the report of a refused list without a line end. Prints nothing if out of memory before the first byte.
 fn put_faults<S: Shelf, X: Explains, O: Console>(
     alloc: Global,
     list: &[u8],
@@ -115,7 +118,7 @@ fn put_faults<S: Shelf, X: Explains, O: Console>(
     }
 }
 
-/// The same where its text is refused for this fault, with its further lines at fault.
+/// Prints the report of an invalid text, with the further invalid lines.
 fn put_lines<X: Explains, O: Console>(
     alloc: Global,
     list: &[u8],
@@ -135,7 +138,7 @@ fn put_lines<X: Explains, O: Console>(
     Ok(())
 }
 
-/// The same where a file or an entry is at fault, with further ones of the sources.
+/// Prints the report of an invalid file or entry, with further ones.
 fn put_sources<S: Shelf, X: Explains, O: Console>(
     alloc: Global,
     list: &[u8],
@@ -156,7 +159,7 @@ fn put_sources<S: Shelf, X: Explains, O: Console>(
     Ok(())
 }
 
-/// Prints the further faults of the sources, and answers whether these are all.
+/// Prints the further faults of files or entries. Returns whether they are all.
 fn put_further<S: Shelf, X: Explains, O: Console>(
     alloc: Global,
     list: &[u8],

@@ -1,4 +1,4 @@
-// The faults of a list that is refused, as they are printed.
+// Reports of refused lists.
 ghost use Rattle.std.specs.Prelude.{◌≡◌, ◌∷◌, [], Bool, IfOk, None, OnErr, OnOk, List, map, option_map, string_bytes, ◌++◌, false, true};
 ghost use Rattle.serde_json.specs.Data.{Data, null, string};
 ghost use Rattle.serde_json.specs.Written.{compact_text};
@@ -20,7 +20,7 @@ use list_terms::Location;
 use opening::Fault;
 use std::alloc::{AllocError, Global};
 
-/// A fault that is ready to be printed: its number, the parts that its place has, and what explains it.
+/// A fault ready to print: its number, its location and its explanation.
 #[derive(Drop)]
 pub struct ReportedFault {
     number: u8,
@@ -32,7 +32,7 @@ pub struct ReportedFault {
 }
 
 impl ReportedFault {
-    /// This fault.
+    /// Prepares a fault, with its explanation. Returns an error if out of memory.
     pub fn of<X: Explains>(
         alloc: Global,
         fault: &Fault,
@@ -53,7 +53,7 @@ impl ReportedFault {
         })
     }
 
-    /// Of a list at this path, which is refused by this number.
+    /// Creates the fault of a list that can't be read.
     pub fn of_list(number: u8, path: String, explained: Option<Vec<Member>>) -> Self
         ensures { ready_data result ≡ fault_of None (explained_data explained) (string (string_bytes path)) None None
             number }
@@ -68,7 +68,7 @@ impl ReportedFault {
         }
     }
 
-    /// That no memory was left.
+    /// Creates the out-of-memory fault.
     pub fn of_memory() -> Self
         ensures { ready_data result ≡ fault_of None null null None None 18 }
     {
@@ -82,7 +82,7 @@ impl ReportedFault {
         }
     }
 
-    /// Prints the report of a list that isn't read for this fault, in a line.
+    /// Prints the report of a list that can't be read, as one line.
     pub fn put_alone<O: Console>(&self, out: &mut O)
         ensures { Prints O.contents O.failures out.old out.new
             (compact_text (refused_of (ready_data self.now ∷ []) null false) ++ 10 ∷ []) }
@@ -93,7 +93,6 @@ impl ReportedFault {
         out.end_line();
     }
 
-    /// Prints the fault.
     pub fn put<O: Console>(&self, out: &mut O)
         ensures { Prints O.contents O.failures out.old out.new (compact_text (ready_data self.now)) }
     {
@@ -127,7 +126,7 @@ pub fn put_first<X: Explains, O: Console>(
     Ok(())
 }
 
-/// Prints a further fault.
+/// Prints a further fault, after a comma.
 #[tactic(auto, unfolding(crate::specs::Parts::fault_text))]
 fn put_next<X: Explains, O: Console>(
     alloc: Global,
@@ -145,7 +144,7 @@ fn put_next<X: Explains, O: Console>(
     Ok(())
 }
 
-/// Prints further faults, and answers whether these are all: up to the first one for which no memory was left.
+/// Prints further faults until out of memory. Returns whether all are printed.
 pub fn put_all<X: Explains, O: Console>(
     alloc: Global,
     faults: &[Fault],
@@ -163,7 +162,7 @@ pub fn put_all<X: Explains, O: Console>(
     true
 }
 
-/// Prints the further faults of a text one by one, and answers whether these are all.
+/// Prints the further faults of a text, one at a time. Returns whether all are printed.
 pub fn put_of_text<X: Explains, O: Console>(
     alloc: Global,
     faults: &mut Faults<'_>,
@@ -187,8 +186,7 @@ pub fn put_of_text<X: Explains, O: Console>(
     false
 }
 
-/// Prints the end of the report of a refused list, over a folder of media that can't be listed for this reason, if it
-/// can't.
+/// Prints the end of the report of a refused list; `media_error` is the reason why the media folder can't be listed.
 #[tactic(auto, unfolding(crate::specs::Parts::refused_end))]
 pub fn put_end<O: Console>(media_error: &Option<String>, are_all: bool, out: &mut O)
     ensures { Prints O.contents O.failures out.old out.new
@@ -202,7 +200,7 @@ pub fn put_end<O: Console>(media_error: &Option<String>, are_all: bool, out: &mu
     out.put(b"}");
 }
 
-/// The line of a fault.
+/// Returns the line of a fault.
 fn line_of(fault: &Fault) -> Option<u64>
     ensures { result ≡ line_in (refusal_of fault.now).location }
 {
@@ -216,7 +214,7 @@ fn line_of(fault: &Fault) -> Option<u64>
     }
 }
 
-/// The entry of a fault.
+/// Returns the entry of a fault.
 fn entry_of(fault: &Fault) -> Option<u64>
     ensures { result ≡ entry_in (refusal_of fault.now).location }
 {
@@ -230,7 +228,7 @@ fn entry_of(fault: &Fault) -> Option<u64>
     }
 }
 
-/// The index of a fault.
+/// Returns the index of a fault.
 fn index_of(fault: &Fault) -> Option<u64>
     ensures { result ≡ index_in (refusal_of fault.now).location }
 {
@@ -245,7 +243,7 @@ fn index_of(fault: &Fault) -> Option<u64>
     }
 }
 
-/// The name of the file of a fault.
+/// Returns the name of the file of a fault.
 fn file_of(alloc: Global, fault: &Fault) -> Result<Option<String>, AllocError>
     ensures { IfOk result (λ name. text_in (option_map string_bytes name) ≡ file_in (refusal_of fault.now).location) }
 {

@@ -1,4 +1,4 @@
-// Values of JSON as they are printed.
+// Printing of JSON values.
 ghost use Rattle.std.specs.Prelude.{◌≡◌, ◌<◌, ◌++◌, option_map, string_bytes};
 ghost use Rattle.std.specs.Char.{digit_char};
 ghost use Rattle.json.specs.Print as json;
@@ -10,10 +10,10 @@ ghost use Rattle.console.specs.Printing.{Prints};
 
 use console::{Console, put_counted};
 
-/// The version of the form of reports.
+/// Version of the report format.
 pub const FORM: u64 = 6;
 
-/// Prints words, and then a number or null.
+/// Prints `words`, followed by a number or null.
 pub fn put_found<O: Console>(out: &mut O, words: &str, found: Option<u64>)
     ensures { Prints O.contents O.failures out.old out.new (words.now ++ compact_text (count_in found)) }
 {
@@ -37,7 +37,7 @@ pub fn put_flag<O: Console>(out: &mut O, flag: bool)
     }
 }
 
-/// Prints a text as a string, or null where there is none.
+/// Prints a text as a JSON string, or null if there is none.
 pub fn put_text<O: Console>(out: &mut O, text: &Option<String>)
     ensures { Prints O.contents O.failures out.old out.new
         (compact_text (text_in (option_map string_bytes text.now))) }
@@ -48,7 +48,7 @@ pub fn put_text<O: Console>(out: &mut O, text: &Option<String>)
     }
 }
 
-/// Prints a text as a string.
+/// Prints a text as a JSON string.
 pub fn put_string<O: Console>(out: &mut O, text: &str)
     ensures { Prints O.contents O.failures out.old out.new (quoted text.now) }
 {
@@ -57,7 +57,7 @@ pub fn put_string<O: Console>(out: &mut O, text: &str)
     out.put(b"\"");
 }
 
-/// Prints bytes of a text as they are in a string.
+/// Prints bytes, escaped for a JSON string.
 fn put_escaped<O: Console>(out: &mut O, bytes: &[u8])
     ensures { Prints O.contents O.failures out.old out.new (json.escape bytes.now) }
 {
@@ -66,7 +66,7 @@ fn put_escaped<O: Console>(out: &mut O, bytes: &[u8])
     }
 }
 
-/// Prints a byte of a text as it is in a string.
+/// Prints a byte, escaped if necessary.
 #[tactic(auto, unfolding(json::specs::Print::escape_byte))]
 fn put_byte<O: Console>(out: &mut O, byte: u8)
     ensures { Prints O.contents O.failures out.old out.new (escape_byte byte) }
@@ -81,7 +81,7 @@ fn put_byte<O: Console>(out: &mut O, byte: u8)
     }
 }
 
-/// The letter of the short escape of a byte; 0 where it has none.
+/// Returns the letter of the short escape of a byte, or 0 if it has none.
 fn escape_letter(byte: u8) -> u8
     ensures { result ≡ json.escape_letter byte }
 {
@@ -96,7 +96,7 @@ fn escape_letter(byte: u8) -> u8
     }
 }
 
-/// The hexadecimal digit of a number below 16, and of what a larger one exceeds a multiple of 16 by.
+/// Returns the hexadecimal digit of `number` modulo 16.
 fn digit(number: u8) -> u8
     ensures { number < 16 → result ≡ digit_char number }
 {

@@ -3,7 +3,7 @@ use Rattle.checkreport.specs.Parts.{after_commas, index_text}
 use Rattle.console.specs.Printing.{Prints}
 use Rattle.checkreport.proofs.accepted.put_further_indexes.Given as goal
 
--- what was printed so far
+-- the indexes so far are printed
 abbrev pub invariant-loop-index : goal.invariant-loop-index
 invariant-loop-index g l =
     Prints g.O.Console.contents g.O.Console.failures l.initial.out l.out

@@ -5,7 +5,7 @@ use Rattle.checkreport.specs.Report.{is_of_index, kinds_of}
 use Rattle.console.specs.Printing.{Prints}
 use Rattle.checkreport.proofs.accepted.put_kinds.Given as goal
 
--- what was printed so far
+-- the numbers so far are printed, and the flag says whether there is one
 abbrev pub invariant-loop-notice : goal.invariant-loop-notice
 invariant-loop-notice g l =
     Prints g.O.Console.contents g.O.Console.failures l.initial.out l.out

@@ -4,7 +4,7 @@ use Rattle.checkreport.specs.declared.explained.PassedLine.{PassedLine}
 use Rattle.console.specs.Printing.{Prints}
 use Rattle.checkreport.proofs.explained.put_further_passed.Given as goal
 
--- what was printed so far
+-- the lines so far are printed
 abbrev pub invariant-lines : goal.invariant-lines
 invariant-lines g l =
     (printed : List PassedLine)

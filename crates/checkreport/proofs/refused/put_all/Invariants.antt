@@ -4,7 +4,7 @@ use Rattle.checkreport.specs.Report.{ExplainedFault, faults_of}
 use Rattle.console.specs.Printing.{Prints}
 use Rattle.checkreport.proofs.refused.put_all.Given as goal
 
--- what was printed so far
+-- the faults so far are printed
 abbrev pub invariant-loop-fault : goal.invariant-loop-fault
 invariant-loop-fault g l =
     (printed : List ExplainedFault) × (faults_of printed ≡ take l.fault-index l.faults)

@@ -7,7 +7,7 @@ use Rattle.checkreport.specs.Report.{ExplainedFault, faults_of}
 use Rattle.console.specs.Printing.{Prints}
 use Rattle.checkreport.proofs.refused.put_of_text.Given as goal
 
--- what was printed so far, and that the others are left
+-- the printed faults and the remaining ones are all faults
 abbrev pub invariant-faults : goal.invariant-faults
 invariant-faults g l =
     (printed : List ExplainedFault)
