@@ -1,16 +1,16 @@
-// What stands in a line at a fault.
+// The text at a fault in a line.
 ghost use Rattle.std.specs.Prelude.{◌≤◌, ◌+◌, length};
 
 use adlread::Span;
 
-/// What stands at a fault: the column of its first byte, counted from 1, and its text; none at the line's end.
+/// The text at a fault in a line, empty at the end of the line, and its column. Columns count bytes from 1.
 #[derive(Clone, Copy)]
 pub struct Stood<'a> {
     pub column: usize,
     pub text: &'a [u8],
 }
 
-/// What stands in this part of a line, as far as the line goes.
+/// Returns the text of a span, clipped to the line.
 pub fn stood_at<'a>(line: &'a [u8], span: Span) -> Stood<'a>
     ensures column { (1 ≤ result.column) × (result.column ≤ length line.now + 1) }
     ensures inside { result.column + length result.text.now ≤ length line.now + 1 }

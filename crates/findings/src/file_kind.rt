@@ -1,13 +1,12 @@
-// What a file that is no WAVE file is, by its first bytes.
+// Detection of the type of a file that isn't WAVE, from its first bytes.
 use devices::Shelf;
 use std::fmt;
 use std::fmt::Display;
 
-/// How many bytes of a file tell what it is.
+/// Number of bytes examined.
 const HEAD: usize = 12;
 
-/// The kinds of files that lie most often where a WAVE file should, by bytes that stand at one place of each; the first
-/// that fits tells.
+/// Signatures of the types most often found in place of a WAVE file: offset, bytes and name. The first match counts.
 static SIGNATURES: [(usize, &'static [u8], &'static str); 21] = [
     (0, b"fLaC", "FLAC"),
     (8, b"AIFF", "AIFF"),
@@ -36,7 +35,7 @@ static SIGNATURES: [(usize, &'static [u8], &'static str); 21] = [
     ),
 ];
 
-/// The first bytes of a file, as many as tell its kind.
+/// The first bytes of a file, at most `HEAD`.
 #[derive(Clone, Copy)]
 pub struct FileHead {
     bytes: [u8; HEAD],
@@ -44,7 +43,7 @@ pub struct FileHead {
 }
 
 impl FileHead {
-    /// Of the file of this name.
+    /// Reads the first bytes of the file. Returns `None` if it can't be read.
     pub fn of<S: Shelf>(shelf: &mut S, name: &str) -> Option<FileHead> {
         let length = shelf.length(name).ok()?;
         let count = length.min(HEAD as u64) as usize;
@@ -57,7 +56,7 @@ impl FileHead {
         self.bytes.get(..self.count).unwrap_or(&self.bytes)
     }
 
-    /// The kind of the file, where it is known.
+    /// Returns the type of the file, if it is known.
     fn kind(&self) -> Option<&'static str> {
         let head = self.as_slice();
         let (_, _, kind) = SIGNATURES.iter().find(|(at, bytes, _)| {
@@ -66,12 +65,12 @@ impl FileHead {
         Some(kind)
     }
 
-    /// Whether the file has nothing but zeros in front, or nothing at all.
+    /// Returns whether all of the bytes are zero, or the file is empty.
     fn is_silent(&self) -> bool {
         self.as_slice().iter().all(|byte| *byte == 0)
     }
 
-    /// What to do about a file that was never written.
+    /// Returns the remedy for a file that was never written.
     pub fn remedy(&self) -> Option<&'static str> {
         if self.is_silent() {
             Some("copy the file again")

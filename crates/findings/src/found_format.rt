@@ -1,23 +1,23 @@
-// The format of a sound file that isn't read, as its chunk `fmt ` has it (RIFF WAVE).
+// The unsupported format of a sound file, from its `fmt ` chunk (RIFF WAVE).
 use devices::Shelf;
 use riff::walk;
 use std::fmt;
 use std::fmt::Display;
 
-/// The bytes of a `fmt ` chunk up to the end of `WAVE_FORMAT_EXTENSIBLE`, and those that each one has at least.
+/// Length in bytes of a `fmt ` chunk with `WAVE_FORMAT_EXTENSIBLE`, and the minimum length.
 const LENGTH: usize = 40;
 
 const LEAST: usize = 16;
 
-/// The tag of integer PCM, and that of a format which its sub-format tells (`WAVE_FORMAT_EXTENSIBLE`).
+/// Format tags of integer PCM, and of formats given by a sub-format (`WAVE_FORMAT_EXTENSIBLE`).
 const PCM: u16 = 1;
 
 const EXTENSIBLE: u16 = 0xfffe;
 
-/// Where the sub-format of `WAVE_FORMAT_EXTENSIBLE` stands, whose first two bytes are a tag.
+/// Offset of the sub-format of `WAVE_FORMAT_EXTENSIBLE`. Its first two bytes are a format tag.
 const SUB_FORMAT_AT: usize = 24;
 
-/// The tags that are met most often, and what they are registered for.
+/// The most common format tags and their registered names.
 static TAGS: [(u16, &'static str); 13] = [
     (0x0002, "Microsoft ADPCM"),
     (0x0003, "floating point"),
@@ -34,8 +34,10 @@ static TAGS: [(u16, &'static str); 13] = [
     (0xf1ac, "FLAC"),
 ];
 
-/// What a `fmt ` chunk says: how long it is, up to 40 bytes, the tag of its format or sub-format, the channels, the
-/// samples a second, the bytes of a frame, and the bits of a sample.
+/// The contents of a `fmt ` chunk.
+///
+/// `length` is at most 40 bytes, `tag` is the tag of the format or the sub-format, `rate` is in hertz, `frame` is the
+/// size of a sample frame in bytes and `bits` the size of a sample.
 #[derive(Clone, Copy)]
 pub struct FoundFormat {
     length: usize,
@@ -47,7 +49,7 @@ pub struct FoundFormat {
 }
 
 impl FoundFormat {
-    /// Of the file of this name.
+    /// Reads the `fmt ` chunk of the file. Returns `None` if there is none or it can't be read.
     pub fn of<S: Shelf>(shelf: &mut S, name: &str) -> Option<FoundFormat> {
         let format = walk(shelf, name).ok()?.format;
         let length = format.length.min(LENGTH as u64) as usize;
@@ -56,7 +58,7 @@ impl FoundFormat {
         Some(FoundFormat::in_chunk(&bytes, length))
     }
 
-    /// What a chunk of these bytes and zeros behind them says.
+    /// Decodes a chunk of `length` bytes, padded with zeros.
     fn in_chunk(bytes: &[u8; LENGTH], length: usize) -> FoundFormat {
         let tag = u16::from_le_bytes([bytes[0], bytes[1]]);
         let is_extended = tag == EXTENSIBLE && length >= SUB_FORMAT_AT + 2;
@@ -74,7 +76,7 @@ impl FoundFormat {
         }
     }
 
-    /// The tag of the format, where the chunk is long enough to have one.
+    /// Returns the format tag, or `None` if the chunk is too short.
     pub fn tag(&self) -> Option<u16> {
         if self.length < LEAST {
             None
@@ -83,23 +85,23 @@ impl FoundFormat {
         }
     }
 
-    /// What the tag is registered for, where that is known.
+    /// Returns the registered name of the format tag, if it is known.
     fn name(&self) -> Option<&'static str> {
         let (_, name) = TAGS.iter().find(|(tag, _)| *tag == self.tag)?;
         Some(name)
     }
 
-    /// Whether integer PCM of these bits is read.
+    /// Returns whether integer PCM of this bit depth is supported.
     fn has_known_bits(&self) -> bool {
         matches!(self.bits, 16 | 24 | 32)
     }
 
-    /// Whether so many channels are read.
+    /// Returns whether the number of channels is supported.
     fn has_known_channels(&self) -> bool {
         1 <= self.channels && self.channels <= 64
     }
 
-    /// What to do about integer PCM whose channels alone aren't read.
+    /// Returns the remedy for integer PCM that is only unsupported for its number of channels.
     pub fn remedy(&self) -> Option<&'static str> {
         if self.tag() == Some(PCM) && self.has_known_bits() && !self.has_known_channels() {
             Some("only 1 to 64 channels are read: split the file, or take it out of the list")
@@ -108,7 +110,7 @@ impl FoundFormat {
         }
     }
 
-    /// Why integer PCM isn't read.
+    /// Writes why the integer PCM file isn't supported.
     fn fmt_pcm<W: fmt::Write>(&self, f: &mut fmt::Formatter<W>) -> fmt::Result {
         let FoundFormat {
             channels,
@@ -129,7 +131,7 @@ impl FoundFormat {
     }
 }
 
-/// Why the format isn't read.
+/// Displays why the format isn't supported.
 impl fmt::Display for FoundFormat {
     fn fmt<W: fmt::Write>(&self, f: &mut fmt::Formatter<W>) -> fmt::Result {
         let tag = self.tag;

@@ -1,4 +1,4 @@
-// What was found of a sound file that isn't read.
+// Details of a sound file that was refused.
 use crate::file_kind::FileHead;
 use crate::found_format::FoundFormat;
 use devices::Shelf;
@@ -6,8 +6,8 @@ use riff::MediaFault;
 use std::fmt;
 use std::fmt::Display;
 
-/// What was found of a file that is refused: what begins it where it is no WAVE file, its format where that isn't read,
-/// or its rate.
+/// The details of a refused file: its first bytes if it isn't WAVE, its format if that isn't supported, or its sample
+/// rate.
 #[derive(Clone, Copy)]
 pub enum FoundSound {
     Head(FileHead),
@@ -16,7 +16,8 @@ pub enum FoundSound {
 }
 
 impl FoundSound {
-    /// Of the file of this name, which has this fault; nothing where the number says all.
+    /// Reads the details of a file with this fault. Returns `None` if the number of the fault says it all, or if the
+    /// file can't be read.
     pub fn of<S: Shelf>(shelf: &mut S, name: &str, fault: MediaFault) -> Option<FoundSound> {
         match fault {
             MediaFault::NotWave => Some(FoundSound::Head(FileHead::of(shelf, name)?)),
@@ -29,7 +30,7 @@ impl FoundSound {
         }
     }
 
-    /// What to do, where that is another thing than the number says.
+    /// Returns a remedy that is more specific than the one of the refusal.
     pub fn remedy(&self) -> Option<&'static str> {
         match self {
             FoundSound::Head(head) => head.remedy(),
@@ -38,7 +39,7 @@ impl FoundSound {
         }
     }
 
-    /// The format that isn't read.
+    /// Returns the unsupported format.
     pub fn format(&self) -> Option<FoundFormat> {
         match self {
             FoundSound::Format(format) => Some(*format),
@@ -46,7 +47,7 @@ impl FoundSound {
         }
     }
 
-    /// How many samples a second the file has.
+    /// Returns the sample rate of the file in hertz, if known.
     pub fn rate(&self) -> Option<u32> {
         match self {
             FoundSound::Rate(rate) => Some(*rate),

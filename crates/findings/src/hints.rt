@@ -1,9 +1,9 @@
-// What else helps at a fault of the text, by what stands there.
+// Hints on faults of the list text, from the text at the fault.
 use adltoken::{Tokens, starts_in_any_case};
 use list_terms::TextFault;
 use percent_encoding::percent_decode;
 
-/// What a line says, by its keyword.
+/// The kind of a line, from its keyword.
 #[derive(Clone, Copy, Debug, PartialEq, Eq)]
 enum LineKind {
     Index,
@@ -14,7 +14,7 @@ enum LineKind {
     Other,
 }
 
-/// What else helps where a list has this fault at this text of this line.
+/// Returns a hint on a fault; `stood` is the text at the fault.
 pub fn hint_at(fault: TextFault, stood: &[u8], line: &[u8], list: &[u8]) -> Option<&'static str> {
     if list.starts_with(b"\xff\xfe") || list.starts_with(b"\xfe\xff") {
         return Some("the list is UTF-16: save it as UTF-8");
@@ -26,7 +26,7 @@ pub fn hint_at(fault: TextFault, stood: &[u8], line: &[u8], list: &[u8]) -> Opti
     }
 }
 
-/// What alone is read in a line that says this.
+/// Returns the only form that is supported in a line of this kind.
 fn form_read(kind: LineKind) -> Option<&'static str> {
     match kind {
         LineKind::Index => Some("of indexes only files, (F), are supported"),
@@ -38,7 +38,7 @@ fn form_read(kind: LineKind) -> Option<&'static str> {
     }
 }
 
-/// What a line says, by its first token.
+/// Returns the kind of a line from its first token.
 fn kind_of_line(line: &[u8]) -> LineKind {
     match Tokens::new(line).next_token() {
         Ok(Some(token)) => kind_of(token.content),
@@ -46,7 +46,7 @@ fn kind_of_line(line: &[u8]) -> LineKind {
     }
 }
 
-/// What a line of this keyword says.
+/// Returns the kind of a line with this keyword.
 fn kind_of(keyword: &[u8]) -> LineKind {
     if keyword.eq_ignore_ascii_case(b"Index") {
         LineKind::Index
@@ -65,7 +65,7 @@ fn kind_of(keyword: &[u8]) -> LineKind {
     }
 }
 
-/// What else is to be said of a URL that names no file.
+/// Returns a hint on a URL that names no file.
 fn url_hint(stood: &[u8]) -> Option<&'static str> {
     if stood.contains(&b'\\') {
         return Some("it holds \\, but / parts folders");
@@ -76,7 +76,7 @@ fn url_hint(stood: &[u8]) -> Option<&'static str> {
     None
 }
 
-/// The path of a URL of the form that is read, behind its host.
+/// Returns the path of a URL in a supported form, without the host.
 fn path_in(stood: &[u8]) -> Option<&[u8]> {
     let url = stood.strip_prefix(b"\"").unwrap_or(stood);
     let file = if starts_in_any_case(b"url:", url) {
@@ -93,7 +93,7 @@ fn path_in(stood: &[u8]) -> Option<&[u8]> {
     parts.next()
 }
 
-/// Whether the last component of a path that names no file can't be for another reason than that it isn't UTF-8.
+/// Returns whether the last component of the path is invalid only because it isn't UTF-8.
 fn has_other_text(path: &[u8]) -> bool {
     let Some(name) = path.split(|byte| *byte == b'/').last() else {
         return false;

@@ -1,4 +1,4 @@
-// The lines of a list that are at fault.
+// Lines of a list with faults.
 use crate::column::{Stood, stood_at};
 use crate::hints::hint_at;
 use crate::shown::Shown;
@@ -8,16 +8,17 @@ use sampletime::Rate;
 use std::fmt;
 use std::fmt::Display;
 
-/// How many bytes of a line at fault are shown, and of what stands at the fault.
+/// Maximum number of bytes displayed of a line, and of the text at the fault.
 const SHOWN_BYTES: usize = 160;
 
 const STOOD_BYTES: usize = 60;
 
-/// How many bytes of a list are looked at together for the ends of their lines.
+/// Number of bytes searched for line ends at a time.
 const BLOCK_BYTES: usize = 4096;
 
-/// The lines of a list by their numbers, found soonest where these rise: what is left of it behind so many line feeds.
-/// Beside it which numbers of faults were asked for, one bit each.
+/// The lines of a list by number; lookups are fastest in increasing order.
+///
+/// `rest` is the list after `ends` line feeds. `numbers` has one bit for each fault number already looked up.
 #[derive(Clone, Copy)]
 pub struct ListLines<'a> {
     list: &'a [u8],
@@ -28,7 +29,7 @@ pub struct ListLines<'a> {
 }
 
 impl<'a> ListLines<'a> {
-    /// Of this list.
+    /// Creates a lookup for the list.
     pub fn new(list: &'a [u8]) -> Self {
         ListLines {
             list,
@@ -39,7 +40,7 @@ impl<'a> ListLines<'a> {
         }
     }
 
-    /// The line at which this fault of the list stands, where it stands at one.
+    /// Returns the line of a fault, or `None` if the fault isn't in a line.
     pub fn at(&mut self, fault: &opening::Fault) -> Option<LineAtFault<'a>> {
         match fault {
             opening::Fault::List(text) => {
@@ -51,7 +52,7 @@ impl<'a> ListLines<'a> {
         }
     }
 
-    /// Whether no line at a fault of this number was asked for before.
+    /// Returns whether this is the first lookup for a fault of this number.
     fn is_first(&mut self, number: u8) -> bool {
         let mark = 1u64.checked_shl(u32::from(number)).unwrap_or(0);
         let is_first = self.numbers & mark == 0;
@@ -59,7 +60,7 @@ impl<'a> ListLines<'a> {
         is_first
     }
 
-    /// The line at which this fault of the text stands.
+    /// Returns the line of a fault of the text.
     fn at_fault(&mut self, fault: AdlFault) -> Option<LineAtFault<'a>> {
         let AdlFault::Text {
             fault,
@@ -86,7 +87,7 @@ impl<'a> ListLines<'a> {
         })
     }
 
-    /// The line of this number, counted from 1, without its end. A byte order mark in front of the list is no part of it.
+    /// Returns the line with this number, counted from 1, without its line end and without a byte order mark.
     fn line(&mut self, number: u64) -> Option<&'a [u8]> {
         let position = usize::try_from(number.checked_sub(1)?).ok()?;
         if position <= self.ends {
@@ -100,7 +101,8 @@ impl<'a> ListLines<'a> {
         Some(line.strip_suffix(b"\r").unwrap_or(line))
     }
 
-    /// The rate of the list, where this has the shape of a time and its frame passes it.
+    /// Returns the frame rate of the list if `time` has the shape of a time and its frame number is too high for that
+    /// rate.
     fn passed_rate(&mut self, time: &[u8]) -> Option<Rate> {
         let rate = self.rate.unwrap_or_else(|| rate_of(self.list));
         self.rate = Some(rate);
@@ -108,12 +110,12 @@ impl<'a> ListLines<'a> {
     }
 }
 
-/// The list without a byte order mark in front.
+/// Returns the list without a byte order mark.
 fn without_mark(list: &[u8]) -> &[u8] {
     list.strip_prefix(b"\xEF\xBB\xBF").unwrap_or(list)
 }
 
-/// The number of the line of a place.
+/// Returns the number of the line of a location.
 fn line_in(location: Location) -> u64 {
     match location {
         Location::Line { line } | Location::Entry { line, .. } | Location::Index { line, .. } =>
@@ -121,7 +123,7 @@ fn line_in(location: Location) -> u64 {
     }
 }
 
-/// Whether this has the shape of a time, and its frame passes the rate.
+/// Returns whether `time` has the shape of a time and its frame number is too high for the rate.
 fn passes(time: &[u8], rate: Rate) -> bool {
     match time {
         [_, _, _, _, _, _, _, _, _, tens, ones, _, _, _, _, _]
@@ -132,8 +134,10 @@ fn passes(time: &[u8], rate: Rate) -> bool {
     }
 }
 
-/// What stands behind the blocks in which fewer than so many lines end, and how many of them don't end there: a line far
-/// down a long list is found sooner where the ends in a block are counted at once.
+/// Skips whole blocks with together fewer than `ends` line ends. Returns the rest of the text and the number of line
+/// ends still to skip.
+///
+/// Counting per block makes lookups in long lists faster.
 fn behind_blocks(text: &[u8], ends: usize) -> (&[u8], usize) {
     let mut at: usize = 0;
     let mut left = ends;
@@ -148,7 +152,7 @@ fn behind_blocks(text: &[u8], ends: usize) -> (&[u8], usize) {
     (text.get(at..).unwrap_or(b""), left)
 }
 
-/// How many line feeds a block has.
+/// Returns the number of line feeds in a block.
 fn line_feeds_in(block: &[u8]) -> usize {
     let mut count: usize = 0;
     for byte in block {
@@ -157,8 +161,10 @@ fn line_feeds_in(block: &[u8]) -> usize {
     count
 }
 
-/// A line of the list, what stands in it at the fault, the list's rate where a time's frame passes it, what else helps
-/// there, and whether it is the first one with a fault of its number.
+/// A line of a list with a fault.
+///
+/// `passed` is the frame rate of the list if a time exceeds it. `is_first` is set for the first line with this fault
+/// number.
 #[derive(Clone, Copy)]
 pub struct LineAtFault<'a> {
     pub line: &'a [u8],
@@ -169,7 +175,7 @@ pub struct LineAtFault<'a> {
 }
 
 impl LineAtFault<'_> {
-    /// What stands at the fault, and why a time that looks like one is none.
+    /// Writes the text at the fault, and why it isn't a time if it looks like one.
     fn fmt_stood<W: fmt::Write>(&self, f: &mut fmt::Formatter<W>) -> fmt::Result {
         let column = self.stood.column;
         if self.stood.text.is_empty() {
@@ -187,12 +193,12 @@ impl LineAtFault<'_> {
         }
     }
 
-    /// Whether it is known of the line how its fault comes about.
+    /// Returns whether a specific cause of the fault is known.
     pub fn has_cause(&self) -> bool {
         self.passed.is_some() || self.hint.is_some()
     }
 
-    /// How it comes about, where that is known.
+    /// Writes the specific cause, if it is known.
     pub fn fmt_cause<W: fmt::Write>(&self, f: &mut fmt::Formatter<W>) -> fmt::Result {
         match (self.passed, self.hint) {
             (Some(rate), _) => fmt_rate(rate, f),
@@ -201,7 +207,7 @@ impl LineAtFault<'_> {
         }
     }
 
-    /// What else helps.
+    /// Writes the hint.
     fn fmt_hint<W: fmt::Write>(&self, f: &mut fmt::Formatter<W>) -> fmt::Result {
         match self.hint {
             Some(hint) => write!(f, "; {hint}"),
@@ -209,14 +215,14 @@ impl LineAtFault<'_> {
         }
     }
 
-    /// The same without the line itself.
+    /// Writes the details without the line itself.
     pub fn fmt_brief<W: fmt::Write>(&self, f: &mut fmt::Formatter<W>) -> fmt::Result {
         self.fmt_stood(f)?;
         self.fmt_hint(f)
     }
 }
 
-/// Writes how many frames a second the list has.
+/// Writes the frame rate of the list.
 fn fmt_rate<W: fmt::Write>(rate: Rate, f: &mut fmt::Formatter<W>) -> fmt::Result {
     let frames = rate.frames_per_second();
     write!(f, "the list has {frames} frames a second")

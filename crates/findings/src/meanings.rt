@@ -1,4 +1,4 @@
-// What the numbers of refusals mean: the one table that help, explanations and README agree with.
+// Meanings of refusal numbers. Help, explanations and README agree with this table.
 ghost use Rattle.std.specs.Prelude.{◌≡◌, IfSome, IsNone, IsOk};
 
 mod entries;
@@ -14,7 +14,7 @@ use std::fmt::Display;
 use thiserror::Error;
 use work::WORK;
 
-/// What a number names beside itself.
+/// The kind of location reported with a refusal number.
 #[derive(Clone, Copy, Debug, PartialEq, Eq)]
 pub enum Spot {
     Nowhere,
@@ -26,7 +26,7 @@ pub enum Spot {
     Job,
 }
 
-/// What a number means at a place, how that comes, and what to do.
+/// The meaning of a refusal number with this kind of location, its cause and its remedy.
 #[derive(Clone, Copy, Debug, PartialEq, Eq)]
 pub struct Meaning {
     pub number: u8,
@@ -34,14 +34,14 @@ pub struct Meaning {
     pub meaning: &'static str,
     pub cause: &'static str,
     pub remedy: &'static str,
-    /// This version answers it.
+    /// Whether this version returns the refusal.
     pub is_answered: bool,
 }
 
-/// The highest number.
+/// Highest refusal number.
 const MOST: u8 = 69;
 
-/// The part of the table that has this number. It is in order, and 21 has two meanings: of an index, and of the list
+/// Returns the sorted part of the table with this number. Number 21 has two meanings: for an index, and for the list
 /// itself.
 fn meanings_beside(number: u8) -> &'static [Meaning] {
     match number {
@@ -52,7 +52,7 @@ fn meanings_beside(number: u8) -> &'static [Meaning] {
     }
 }
 
-/// What the number means where it names this, or else anywhere.
+/// Returns the meaning of the number with this kind of location, or else with any.
 pub fn meaning_at(number: u8, spot: Spot) -> Option<Meaning>
     ensures { IfSome result (λ meaning. meaning.number ≡ number) }
 {
@@ -64,18 +64,18 @@ pub fn meaning_at(number: u8, spot: Spot) -> Option<Meaning>
     there.or(anywhere).copied()
 }
 
-/// No refusal has the number that was asked for.
+/// No refusal has the given number.
 #[derive(Clone, Copy, Debug, PartialEq, Eq, Error)]
 #[error("error: no refusal has this number; 'adlcons explain' tells all of them")]
 pub struct NoSuchNumber;
 
-/// What one number means, or all of them.
+/// The meaning of one refusal number, or of all.
 #[derive(Clone, Copy)]
 pub struct Explained {
     number: Option<u8>,
 }
 
-/// What the number of this text means; without one, what all of them mean.
+/// Parses a refusal number; `None` stands for all numbers. Returns `NoSuchNumber` if no refusal has this number.
 pub fn meanings_of(number: Option<&str>) -> Result<Explained, NoSuchNumber>
     ensures { IsNone number.entry → IsOk result }
 {

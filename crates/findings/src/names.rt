@@ -1,11 +1,10 @@
-// Names of files, and other texts of words, in a text.
+// Safe display of file names and other arguments.
 use console::is_unseen;
 use percent_encoding::percent_encode_byte;
 use std::fmt;
 use std::fmt::Display;
 
-/// A name: each character that isn't seen in a line ([`console::is_unseen`]) as the percent escapes of its UTF-8 bytes,
-/// all else as it stands.
+/// A name for display: characters that are invisible in a line ([`console::is_unseen`]) are percent-encoded as UTF-8.
 #[derive(Clone, Copy)]
 pub struct PrintedName<'a>(pub &'a str);
 
@@ -18,7 +17,7 @@ impl fmt::Display for PrintedName<'_> {
     }
 }
 
-/// A text of lines that may hold words as they were given: the same of each such character that doesn't end a line.
+/// A text of several lines for display, which may quote arguments: like [`PrintedName`], but line feeds are kept.
 #[derive(Clone, Copy)]
 pub struct PrintedLines<'a>(pub &'a str);
 
@@ -35,7 +34,7 @@ impl fmt::Display for PrintedLines<'_> {
     }
 }
 
-/// Writes a character, as its percent escapes where it isn't seen in a line.
+/// Writes a character, percent-encoded if it is invisible in a line.
 fn write_character<W: fmt::Write>(character: char, f: &mut fmt::Formatter<W>) -> fmt::Result {
     if !is_unseen(character) {
         return write!(f, "{character}");

@@ -1,8 +1,8 @@
-// What the numbers of notices mean.
+// Meanings of notice numbers.
 use std::fmt;
 use thiserror::Error;
 
-/// What a notice of this kind means, and what to do.
+/// The meaning of a kind of notice, and its remedy.
 #[derive(Clone, Copy, Debug, PartialEq, Eq)]
 pub struct NoticeMeaning {
     pub kind: u8,
@@ -10,7 +10,7 @@ pub struct NoticeMeaning {
     pub remedy: &'static str,
 }
 
-/// Each kind, in order.
+/// All kinds, in order.
 pub static NOTICES: [NoticeMeaning; 7] = [
     NoticeMeaning {
         kind: 1,
@@ -49,23 +49,23 @@ pub static NOTICES: [NoticeMeaning; 7] = [
     },
 ];
 
-/// What notices of this kind mean.
+/// Returns the meaning of a kind of notice.
 pub fn notice_meaning(kind: u8) -> Option<NoticeMeaning> {
     NOTICES.iter().find(|notice| notice.kind == kind).copied()
 }
 
-/// No notice has the number that was asked for.
+/// No notice has the given number.
 #[derive(Clone, Copy, Debug, PartialEq, Eq, Error)]
 #[error("error: no notice has this number; 'adlcons explain notice' tells all of them")]
 pub struct NoSuchNotice;
 
-/// What one number of a notice means, or all of them.
+/// The meaning of one notice number, or of all.
 #[derive(Clone, Copy)]
 pub struct ExplainedNotices {
     kind: Option<u8>,
 }
 
-/// What the number of this text means; without one, what all of them mean.
+/// Parses a notice number; `None` stands for all numbers. Returns `NoSuchNotice` if no notice has this number.
 pub fn notice_meanings_of(number: Option<&str>) -> Result<ExplainedNotices, NoSuchNotice> {
     let Some(text) = number else {
         return Ok(ExplainedNotices { kind: None });
@@ -89,7 +89,7 @@ impl fmt::Display for ExplainedNotices {
     }
 }
 
-/// What notices of one kind mean, in one line beside them.
+/// Displays the meaning as one line.
 impl fmt::Display for NoticeMeaning {
     fn fmt<W: fmt::Write>(&self, f: &mut fmt::Formatter<W>) -> fmt::Result {
         let kind = self.kind;

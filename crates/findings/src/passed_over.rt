@@ -1,18 +1,18 @@
-// Words of a list that are passed over though they may be meant to be heard.
+// Parts of a list that are ignored although they may affect the sound.
 use crate::shown::Shown;
 use adltoken::{Lines, Token, Tokens, is_same_name, trimmed};
 use std::fmt;
 
-/// How many lines are told.
+/// Maximum number of lines displayed.
 const MOST: usize = 20;
 
-/// How many fields an entry has, its keyword among them.
+/// Number of fields of an entry, including its keyword.
 const ENTRY_FIELDS: usize = 10;
 
-/// How many bytes of such words are shown.
+/// Maximum number of bytes displayed of the ignored words.
 const SHOWN_BYTES: usize = 60;
 
-/// Words of a line that are passed over, and the number of the line.
+/// The ignored words of a line, with the number of the line.
 #[derive(Clone, Copy)]
 pub struct PassedLineWords<'a> {
     pub line: u64,
@@ -20,7 +20,7 @@ pub struct PassedLineWords<'a> {
     unheard: Unheard,
 }
 
-/// What isn't heard since words are passed over.
+/// The kind of ignored information.
 #[derive(Clone, Copy, PartialEq, Eq)]
 enum Unheard {
     TrackSetting,
@@ -40,9 +40,8 @@ impl Unheard {
     }
 }
 
-/// The lines of a list with words that are passed over though they may be meant to be heard: gain, pan and mute in
-/// TRACKLIST, a length of crossfades in SYSTEM that isn't zero, what stands behind the fields of an entry, and sections
-/// of levels, which are skipped.
+/// An iterator over the lines with ignored words that may affect the sound: gain, pan and mute in TRACKLIST, a nonzero
+/// crossfade length in SYSTEM, text after the fields of an entry, and sections of levels, which are skipped.
 #[derive(Drop)]
 pub struct PassedLines<'a> {
     lines: Lines<'a>,
@@ -50,7 +49,7 @@ pub struct PassedLines<'a> {
 }
 
 impl<'a> PassedLines<'a> {
-    /// Those of this list.
+    /// Creates an iterator over the list.
     pub fn new(list: &'a [u8]) -> Self {
         PassedLines {
             lines: Lines::new(list),
@@ -58,7 +57,7 @@ impl<'a> PassedLines<'a> {
         }
     }
 
-    /// The next of them, with the words of the line in one.
+    /// Returns the next such line, with its ignored words.
     pub fn next_line(&mut self) -> Option<PassedLineWords<'a>> {
         let mut section = self.section;
         'lines: while let Some(line) = self.lines.next_line() {
@@ -86,7 +85,7 @@ impl<'a> PassedLines<'a> {
     }
 }
 
-/// What is passed over so in a list. At most 20 lines are told, and how many more there are.
+/// The ignored words of a list for display: at most 20 lines, and the number of the others.
 #[derive(Clone, Copy)]
 pub struct PassedWords<'a>(pub &'a [u8]);
 
@@ -113,7 +112,7 @@ impl fmt::Display for PassedWords<'_> {
     }
 }
 
-/// The section in which a line stands, as far as it tells what is looked for there.
+/// The section of a line, if it matters here.
 #[derive(Clone, Copy, PartialEq, Eq)]
 enum Section {
     System,
@@ -123,7 +122,7 @@ enum Section {
 }
 
 impl Section {
-    /// The section of this name.
+    /// Returns the section with this name.
     fn of(name: &[u8]) -> Section {
         if is_same_name(name, b"EVENT_LIST") {
             Section::EventList
@@ -136,7 +135,7 @@ impl Section {
         }
     }
 
-    /// The section in which the line behind this one stands.
+    /// Returns the section of the line after this one.
     fn after(self, line: &[u8]) -> Section {
         match named_by(line) {
             Some(name) => Section::of(name),
@@ -146,7 +145,7 @@ impl Section {
     }
 }
 
-/// The name of the section that a line opens.
+/// Returns the name of the section that a line opens.
 fn named_by(line: &[u8]) -> Option<&[u8]> {
     if line.starts_with(b"</") {
         return None;
@@ -154,7 +153,7 @@ fn named_by(line: &[u8]) -> Option<&[u8]> {
     line.strip_prefix(b"<")?.strip_suffix(b">")
 }
 
-/// The words of a line in this section that are passed over, from the first of them on, and what isn't heard then.
+/// Returns the ignored words of a line in this section, to its end, and their kind.
 fn passed_in(section: Section, line: &[u8]) -> Option<(&[u8], Unheard)> {
     if named_by(line).is_some_and(says_levels) {
         return Some((line, Unheard::Levels));
@@ -163,7 +162,7 @@ fn passed_in(section: Section, line: &[u8]) -> Option<(&[u8], Unheard)> {
     Some((words_in(sought, line)?, sought.unheard()))
 }
 
-/// The words of a line that are sought there: from the first of them on.
+/// Returns the sought words of a line, to its end.
 fn words_in(sought: Sought, line: &[u8]) -> Option<&[u8]> {
     let mut tokens = Tokens::new(line);
     for position in 1..=line.len() {
@@ -175,7 +174,7 @@ fn words_in(sought: Sought, line: &[u8]) -> Option<&[u8]> {
     None
 }
 
-/// A line from this token on, behind which this is left of it.
+/// Returns the line from this token on; `left` is the text after the token.
 fn from_token<'a>(line: &'a [u8], token: Token<'_>, left: &[u8]) -> Option<&'a [u8]> {
     let before = line
         .len()
@@ -184,7 +183,7 @@ fn from_token<'a>(line: &'a [u8], token: Token<'_>, left: &[u8]) -> Option<&'a [
     line.get(before..)
 }
 
-/// Whether the name of a section that isn't known says levels.
+/// Returns whether the name of an unknown section mentions levels.
 fn says_levels(name: &[u8]) -> bool {
     name.windows(5)
         .any(|part| part.eq_ignore_ascii_case(b"LEVEL"))
@@ -193,7 +192,7 @@ fn says_levels(name: &[u8]) -> bool {
             .any(|part| part.eq_ignore_ascii_case(b"VOLUME"))
 }
 
-/// What a line may have that is passed over.
+/// The ignored information that a line may contain.
 #[derive(Clone, Copy, PartialEq, Eq)]
 enum Sought {
     TrackSetting,
@@ -202,7 +201,7 @@ enum Sought {
 }
 
 impl Sought {
-    /// What a line of this section may have.
+    /// Returns the ignored information that a line of this section may contain.
     fn of(section: Section, line: &[u8]) -> Option<Sought> {
         match section {
             Section::TrackList => Some(Sought::TrackSetting),
@@ -214,7 +213,7 @@ impl Sought {
         }
     }
 
-    /// What isn't heard where it is passed over.
+    /// Returns the kind of ignored information.
     fn unheard(self) -> Unheard {
         match self {
             Sought::TrackSetting => Unheard::TrackSetting,
@@ -223,8 +222,7 @@ impl Sought {
         }
     }
 
-    /// What is sought of a line in which it begins with this token, behind which so much is left: the whole line of a
-    /// crossfade's length, and else all from the token on.
+    /// Returns the words to display: the whole line for a crossfade length, otherwise the line from the token on.
     fn words_from<'a>(self, line: &'a [u8], token: Token<'_>, left: &[u8]) -> Option<&'a [u8]> {
         match self {
             Sought::CrossfadeLength => Some(line),
@@ -232,7 +230,7 @@ impl Sought {
         }
     }
 
-    /// Whether it stands at this place of the line, counted from 1.
+    /// Returns whether the token at this position of the line, counted from 1, is one to report.
     fn is_at(self, position: usize, token: Token<'_>) -> bool {
         match self {
             Sought::TrackSetting => is_track_setting(token),
@@ -242,7 +240,7 @@ impl Sought {
     }
 }
 
-/// Whether a line ends with a time, as an entry does that has nothing behind its fields: so most lines are done.
+/// Returns whether the line ends with a time, like an entry without text after its fields. Settles most lines quickly.
 fn ends_with_time(line: &[u8]) -> bool {
     match line.split_last_chunk::<17>() {
         Some((_, [blank, first, ..])) => blank.is_ascii_whitespace() && first.is_ascii_digit(),
@@ -250,7 +248,7 @@ fn ends_with_time(line: &[u8]) -> bool {
     }
 }
 
-/// Whether a line begins with this keyword.
+/// Returns whether the line begins with this keyword.
 fn begins_with(line: &[u8], keyword: &[u8]) -> bool {
     match Tokens::new(line).next_token() {
         Ok(Some(token)) => token.is_keyword(keyword),
@@ -258,17 +256,17 @@ fn begins_with(line: &[u8], keyword: &[u8]) -> bool {
     }
 }
 
-/// Whether this keyword says how loud a track is, or where.
+/// Returns whether the keyword sets the level or the position of a track.
 fn is_track_setting(token: Token<'_>) -> bool {
     token.is_keyword(b"Mute") || token.is_keyword(b"Gain") || token.is_keyword(b"Pan")
 }
 
-/// Whether a time is zero, or none.
+/// Returns whether a time is zero or missing.
 fn is_zero(content: &[u8]) -> bool {
     content.iter().all(|byte| !matches!(*byte, b'1'..=b'9'))
 }
 
-/// Whether this word behind an entry says nothing that is to be heard.
+/// Returns whether a word after an entry has no effect on the sound.
 fn is_usual(content: &[u8]) -> bool {
     content == b"_".as_slice() || content.eq_ignore_ascii_case(b"R")
 }

@@ -1,4 +1,4 @@
-// What an entry at fault plays, beside what its file has.
+// The span or channel that an invalid entry plays, compared with its file.
 use crate::names::PrintedName;
 use projectcheck::EntryFault;
 use sound_terms::Event;
@@ -7,8 +7,10 @@ use std::alloc::Global;
 use std::fmt;
 use std::fmt::Display;
 
-/// The file of an entry's index: its name, its frames and channels, the time of its first frame, and how many frames
-/// have a time before the day ends.
+/// The file of an index.
+///
+/// `base` is the time of its first sample; `addressable` is the number of samples whose time is before the end of the
+/// day. Lengths are in samples per channel.
 #[derive(Drop)]
 pub struct PlayedFile {
     pub name: String,
@@ -18,7 +20,7 @@ pub struct PlayedFile {
     addressable: u64,
 }
 
-/// An entry at fault, and the file that it plays, where its index is there.
+/// An invalid entry, and the file of its index, if the index exists.
 #[derive(Drop)]
 pub struct Played {
     event: Event,
@@ -26,8 +28,8 @@ pub struct Played {
     pub file: Option<PlayedFile>,
 }
 
-/// How an entry leaves the frames of its file: it begins so many frames before the first one, goes on for so many after
-/// the last one, or goes past the end of the day at which only so many have a time.
+/// The way in which an entry leaves its file: the number of samples before the first one, the number after the last
+/// one, or past the end of the day.
 #[derive(Clone, Copy, PartialEq, Eq)]
 pub enum Outside {
     Before(u64),
@@ -36,7 +38,7 @@ pub enum Outside {
 }
 
 impl PlayedFile {
-    /// The file to which the index of an entry is bound.
+    /// Returns the file of the index of an entry.
     fn of(alloc: Global, bound: &Bound, event: &Event) -> Option<PlayedFile> {
         let index = bound.index(event.index)?;
         let sound = bound.sounds().get(index.file as usize)?;
@@ -49,7 +51,7 @@ impl PlayedFile {
         })
     }
 
-    /// How so many frames from this time on leave the file.
+    /// Returns how a span of `length` samples that starts at time `from` leaves the file.
     fn outside(&self, from: u64, length: u64) -> Outside {
         let Some(first) = from.checked_sub(self.base) else {
             return Outside::Before(self.base.saturating_sub(from));
@@ -62,7 +64,7 @@ impl PlayedFile {
 }
 
 impl Played {
-    /// The entry of a bound project that has this fault.
+    /// Creates the details of an entry of a bound project with this fault.
     pub fn of(alloc: Global, bound: &Bound, event: &Event, fault: EntryFault) -> Played {
         Played {
             event: *event,
@@ -71,12 +73,12 @@ impl Played {
         }
     }
 
-    /// The index that the entry names.
+    /// Returns the index that the entry plays.
     pub fn index(&self) -> u32 {
         self.event.index
     }
 
-    /// How the entry leaves the frames of its file, where that is its fault.
+    /// Returns how the entry leaves its file, if that is its fault.
     pub fn outside(&self) -> Option<Outside> {
         let file = self.file.as_ref()?;
         if self.fault == EntryFault::SpanOutside {
@@ -86,13 +88,13 @@ impl Played {
         }
     }
 
-    /// How many frames the entry plays.
+    /// Returns the length of the entry in samples.
     fn length(&self) -> u64 {
         let event = &self.event;
         event.dest_out.get().saturating_sub(event.dest_in.get())
     }
 
-    /// What the entry plays of a file that lacks it.
+    /// Writes the span that the entry plays and its file lacks.
     fn fmt_span<W: fmt::Write>(&self, file: &PlayedFile, f: &mut fmt::Formatter<W>) -> fmt::Result {
         let entry = self.event.number;
         let name = PrintedName(file.name.as_str());
@@ -119,7 +121,7 @@ impl Played {
         }
     }
 
-    /// What the entry plays of a file, where that is its fault.
+    /// Writes the span or channel that the file lacks.
     fn fmt_file<W: fmt::Write>(&self, file: &PlayedFile, f: &mut fmt::Formatter<W>) -> fmt::Result {
         if self.fault == EntryFault::SpanOutside {
             return self.fmt_span(file, f);
@@ -135,7 +137,7 @@ impl Played {
     }
 }
 
-/// What is wrong with the entry, in its own numbers.
+/// Displays the fault of the entry with its numbers.
 impl fmt::Display for Played {
     fn fmt<W: fmt::Write>(&self, f: &mut fmt::Formatter<W>) -> fmt::Result {
         let event = &self.event;

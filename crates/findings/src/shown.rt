@@ -1,9 +1,10 @@
-// Bytes of a list in a text.
+// Display of bytes of a list.
 use percent_encoding::percent_encode_byte;
 use std::fmt;
 use std::fmt::Display;
 
-/// The first bytes of a text, so many: printing ASCII as it stands, a tab as a blank, all else as percent escapes.
+/// The first bytes of a text for display, up to the given number: printable ASCII unchanged, tabs as blanks, other
+/// bytes percent-encoded.
 #[derive(Clone, Copy)]
 pub struct Shown<'a>(pub &'a [u8], pub usize);
 

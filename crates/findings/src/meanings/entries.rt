@@ -1,7 +1,7 @@
-// What the numbers 41 to 47 mean: those of the entries.
+// Meanings of the refusal numbers 41 to 47: entries.
 use crate::meanings::{Meaning, Spot};
 
-/// Each of them, in order.
+/// The meanings, in order.
 pub static ENTRIES: [Meaning; 7] = [
     Meaning {
         number: 41,

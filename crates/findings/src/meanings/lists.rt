@@ -1,7 +1,7 @@
-// What the numbers 1 to 19 mean: those of a list that is read or written.
+// Meanings of the refusal numbers 1 to 19: reading and writing lists.
 use crate::meanings::{Meaning, Spot};
 
-/// Each of them, in order.
+/// The meanings, in order.
 pub static LISTS: [Meaning; 19] = [
     Meaning {
         number: 1,

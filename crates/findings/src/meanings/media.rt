@@ -1,7 +1,7 @@
-// What the numbers 20 to 31 mean: those of folders and their files.
+// Meanings of the refusal numbers 20 to 31: folders and their files.
 use crate::meanings::{Meaning, Spot};
 
-/// Each of them, in order.
+/// The meanings, in order.
 pub static MEDIA: [Meaning; 13] = [
     Meaning {
         number: 20,

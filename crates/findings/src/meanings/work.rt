@@ -1,7 +1,7 @@
-// What the numbers 51 to 69 mean: those of the work and its outputs.
+// Meanings of the refusal numbers 51 to 69: work and output.
 use crate::meanings::{Meaning, Spot};
 
-/// Each of them, in order.
+/// The meanings, in order.
 pub static WORK: [Meaning; 16] = [
     Meaning {
         number: 51,
