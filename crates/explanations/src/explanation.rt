@@ -1,4 +1,4 @@
-// What is told of a refusal beside its line: what its number means there, what was found, and what to do.
+// Explanations of refusals: the meaning of the number, the details found, and the remedy.
 use comparing::ListFault;
 use findings::{
     LineAtFault, ListLines, Look, Meaning, PrintedName, Spot, SystemWord, meaning_at, project_spot,
@@ -10,9 +10,9 @@ use std::fmt;
 use std::fmt::Display;
 use std::io::{Error, ErrorKind};
 
-/// What a command found where it refused: the line at fault, a file that the place doesn't name, what a folder already
-/// contains, what else is found of the folder of the output, what a second look at the media found, what the system said,
-/// and what is unfinished.
+/// The details that a command found about a refusal: the invalid line, the file if its location doesn't name it, an
+/// item in a folder that should be empty, the state of the output folder, the result of a second look at the source
+/// files, the system error, and the unfinished output.
 #[derive(Clone, Copy)]
 struct Findings<'a> {
     line: Option<LineAtFault<'a>>,
@@ -24,8 +24,8 @@ struct Findings<'a> {
     unfinished: Option<Unfinished>,
 }
 
-/// What was found of the folder of an output: it is that of the media, another command is at work there, or a file there
-/// that would be written to is a given one too, or has another name.
+/// The state of the output folder that caused a refusal: it is the media folder, another command is using it, or a file
+/// in it to be written is also an input or has another name.
 #[derive(Clone, Copy)]
 pub enum FoundFolder {
     Media,
@@ -52,8 +52,8 @@ impl FoundFolder {
     }
 }
 
-/// What lies unfinished in the output: the file of this name, the medium of this number, a rendering with its marks, the
-/// report of one that is finished, or all of it.
+/// The unfinished output: a file, the medium with this number, a rendering with its marks, the report of a finished
+/// rendering, or everything.
 #[derive(Clone, Copy)]
 pub enum Unfinished {
     File(&'static str),
@@ -63,8 +63,8 @@ pub enum Unfinished {
     Whole,
 }
 
-/// A fault of a command, as it is explained: its number and what it names, the line of the list and the file at fault, what
-/// the system said of the source or the output that failed, and what is left unfinished.
+/// A fault of a command: its number and kind of location, the invalid line of the list, the file, the system error of
+/// the source or output that failed, and the unfinished output.
 #[derive(Clone, Copy)]
 pub struct FoundFault<'a> {
     pub number: u8,
@@ -75,9 +75,8 @@ pub struct FoundFault<'a> {
     pub unfinished: Option<Unfinished>,
 }
 
-/// What a refusal of a list by a fault means: its number, what it names, and what was found.
 impl<'a> Explanation<'a> {
-    /// The explanation of a fault of a command.
+    /// Creates the explanation of a fault of a command.
     pub fn of(found: FoundFault<'a>) -> Explanation<'a> {
         Explanation {
             number: found.number,
@@ -92,8 +91,8 @@ impl<'a> Explanation<'a> {
         }
     }
 
-    /// The explanation of a fault of one of two lists that are compared: what was found in that list, and what the
-    /// system said of the source that failed.
+    /// Creates the explanation of a fault of one of two lists to compare; `source` is the system error of the source
+    /// that failed.
     pub fn of_list(
         fault: &'a ListFault,
         list: &'a [u8],
@@ -107,8 +106,9 @@ impl<'a> Explanation<'a> {
         }
     }
 
-    /// The explanation of a refusal that names a file or nothing, with what the system said, or the name of something
-    /// that lies in a folder which isn't empty.
+    /// Creates the explanation of a refusal about a file or about nothing in particular.
+    ///
+    /// `reason` is the system error, `inside` the name of an item in a folder that isn't empty.
     pub fn by(number: u8, reason: Option<Error>, inside: Option<&'a str>) -> Explanation<'a> {
         Explanation {
             number,
@@ -118,7 +118,7 @@ impl<'a> Explanation<'a> {
         }
     }
 
-    /// The same, with what a second look at the media found.
+    /// Adds the result of a second look at the source files.
     pub fn with_look(self, look: &'a Look) -> Explanation<'a> {
         Explanation {
             findings: Findings {
@@ -129,7 +129,7 @@ impl<'a> Explanation<'a> {
         }
     }
 
-    /// The same, with the file at which it came, where that is known.
+    /// Adds the file of the fault, if it is known.
     pub fn with_file(self, file: Option<&'a str>) -> Explanation<'a> {
         Explanation {
             findings: Findings {
@@ -140,7 +140,7 @@ impl<'a> Explanation<'a> {
         }
     }
 
-    /// The same, with what else was found of the folder of the output.
+    /// Adds the state of the output folder.
     pub fn with_folder(self, folder: FoundFolder) -> Explanation<'a> {
         Explanation {
             findings: Findings {
@@ -151,7 +151,7 @@ impl<'a> Explanation<'a> {
         }
     }
 
-    /// The same, of a fault of a rendering, which goes on from what lies unfinished in the output.
+    /// Marks the fault as one of a rendering, which can be resumed from its unfinished output.
     pub fn of_rendering(self) -> Explanation<'a> {
         Explanation {
             is_rendering: true,
@@ -160,12 +160,12 @@ impl<'a> Explanation<'a> {
         }
     }
 
-    /// What the number means.
+    /// Returns the meaning of the number.
     pub fn meaning(&self) -> Option<&'static str> {
         Some(meaning_at(self.number, self.spot)?.meaning)
     }
 
-    /// How the refusal comes about, by the number.
+    /// Returns the general cause of the refusal, from its number.
     pub fn cause(&self) -> &'static str {
         match meaning_at(self.number, self.spot) {
             Some(meaning) => meaning.cause,
@@ -173,12 +173,12 @@ impl<'a> Explanation<'a> {
         }
     }
 
-    /// What to do.
+    /// Returns the remedy.
     pub fn remedy(&self) -> Option<&'static str> {
         Some(self.remedy_by(meaning_at(self.number, self.spot)?))
     }
 
-    /// What to do: by what was found in the folder, by what the system said, or else by the number.
+    /// Returns the remedy: for the details found, else for the system error, else for the number.
     fn remedy_by(&self, meaning: Meaning) -> &'static str {
         if let Some(remedy) = self.findings.look.and_then(|look| look.remedy()) {
             return remedy;
@@ -196,7 +196,7 @@ impl<'a> Explanation<'a> {
     }
 }
 
-/// What a fault of one of two lists names.
+/// Returns the kind of location of a fault of one of two lists.
 fn list_spot(fault: &ListFault) -> Spot {
     match fault {
         ListFault::Project(fault) => project_spot(fault),
@@ -206,7 +206,7 @@ fn list_spot(fault: &ListFault) -> Spot {
 }
 
 impl<'a> Findings<'a> {
-    /// Nothing but what the system said, and what lies in a folder.
+    /// Creates details with only a system error and an item of a folder.
     fn by(reason: Option<Error>, inside: Option<&'a str>) -> Findings<'a> {
         Findings {
             line: None,
@@ -219,7 +219,7 @@ impl<'a> Findings<'a> {
         }
     }
 
-    /// What is found of a fault of one of two lists.
+    /// Creates the details of a fault of one of two lists.
     fn of_list(fault: &'a ListFault, list: &'a [u8], source: Option<Reason>) -> Findings<'a> {
         let line = match fault {
             ListFault::Project(fault) => ListLines::new(list).at(fault),
@@ -233,7 +233,7 @@ impl<'a> Findings<'a> {
     }
 }
 
-/// What the system said of the source of one of two lists at which a call failed.
+/// Returns the system error if the fault is about a source that failed.
 fn reason_of_list(fault: &ListFault, source: Option<Reason>) -> Option<Reason> {
     match fault {
         ListFault::Project(opening::Fault::Media { .. }) | ListFault::Source { .. } => source,
@@ -241,7 +241,7 @@ fn reason_of_list(fault: &ListFault, source: Option<Reason>) -> Option<Reason> {
     }
 }
 
-/// The explanation of a refusal with this number, which names this, in one line.
+/// The explanation of a refusal, displayed as one line.
 #[derive(Clone, Copy)]
 pub struct Explanation<'a> {
     number: u8,
@@ -267,7 +267,7 @@ impl fmt::Display for Explanation<'_> {
 }
 
 impl Findings<'_> {
-    /// The same of a rendering, whose files have names, unless one of them may be gone.
+    /// Says that the files of a rendering are unfinished, by name, unless one of them may be missing.
     fn of_rendering(self) -> Self {
         let is_gone = self
             .reason
@@ -281,7 +281,7 @@ impl Findings<'_> {
         }
     }
 
-    /// What is at fault, as it was found or else as the number says.
+    /// Writes the specific cause, or else the general one.
     fn fmt_cause<W: fmt::Write>(&self, meaning: Meaning, f: &mut fmt::Formatter<W>) -> fmt::Result {
         match self.look {
             Some(look) if look.has_cause() => look.fmt_cause(f),
@@ -289,7 +289,7 @@ impl Findings<'_> {
         }
     }
 
-    /// What was found of the folder of the output, or what the system said; else what the number says.
+    /// Writes the state of the output folder, else the system error, else the general cause.
     fn fmt_found<W: fmt::Write>(&self, meaning: Meaning, f: &mut fmt::Formatter<W>) -> fmt::Result {
         if let Some(folder) = self.folder {
             return f.write_str(folder.text());
