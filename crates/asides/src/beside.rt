@@ -1,37 +1,37 @@
-// What a command tells on standard error beside the refusal and its explanation.
+// Additional information printed on standard error with a refusal.
 use findings::Near;
 use shelf::{MemoryShelf, Shelf};
 use std::alloc::Global;
 
-/// What is told beside a refusal.
+/// The source of additional information on a refusal.
 pub trait Asides: Drop {
-    /// The sources as they are looked at once more.
+    /// The sources, opened again for a second look.
     type Sources: Shelf + Drop;
 
-    /// How many further faults are told at most.
+    /// Returns the maximum number of further faults to print.
     fn most(&self) -> usize;
 
-    /// Where a source of this name, which is missing, may be.
+    /// Returns where a missing source of this name may be.
     fn near(&self, alloc: Global, name: &str) -> Option<Near>;
 
-    /// Why the folder of the media can't be listed, if it can't.
+    /// Returns why the media folder can't be listed, if it can't.
     fn media_error(&self, alloc: Global) -> Option<String>;
 
-    /// The sources once more; none where no memory was left.
+    /// Opens the sources again. Returns `None` if out of memory.
     fn sources(&self, alloc: Global) -> Option<Self::Sources>;
 }
 
-/// How many further faults are told where not all are asked for.
+/// Number of further faults printed by default.
 pub const FEW_FAULTS: usize = 20;
 
-/// What is told beside the refusals of two lists.
+/// The additional information for two lists.
 #[derive(Drop)]
 pub struct AsidesOfTwo<A: Asides, B: Asides> {
     pub first: A,
     pub second: B,
 }
 
-/// Nothing stands beside a refusal but further faults, few or all.
+/// No additional information except further faults, a few or all.
 #[derive(Clone, Copy, Debug, PartialEq, Eq)]
 pub struct NoAsides {
     pub tells_all: bool,

@@ -1,13 +1,13 @@
-// Sources that were changed while a command read them.
+// Sources that changed while a command read them.
 use findings::PrintedName;
 use std::fmt;
 use std::fmt::Display;
 
-/// How many sources are told.
+/// Maximum number of sources displayed.
 const MOST: usize = 20;
 
-/// The sources of these names, which were changed or taken away while a command ran, each in a line of its own. At most
-/// 20 are told, and how many more there are.
+/// The names of sources that were changed or removed while a command ran, displayed one per line: at most 20, and the
+/// number of the others.
 #[derive(Clone, Copy)]
 pub struct ChangedSources<'a>(pub &'a [&'a str]);
 

@@ -1,4 +1,4 @@
-// What else is told of a list that is refused: its further faults, each in a line.
+// Further faults of a refused list, printed one per line.
 ghost use Rattle.opening.specs.Further.{WasRead};
 
 use crate::beside::Asides;
@@ -11,8 +11,10 @@ use findings::{FurtherExplanation, ListLines, Look};
 use opening::{Fault, further_faults};
 use std::alloc::Global;
 
-/// Prints the further faults of a list that is refused by this first one, as many at most as `asides` says, and how
-/// many more there are; of lines, whether there are more. Nothing is printed where they can't be found.
+/// Prints the further faults of a list that was refused with the fault `first`, up to the maximum of `asides`.
+///
+/// Then prints the number of the others, or for faults of the text only that there are more. Prints nothing if the
+/// faults can't be determined.
 pub fn tell_further<S: Shelf, E: Console, A: Asides>(
     alloc: Global,
     list: &[u8],
@@ -37,7 +39,7 @@ pub fn tell_further<S: Shelf, E: Console, A: Asides>(
     }
 }
 
-/// Prints these faults of files or entries, with what a second look finds about each.
+/// Prints faults of files or entries, each with the result of a second look.
 fn tell_each<E: Console, A: Asides>(
     alloc: Global,
     list: &[u8],
@@ -53,7 +55,7 @@ fn tell_each<E: Console, A: Asides>(
     }
 }
 
-/// Prints the lines at fault of a list behind the first one, so many at most, and whether there are more.
+/// Prints up to `most` invalid lines after the first one, and whether there are more.
 fn tell_further_lines<E: Console>(
     alloc: Global,
     list: &[u8],
@@ -77,7 +79,7 @@ fn tell_further_lines<E: Console>(
     }
 }
 
-/// Prints a further fault: its number, its place, what the number means there, and what is found about it.
+/// Prints a further fault: its number, location, meaning and details.
 fn tell_also<E: Console>(fault: &Fault, lines: &mut ListLines<'_>, look: &Look, err: &mut E) {
     let number = fault.number();
     err.print(format_args!("also {number:02}"));

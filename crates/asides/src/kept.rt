@@ -1,9 +1,9 @@
-// Which frames of the files a consolidation keeps at most.
+// Upper bound of the samples that a consolidation keeps of each file.
 use sound_terms::{BoundIndex, Event, Homes};
 use sourceindex::Bound;
 use std::alloc::{AllocError, Global};
 
-/// Frames of a file that are kept, from `first` up to, and without, `end`, and how many entries play them.
+/// A range of samples of a file to keep, from `first` up to `end` (exclusive), and the number of entries that play it.
 #[derive(Clone, Copy)]
 pub struct Kept {
     pub file: u32,
@@ -13,8 +13,8 @@ pub struct Kept {
 }
 
 impl Kept {
-    /// The frames that an entry plays over its index and those at most `handle` away, as far as they can be addressed;
-    /// `None` where there are none.
+    /// Returns the samples that an entry plays and those at most `handle` samples away, as far as they are addressable.
+    /// Returns `None` if there are none.
     fn of(index: BoundIndex, event: &Event, homes: &Homes, handle: u64) -> Option<Self> {
         let played = event.dest_out.get().saturating_sub(event.dest_in.get());
         let from = event.source_in.get().saturating_sub(index.base);
@@ -34,18 +34,18 @@ impl Kept {
         })
     }
 
-    /// How many they are.
+    /// Returns the length of the range in samples.
     pub fn frames(&self) -> u64 {
         self.end.saturating_sub(self.first)
     }
 
-    /// Whether others begin among these or right behind them.
+    /// Returns whether `others` starts inside this range or at its end.
     fn goes_on(&self, others: &Kept) -> bool {
         self.file == others.file && self.first <= others.first && others.first <= self.end
     }
 }
 
-/// Adds frames to the last ones, where they go on from there, and else behind them.
+/// Extends the last range by the next one if they touch; otherwise appends it.
 fn join(kept: &mut Vec<Kept>, next: Kept) -> Result<(), AllocError> {
     if let Some(last) = kept.last_mut() {
         if last.goes_on(&next) {
@@ -58,7 +58,7 @@ fn join(kept: &mut Vec<Kept>, next: Kept) -> Result<(), AllocError> {
     Ok(())
 }
 
-/// The frames that the entries of a list keep, as long as there is memory for them.
+/// The samples to keep for the entries of a list. Incomplete if out of memory.
 #[derive(Drop)]
 pub struct KeptFrames<'a> {
     bound: &'a Bound,
@@ -69,7 +69,7 @@ pub struct KeptFrames<'a> {
 }
 
 impl<'a> KeptFrames<'a> {
-    /// Those of no entry yet, with this handle.
+    /// Creates an empty set of kept samples, for the given handle in samples.
     pub fn new(alloc: Global, bound: &'a Bound, handle: u64) -> Self {
         KeptFrames {
             bound,
@@ -80,7 +80,7 @@ impl<'a> KeptFrames<'a> {
         }
     }
 
-    /// With those of an entry.
+    /// Adds the samples of an entry.
     pub fn take_in(&mut self, event: &Event) {
         self.is_whole = self.is_whole && self.keep(event).is_some();
     }
@@ -94,7 +94,7 @@ impl<'a> KeptFrames<'a> {
         Some(())
     }
 
-    /// All of them file by file, in their order there; none of them touches another. `None` where memory ran out.
+    /// Returns the ranges ordered by file and position, joined so that no two touch. Returns `None` if out of memory.
     pub fn joined(&mut self, alloc: Global) -> Option<Vec<Kept>> {
         if !self.is_whole {
             return None;

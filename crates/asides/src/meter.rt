@@ -1,9 +1,9 @@
-// How far a command has come.
+// Progress display of a command.
 use devices::{Unwatched, Watch};
 
-/// Shows how far a command has come, until that is taken off again.
+/// A progress display that can be cleared.
 pub trait Meter: Watch + Drop {
-    /// Takes off what is shown.
+    /// Clears the display.
     fn clear(&mut self);
 }
 

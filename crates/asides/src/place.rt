@@ -1,4 +1,4 @@
-// Where a fault of a project stands.
+// Locations of the faults of a project.
 ghost use Rattle.std.specs.Prelude.{◌≡◌};
 ghost use Rattle.adlread.specs.Fault as text;
 ghost use Rattle.sourceindex.specs.Fault.{file_at};
@@ -10,7 +10,7 @@ use console::Place;
 use list_terms::Location;
 use opening::Fault;
 
-/// The place of a fault of the list, of a file that it names, or of an entry.
+/// Returns the location of a fault of the list, of one of its files, or of an entry.
 pub fn project_place(fault: &Fault) -> Place<'_>
     ensures { where_of result ≡ (project.refusal_of fault.now).location }
 {
@@ -22,7 +22,7 @@ pub fn project_place(fault: &Fault) -> Place<'_>
     }
 }
 
-/// An index, and the name of its file, where there was memory for it.
+/// Returns the location of a file: its index, and its name if there was memory for it.
 fn file_place(index: u32, name: &Option<String>) -> Place<'_>
     ensures { where_of result ≡ file_at index name.now }
 {
@@ -35,7 +35,7 @@ fn file_place(index: u32, name: &Option<String>) -> Place<'_>
     }
 }
 
-/// The place of a fault of the text.
+/// Returns the location of a fault of the text.
 fn text_place(fault: &AdlFault) -> Place<'static>
     ensures { where_of result ≡ (text.refusal fault.now).location }
 {

@@ -1,9 +1,9 @@
-// How far the entries of a list reach.
+// Extent of the entries of a list.
 use sampletime::SampleTime;
 use sound_terms::Event;
 
-/// When the first entry begins, where there is one, the time at which the last one has ended, 0 without one, and the last
-/// channel on which one sounds, at least 1.
+/// The extent of a list: the time of the first start, if there is an entry, the time of the last end, or 0, and the
+/// highest destination channel, at least 1.
 #[derive(Clone, Copy)]
 pub struct Reach {
     first_in: Option<SampleTime>,
@@ -12,7 +12,7 @@ pub struct Reach {
 }
 
 impl Reach {
-    /// That of no entry.
+    /// Creates the extent of an empty list.
     pub fn new() -> Self {
         Reach {
             first_in: None,
@@ -21,7 +21,7 @@ impl Reach {
         }
     }
 
-    /// That of these entries.
+    /// Returns the extent of these entries.
     pub fn of(events: &[Event]) -> Self {
         let mut reach = Self::new();
         for event in events {
@@ -30,7 +30,7 @@ impl Reach {
         reach
     }
 
-    /// With an entry more.
+    /// Adds an entry.
     pub fn take_in(&mut self, event: &Event) {
         self.first_in = match self.first_in {
             Some(first_in) => Some(first_in.min(event.dest_in)),
@@ -40,7 +40,7 @@ impl Reach {
         self.last_channel = self.last_channel.max(event.dest.last);
     }
 
-    /// The time at which the first entry begins; 0 without an entry.
+    /// Returns the time of the first start, or 0 without an entry.
     pub fn first_in(&self) -> SampleTime {
         self.first_in.unwrap_or(SampleTime::ZERO)
     }

@@ -1,4 +1,4 @@
-// How many bytes the outputs of a list take.
+// Sizes of the outputs of a list.
 use crate::kept::{Kept, KeptFrames};
 use crate::reach::Reach;
 use adlmodel::Project;
@@ -13,19 +13,19 @@ use std::alloc::Global;
 use wavread::Sound;
 use wavwrite::{Bext, SoundInfo, data_length, fits, header};
 
-/// The handle of a consolidation that asks for none, in frames.
+/// Default handle of a consolidation, in samples.
 pub const DEFAULT_HANDLE: u64 = 48_000;
 
-/// How many bytes a medium has before its samples, its CodingHistory aside, and the byte that may pad that.
+/// Maximum number of bytes before the samples of a medium, without its CodingHistory but with the pad byte of that.
 const HEAD: u64 = 691;
 
-/// How many bytes marks have before those of the blocks, and how many frames a block has.
+/// Number of bytes before the block marks in a marks file, and number of samples per channel in a block.
 const FRONT: u64 = 44;
 
 const BLOCK: u64 = 4096;
 
-/// How much the media of an accepted list with this handle take at most, and its rendering as a whole. Its entries are
-/// gone over once.
+/// Returns upper bounds for the media of an accepted list with this handle and for a full rendering. Passes over the
+/// entries once.
 pub fn room_of(alloc: Global, checked: &Checked, handle: u64) -> Room {
     let whole = Chosen {
         from: None,
@@ -49,7 +49,7 @@ pub fn room_of(alloc: Global, checked: &Checked, handle: u64) -> Room {
     }
 }
 
-/// Prints how much that is, as far as it is known.
+/// Prints the sizes that are known.
 pub fn report_room<E: Console>(room: Room, err: &mut E) {
     if let Some(media) = room.media {
         err.print_line(format_args!("consolidate would write at most {media} bytes of media"));
@@ -59,12 +59,12 @@ pub fn report_room<E: Console>(room: Room, err: &mut E) {
     }
 }
 
-/// How many bytes the rendering of a list that was chosen so takes, with its marks.
+/// Returns the size in bytes of a rendering with its marks, or `None` if it is unknown.
 pub fn rendering_size(alloc: Global, project: &Project, chosen: Chosen<'_>) -> Option<u64> {
     size_of_rendering(alloc, rendering_info(alloc, project, chosen))
 }
 
-/// How many bytes a rendering takes whose head tells this, with its marks.
+/// Returns the size in bytes of a rendering with this header, including its marks.
 fn size_of_rendering(alloc: Global, info: Option<SoundInfo>) -> Option<u64> {
     let info = info?;
     if info.frames() == 0 || !fits(&info) {
@@ -79,7 +79,7 @@ fn size_of_rendering(alloc: Global, info: Option<SoundInfo>) -> Option<u64> {
     Some(sound.saturating_add(marks))
 }
 
-/// How many bytes the media of a list with this handle take at most.
+/// Returns the maximum size in bytes of the media of a list with this handle, or `None` if it is unknown.
 pub fn media_size(alloc: Global, checked: &Checked, handle: u64) -> Option<u64> {
     let bound = checked.bound();
     let mut kept = KeptFrames::new(alloc, bound, handle);
@@ -89,8 +89,10 @@ pub fn media_size(alloc: Global, checked: &Checked, handle: u64) -> Option<u64> 
     size_of_media(alloc, bound.sounds(), &mut kept)
 }
 
-/// How many bytes the media of these frames take at most: those that are kept where nothing is silent, and for each entry
-/// the head of one more, since an entry that is silent between its fades may be in two.
+/// Returns the maximum size in bytes of the media for these samples.
+///
+/// Counts all samples, as if none were silent, and one header for each entry, since an entry that is silent between its
+/// fades may need two media.
 fn size_of_media(alloc: Global, sounds: &[Sound], kept: &mut KeptFrames<'_>) -> Option<u64> {
     let mut size: u64 = 0;
     for kept in kept.joined(alloc)?.as_slice() {
@@ -103,7 +105,7 @@ fn size_of_media(alloc: Global, sounds: &[Sound], kept: &mut KeptFrames<'_>) -> 
     Some(size)
 }
 
-/// How many bytes a medium of so many frames of this file takes at most.
+/// Returns the maximum size in bytes of a medium with `frames` samples per channel of this file.
 fn medium_size(sound: &Sound, frames: u64) -> u64 {
     let bits = u64::from(sound.channels()).saturating_mul(u64::from(sound.depth().bits()));
     let samples = frames.saturating_mul(bits / 8);
@@ -112,17 +114,17 @@ fn medium_size(sound: &Sound, frames: u64) -> u64 {
         .saturating_add(samples % 2)
 }
 
-/// How many bytes it takes before its samples at most.
+/// Returns the maximum number of bytes before the samples of a medium.
 fn head_size(sound: &Sound) -> u64 {
     HEAD.saturating_add(sound.history().len() as u64)
 }
 
-/// What the head of a rendering that was chosen so tells; nothing where a time can't be read.
+/// Returns the header data of a rendering, or `None` if a time can't be parsed.
 pub fn rendering_info(alloc: Global, project: &Project, chosen: Chosen<'_>) -> Option<SoundInfo> {
     info_of(alloc, project.rate(), Reach::of(project.events()), chosen)
 }
 
-/// The same of entries that reach so far.
+/// Returns the header data of a rendering of entries with this extent.
 fn info_of(alloc: Global, rate: Rate, reach: Reach, chosen: Chosen<'_>) -> Option<SoundInfo> {
     let from = time_or(chosen.from, rate, reach.first_in())?;
     let to = time_or(chosen.to, rate, reach.last_out)?;
@@ -138,7 +140,7 @@ fn info_of(alloc: Global, rate: Rate, reach: Reach, chosen: Chosen<'_>) -> Optio
     SoundInfo::new(channels, chosen.depth, frames, bext, Vec::new(alloc))
 }
 
-/// The time that a text spells, or this one where there is no text.
+/// Parses a time, or returns `otherwise` if there is no text.
 fn time_or(text: Option<&str>, rate: Rate, otherwise: SampleTime) -> Option<SampleTime> {
     match text {
         None => Some(otherwise),

@@ -1,4 +1,4 @@
-// A second look at the media of a list that is refused, for what its faults are in their own terms.
+// A second look at the source files of a refused list, for details of its faults.
 use crate::beside::Asides;
 use adlmodel::Project;
 use adlread::read;
@@ -10,10 +10,10 @@ use sourceindex::{Bound, bind};
 use std::alloc::Global;
 use wavread::MediaFault;
 
-/// For how many missing files the folder is searched.
+/// Maximum number of missing files to search for.
 const MOST_SEARCHES: usize = 100;
 
-/// A list that was read and bound once more.
+/// A list that was read and bound again.
 #[derive(Drop)]
 struct BoundList {
     project: Project,
@@ -21,14 +21,14 @@ struct BoundList {
 }
 
 impl BoundList {
-    /// The list over these sources.
+    /// Reads and binds the list over these sources.
     fn of<S: Shelf>(alloc: Global, list: &[u8], sources: &mut S) -> Option<BoundList> {
         let project = read(alloc, list).ok()?;
         let bound = bind(alloc, &project, sources).ok()?;
         Some(BoundList { project, bound })
     }
 
-    /// What the entry at fault plays.
+    /// Returns the details of an invalid entry.
     fn played(&self, alloc: Global, fault: EventFault) -> Option<Played> {
         let event = self
             .project
@@ -39,24 +39,23 @@ impl BoundList {
     }
 }
 
-/// What a second look at the media finds about a fault of this list.
+/// Takes a second look at the source files for one fault of the list.
 pub fn look_at<A: Asides>(alloc: Global, list: &[u8], fault: &Fault, asides: &A) -> Look {
     SecondLook::new(asides.sources(alloc)).at(alloc, list, fault, asides)
 }
 
-/// The sources of a refused list, looked at once more. Their failures are passed over, and so is want of memory: nothing
-/// is found then.
+/// The sources of a refused list, for a second look. Finds nothing if a source fails or if out of memory.
 #[derive(Drop)]
 pub struct SecondLook<S: Shelf + Drop> {
     sources: Option<S>,
     list: Option<BoundList>,
-    /// The list was read and bound, or couldn't be.
+    /// Whether reading and binding the list was tried.
     is_list_tried: bool,
     searches: usize,
 }
 
 impl<S: Shelf + Drop> SecondLook<S> {
-    /// At these sources.
+    /// Creates a second look at these sources.
     pub fn new(sources: Option<S>) -> Self {
         SecondLook {
             sources,
@@ -66,7 +65,7 @@ impl<S: Shelf + Drop> SecondLook<S> {
         }
     }
 
-    /// What is found about a fault of the list.
+    /// Returns the details of a fault of the list.
     pub fn at<A: Asides>(&mut self, alloc: Global, list: &[u8], fault: &Fault, asides: &A) -> Look {
         match fault {
             Fault::List(_) | Fault::SameName { .. } => Look::nothing(),
@@ -84,7 +83,7 @@ impl<S: Shelf + Drop> SecondLook<S> {
         }
     }
 
-    /// What is found about a fault of the file of this name.
+    /// Returns the details of a fault of the file with this name.
     fn at_file<A: Asides>(
         &mut self,
         alloc: Global,
@@ -102,7 +101,7 @@ impl<S: Shelf + Drop> SecondLook<S> {
         }
     }
 
-    /// Where a missing file may be.
+    /// Returns where a missing file may be.
     fn near<A: Asides>(
         &mut self,
         alloc: Global,
@@ -117,7 +116,7 @@ impl<S: Shelf + Drop> SecondLook<S> {
         asides.near(alloc, name)
     }
 
-    /// What an entry at fault plays. The list is read and bound for the first of them.
+    /// Returns the details of an invalid entry. Reads and binds the list at the first call.
     fn at_entry(&mut self, alloc: Global, list: &[u8], fault: EventFault) -> Option<Played> {
         if !self.is_list_tried {
             self.is_list_tried = true;

@@ -1,6 +1,6 @@
-// What a person sees of a command.
-/// Standard output and standard error, what shows how far a command has come, and what is told beside a refusal. Who
-/// takes a terminal leaves it the consoles that it has.
+// The consoles and displays of a command.
+/// Standard output, standard error, the progress display and the additional information on refusals. Functions that
+/// borrow a terminal don't replace its consoles.
 #[derive(Drop)]
 pub struct Terminal<'o, 'e, O, E, M: Drop, A: Drop> {
     pub out: &'o mut O,

@@ -1,4 +1,4 @@
-// What is told of a command that is done: what its notices mean, and which sources were changed meanwhile.
+// Information printed after a command is done: the meanings of its notices, and the sources that changed.
 use crate::changed::ChangedSources;
 use console::Console;
 use findings::{NOTICES, PassedWords};
@@ -6,7 +6,7 @@ use list_terms::Notice;
 use shelf::Reasons;
 use std::alloc::Global;
 
-/// Prints what the notices mean, each kind once, and what of the list is passed over without a notice.
+/// Prints the meaning of each kind of notice once, and the parts of the list that are ignored without a notice.
 pub fn tell_meanings<E: Console>(notices: &[Notice], list: &[u8], err: &mut E) {
     for meaning in &NOTICES {
         if has_kind(notices, meaning.kind) {
@@ -16,7 +16,8 @@ pub fn tell_meanings<E: Console>(notices: &[Notice], list: &[u8], err: &mut E) {
     err.print(PassedWords(list));
 }
 
-/// Prints what the notices of two lists mean, each kind once, and what of either is passed over without a notice.
+/// Prints the meaning of each kind of notice of two lists once, and the parts of either list that are ignored without a
+/// notice.
 pub fn tell_meanings_of_two<E: Console>(
     notices: &[Notice],
     others: &[Notice],
@@ -33,12 +34,12 @@ pub fn tell_meanings_of_two<E: Console>(
     err.print(PassedWords(other));
 }
 
-/// Whether one of these notices is of this kind.
+/// Returns whether one of the notices is of this kind.
 fn has_kind(notices: &[Notice], kind: u8) -> bool {
     notices.iter().any(|notice| notice.kind == kind)
 }
 
-/// Tells which sources were changed or taken away since they were opened.
+/// Prints the sources that were changed or removed since they were opened.
 pub fn tell_changed<S: Reasons, E: Console>(alloc: Global, shelf: &S, err: &mut E) {
     if let Ok(names) = shelf.changed(alloc) {
         err.print(ChangedSources(names.as_slice()));
