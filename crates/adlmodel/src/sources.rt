@@ -97,7 +97,7 @@ pub fn by_number(sources: &Sources) -> &IndexMap<u32, Source>
     &sources.by_number
 }
 
-/// Takes the sources of a map in which each source is stored under its own number.
+/// Makes sources of a map that has each source under its own number.
 pub fn sources_by_number(by_number: IndexMap<u32, Source>) -> Sources
     requires { keys by_number ≡ index_numbers (values by_number) }
     ensures { result ≡ values by_number }

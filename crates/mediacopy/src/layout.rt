@@ -14,8 +14,8 @@ use wavwrite::{SoundInfo, SoundInfoRef};
 /// The length in bytes of the longest header, which has 65,536 bytes of CodingHistory.
 pub const LONGEST_HEADER: usize = 66_226;
 
-/// Creates a sound file at its full length, with a complete header and every sample zero. Nothing is written if there is
-/// no memory for the header.
+/// Creates a sound file at its full length, with a complete header and every sample zero. Writes nothing if the header
+/// doesn't fit into memory.
 pub fn lay_out<B: Bench>(
     alloc: Global,
     bench: &mut B,

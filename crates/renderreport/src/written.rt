@@ -1,5 +1,5 @@
 // Writing of the report of a rendering.
-ghost use Rattle.std.specs.Prelude.{◌≡◌, ◌≢◌, IsTrue, OnOk, Some, ⊤};
+ghost use Rattle.std.specs.Prelude.{◌≡◌, ◌≢◌, IsErrOf, IsSome, IsTrue, OnOk, Some, ⊤};
 ghost use Rattle.work_terms.specs.Disk.{IsDurable};
 ghost use Rattle.devices.specs.Frame.{OnlyWrites};
 ghost use Rattle.renderreport.specs.Fault.{name_of};
@@ -52,6 +52,7 @@ fn write<B: Bench>(bench: &mut B, report: &Report<'_, '_>) -> Result<(), DeviceF
 ///
 /// Reads `render.wav` once, in order, for its SHA-256. Uses no memory and changes no other file. The error names the
 /// file at which the device failed.
+/// If `render.wav` can't be read, nothing is written, and an older report stays.
 pub fn write_report<B: Bench>(bench: &mut B, facts: &ReportFacts<'_>) -> Result<(), ReportFault>
     ensures written { IsTrue (B.honest bench.old)
         → OnOk result (B.stored bench.new report_name

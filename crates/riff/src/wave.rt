@@ -180,9 +180,9 @@ fn walk_form<S: Shelf>(
 }
 
 /// Finds the chunks that count in a file of RIFF WAVE or RF64 (EBU Tech 3285, 3306): the first `fmt `, `bext` and
-/// `data`. It reads the head of each chunk, 8 bytes, and no samples. After 64 chunks in a row that are close together it
-/// reads 16,384 bytes at a time, as long as they are. A chunk of another kind that passes the end of the file ends the
-/// walk, as fewer than 8 bytes do.
+/// `data`. It reads the head of each chunk, 8 bytes, and no samples. Only after 64 chunks in a row that are close
+/// together does it read 16,384 bytes at a time, which may include samples, until two chunks are further apart. A chunk
+/// of another kind that passes the end of the file ends the walk, as fewer than 8 bytes do.
 ///
 /// In turn: `NotFound` where no file has the name, `NotWave` for a file that is neither; `BadDs64` where RF64 has no
 /// whole `ds64` at byte 12; for the chunks from the left `Truncated` where one that counts passes the end, `BadDs64`
