@@ -40,7 +40,8 @@ LINE = rb"\r(\d+) %%: (\d+) of %d frames\x1b\[K"
 RENDERING = rb"\r(\d+) %%: (\d+) of %d frames \(if stopped, adlcons resume goes on\)\x1b\[K"
 READ = rb"\r(\d+) %%: (\d+) of %d bytes of A\.wav\x1b\[K"
 # A source is read by the head of its form, and then by blocks, longer ones where chunks lie close together.
-FORM, AHEAD, FAR_AHEAD = 12, 4096, 16_384
+# The head of a file; the heads of chunks that are read one by one; what is read at once behind them, and how often.
+FORM, HEADS, AHEAD = 12, [8 * count for count in range(1, 65)], 16_384
 FAR = 3
 CLEARED = rb"\r\x1b\[K"
 CLEAR = b"\r\x1b[K"
@@ -204,12 +205,12 @@ def looking_for_chunks(scene: Scene) -> None:
     """The bytes of a source up to which its chunks were looked for, before the refusal is explained; and nothing where
     standard error is no terminal."""
     put_sound(scene)
-    whole = FORM + AHEAD + FAR * FAR_AHEAD
+    whole = FORM + HEADS[-1] + FAR * AHEAD
     (scene.folder / MEDIA / "A.wav").write_bytes(b"RIFF\0\0\0\0WAVE".ljust(whole, b"\0"))
     environment = preloaded(scene, **SLOW_READS)
     shown = on_terminal(scene, words_of("check"), env=environment)
     same("the bytes", counts_in(shown.error, READ, whole),
-         [FORM, *(FORM + AHEAD + far for far in multiples(FAR_AHEAD, FAR, 0))])
+         [FORM, *(FORM + head for head in HEADS), *(FORM + HEADS[-1] + far for far in multiples(AHEAD, FAR))])
     rest = re.sub(READ % whole, b"", shown.error)
     same("the line, which is taken off", rest[:len(CLEAR)], CLEAR)
     same_outcome(shown._replace(error=rest[len(CLEAR):]), 1, "refused 24 at index 1 file A.wav")

@@ -166,10 +166,12 @@ def half_done(blocks: int, marked: set):
         same_outcome(Outcome(done.returncode, done.stdout, done.stderr), 0, line)
         same_files(scene.files(), whole)
         calls = trace.read_text()
-        for call, name, head in (("pread64", "A.wav", 44), ("pwrite64", SOUND, HEAD), ("pread64", SOUND, 0)):
+        # the head of the rendered file is read to see that it is one of ours
+        for call, name, head, free in (
+                ("pread64", "A.wav", 44, 0), ("pwrite64", SOUND, HEAD, 0), ("pread64", SOUND, 0, 1024)):
             for at, end in ranges_of(calls, call, name):
                 touched = set(range(max(at - head, 0) // (FRAME * BLOCK), (end - head - 1) // (FRAME * BLOCK) + 1))
-                if end > head + 1024 and touched & marked:
+                if end > head + free and touched & marked:
                     raise Mismatch(f"{call} of {name} from {at} to {end} lies in marked blocks")
         wanted = {HEAD + FRAME * BLOCK * block for block in set(range(blocks)) - marked}
         begun = {at for at, _ in ranges_of(calls, "pwrite64", SOUND) if at % PIECE}
@@ -179,7 +181,7 @@ def half_done(blocks: int, marked: set):
     return body
 
 
-case.add("no marked block is read or written", half_done(12, {1, 2, 5, 11}))
+case.add("no marked block is read or written", half_done(12, {0, 1, 2, 5, 11}))
 case.add("no marked block of a stretch is read or written", half_done(700, set(range(40, 350)) | {699}))
 
 

@@ -121,9 +121,9 @@ const LIST: Part = Part::Write(OutputFile::List);
 type Calls = (u64, Part);
 
 /// Calls on the sources of a rendering: the list is opened, and each job reads a block.
-const OPENED: [Calls; 1] = [(5, Part::Open)];
+const OPENED: [Calls; 1] = [(8, Part::Open)];
 
-const OPENED_AND_READ: [Calls; 2] = [(5, Part::Open), (1, Part::Job(0))];
+const OPENED_AND_READ: [Calls; 2] = [(8, Part::Open), (1, Part::Job(0))];
 
 const REST_READ: [Calls; 2] = [(1, Part::Job(1)), (1, Part::Job(2))];
 
@@ -147,11 +147,11 @@ const RESUMED: [Calls; 2] = [(2, RENDERING), (4, MARKS)];
 
 /// Calls on the sources of a consolidation: the list is opened, and both fades and the part between
 /// them are read for silence at once.
-const HEARD: [Calls; 2] = [(5, Part::Open), (1, Part::Hear)];
+const HEARD: [Calls; 2] = [(8, Part::Open), (1, Part::Hear)];
 
 /// Calls on the sources with a report: in addition, the samples of the first medium are read, then
 /// length and content of the whole source, and then the samples of the second medium.
-const HEARD_TWICE: [Calls; 2] = [(5, Part::Open), (5, Part::Hear)];
+const HEARD_TWICE: [Calls; 2] = [(8, Part::Open), (5, Part::Hear)];
 
 /// Calls on the sources by the jobs: each reads its samples.
 const FRAMES_READ: [Calls; 2] = [(1, Part::Job(0)), (1, Part::Job(1))];

@@ -16,11 +16,12 @@ const CHUNKS: Chunks = Chunks {
 };
 
 /// The first call that fails, and the expected result: a walk makes three calls.
-const WALKED: [(u64, Result<Chunks, MediaFault>); 4] = [
+const WALKED: [(u64, Result<Chunks, MediaFault>); 5] = [
     (0, Err(MediaFault::Device)),
     (1, Err(MediaFault::Device)),
     (2, Err(MediaFault::Device)),
-    (3, Ok(CHUNKS)),
+    (3, Err(MediaFault::Device)),
+    (4, Ok(CHUNKS)),
 ];
 
 #[test]
