@@ -1,9 +1,10 @@
 // Iteration over the lines of a text.
-ghost use Rattle.std.specs.Prelude.{◌≡◌, ◌≤◌, ◌<◌, ◌+◌, ◌==◌, [], ◌∷◌, MatchOption, length};
+ghost use Rattle.std.specs.Prelude.{◌≡◌, ◌≤◌, ◌<◌, ◌+◌, ◌==◌, [], ◌∷◌, MatchOption, None, length};
 ghost use Rattle.std.specs.List.{list_any, position_or_len};
 ghost use Rattle.list_terms.specs.Lines.{lines_in, lines_of, byte_order_mark};
 ghost use Rattle.list_terms.specs.Lines as spec;
 
+use crate::Tokens;
 use crate::names::length_before;
 use std::marker::Model;
 
@@ -49,6 +50,16 @@ impl<'a> Lines<'a> {
         self.rest = rest;
         self.number += 1;
         Some(line)
+    }
+
+    /// Returns the tokens of a line that `next_line` returned last. Their faults name its number.
+    pub fn tokens(&self, line: &'a [u8]) -> Tokens<'a>
+        ensures number { result.number ≡ self.now.number }
+        ensures rest { result.rest.now ≡ line.now }
+        ensures at { result.at ≡ 0 }
+        ensures last { result.last ≡ None }
+    {
+        Tokens::numbered(line, self.number)
     }
 
     /// Returns the number of the last line read, counted from 1, or 0 before the first line.

@@ -30,10 +30,13 @@ pub fn first_line(text: &[u8]) -> Option<&[u8]> {
     lines.next_line()
 }
 
-/// Returns the kind, the position and the length of the first token of a line, and the length of
-/// its content.
-pub fn first_token(line: &[u8]) -> Result<Option<(TokenKind, usize, usize, usize)>, TokenFault> {
-    let mut tokens = Tokens::new(line);
+/// Returns the kind, the position and the length of the first token of a text, and the length of its content.
+pub fn first_token(text: &[u8]) -> Result<Option<(TokenKind, usize, usize, usize)>, TokenFault> {
+    let mut lines = Lines::new(text);
+    let Some(line) = lines.next_line() else {
+        return Ok(None);
+    };
+    let mut tokens: Tokens = lines.tokens(line);
     let next: Option<Token> = tokens.next_token()?;
     let Some(token) = next else {
         return Ok(None);

@@ -1,5 +1,5 @@
 // The tokens of a line.
-use adltoken::{Span, Token, TokenFault, TokenKind, Tokens};
+use adltoken::{Lines, Span, Token, TokenFault, TokenKind, Tokens};
 use std::test::Fail;
 
 /// Returns whether a token has the given kind, content and position in its line.
@@ -31,5 +31,20 @@ fn a_line_is_cut_up_to_its_fault(rt: HostRuntime) -> Result<(), Fail> {
         assert_eq!(rt; tokens.rest, b" \x01 C".as_slice());
         assert_eq!(rt; tokens.at, 15);
     }
+    Ok(())
+}
+
+#[test]
+fn a_fault_names_the_line_that_was_read_last(rt: HostRuntime) -> Result<(), Fail> {
+    let mut lines = Lines::new(b"(A) 1\r\n(B) \x01\n");
+    let mut line = lines.next_line().ok_or("no line")?;
+    let mut tokens = lines.tokens(line);
+    assert!(rt; is_token(tokens.next_token()?, TokenKind::Keyword, b"A", 0, 3));
+    assert!(rt; is_token(tokens.next_token()?, TokenKind::Word, b"1", 4, 1));
+    assert!(rt; tokens.next_token()?.is_none());
+    line = lines.next_line().ok_or("no line")?;
+    tokens = lines.tokens(line);
+    assert!(rt; is_token(tokens.next_token()?, TokenKind::Keyword, b"B", 0, 3));
+    assert!(rt; tokens.next_token().err() == Some(TokenFault::BadByte { line: 2 }));
     Ok(())
 }
