@@ -2,8 +2,9 @@
 use shelf::ZeroShelf;
 use std::alloc::Global;
 use std::test::Fail;
-use trials_projects::media::head;
+use trials_projects::media::{head, written_head};
 use wavread::{Depth, open};
+use wavwrite::{Bext, SoundInfo, fits_riff_with, is_large, place_of};
 
 /// The maximum number of 16-bit mono samples in a RIFF file without a CodingHistory.
 const MOST_OF_RIFF: u64 = 2_147_483_306;
@@ -18,7 +19,7 @@ const RF64_HEAD: [u8; 56] = [
 
 /// Returns a shelf with a file of zeros.
 fn silent(alloc: Global, frames: u64) -> Result<ZeroShelf, Fail> {
-    let head = head(alloc, 1, frames)?;
+    let head = written_head(alloc, frames)?;
     let samples = frames.saturating_mul(2);
     let length = samples.saturating_add(head.len() as u64);
     Ok(ZeroShelf::new(String::from_str(alloc, "A.wav")?, head, length))
@@ -40,7 +41,7 @@ fn opened(alloc: Global, frames: u64) -> Result<(u8, Depth, u64), Fail> {
 
 /// Returns whether the header of a file has the given start and end.
 fn has_head(alloc: Global, frames: u64, first: &[u8], last: &[u8]) -> Result<bool, Fail> {
-    let head = head(alloc, 1, frames)?;
+    let head = written_head(alloc, frames)?;
     Ok((head.len() == 690) & head.starts_with(first) & head.ends_with(last))
 }
 
@@ -60,5 +61,34 @@ fn the_shortest_rf64_is_opened(rt: HostRuntime) -> Result<(), Fail> {
     let frames = MOST_OF_RIFF + 1;
     assert!(rt; has_head(rt.alloc(), frames, &RF64_HEAD, b"data\xff\xff\xff\xff")?);
     assert_eq!(rt; opened(rt.alloc(), frames)?, (1, Depth::Sixteen, frames));
+    Ok(())
+}
+
+#[test]
+fn a_header_has_each_field_of_broadcast_wave(rt: HostRuntime) -> Result<(), Fail> {
+    for frames in [1, 12_000, MOST_OF_RIFF] {
+        let by_hand = head(rt.alloc(), 1, frames)?;
+        assert!(rt; written_head(rt.alloc(), frames)? == by_hand);
+    }
+    Ok(())
+}
+
+/// The facts of a file of one channel of 16 bits.
+fn info(alloc: Global, frames: u64) -> Result<SoundInfo, Fail> {
+    let bext = Bext {
+        text: [0; 338],
+        time_reference: 0,
+    };
+    Ok(SoundInfo::new(1, Depth::Sixteen, frames, bext, Vec::new(alloc)).ok_or("no info")?)
+}
+
+#[test]
+fn a_file_is_large_past_the_most_that_riff_can_tell(rt: HostRuntime) -> Result<(), Fail> {
+    for (frames, large) in [(1, false), (MOST_OF_RIFF, false), (MOST_OF_RIFF + 1, true)] {
+        let info = info(rt.alloc(), frames)?;
+        assert_eq!(rt; place_of(&info), 690);
+        assert_eq!(rt; is_large(&info), large);
+        assert_eq!(rt; fits_riff_with(1, Depth::Sixteen, frames, 0), !large);
+    }
     Ok(())
 }
