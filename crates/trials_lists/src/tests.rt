@@ -1,4 +1,5 @@
 // Tests of lists and of runs over them, including runs with failing stores.
+mod calls;
 mod consolidations;
 mod copies;
 mod failing_devices;

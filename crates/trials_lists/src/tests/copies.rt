@@ -89,7 +89,7 @@ fn a_list_in_its_written_form_is_written_as_it_is(rt: HostRuntime) -> Result<(),
     Ok(())
 }
 
-/// Sources of which there is one alone, made of a map.
+/// Makes sources of a map of one source.
 fn alone(alloc: Global, source: &Source) -> Result<Sources, AllocError> {
     let mut by_number = IndexMap::new(alloc);
     by_number.insert(source.number(), source.try_copy()?)?;

@@ -3,8 +3,8 @@ ghost use Rattle.rendering.specs.Rendering.{HaveChannels};
 
 use consolidate::{
     BoardEvent, ConsolidateChoice, Depth, Fault, JobLength, Keeping, Options, Order, Progress,
-    RenderChoice, ReportChoice, Resumed, Work, consolidate_watched, render_watched, resume_watched,
-    run_schedule,
+    RenderChoice, ReportChoice, Resumed, Work, consolidate_watched, render_watched, resume,
+    resume_watched, run_schedule,
 };
 use passes::{DropSilent, JoinCuts, Pass, Regroup, SplitFades};
 use shelf::{Bench, MemoryBench, MemoryShelf, Shelf, Unwatched};
@@ -400,6 +400,21 @@ impl Job {
         let (list, choice) = (self.list.as_bytes(), self.choice());
         let made = resume_watched(self.alloc, list, &choice, shelf, bench, &mut Unwatched)?;
         Ok(made.resumed)
+    }
+
+    /// Resumes it by the call that takes no watch.
+    pub(crate) fn resume_unwatched<S: Shelf>(
+        &self,
+        shelf: &mut S,
+        bench: &mut MemoryBench,
+    ) -> Result<Resumed, Fault> {
+        resume(
+            self.alloc,
+            self.list.as_bytes(),
+            &self.options(),
+            shelf,
+            bench,
+        )
     }
 
     fn consolidate<S: Shelf>(
