@@ -201,13 +201,16 @@ def killed_with_a_report(scene: Scene) -> None:
     put_project(scene)
     words = ("--report",)
     (_, whole), calls = calls_of(scene, "consolidate", words)
+    lists = 0
     for call in calls:
         scene.empty_out()
         injected(scene, "consolidate", call, "signal=KILL", words=words)
         files = scene.files()
         if "consolidated.adl" in files:
+            lists += 1
             rest = {name: data for name, data in files.items() if name != "consolidated.adl"}
             same_files(rest, {name: data for name, data in whole.items() if name != "consolidated.adl"})
+    same("whether a kill leaves a list", lists > 0, True)
 
 
 def opened_once(scene: Scene) -> None:

@@ -13,7 +13,7 @@ use sound_terms::{Bext, Depth};
 use std::alloc::Global;
 use std::test::Fail;
 use trials_projects::lists::list;
-use trials_projects::media::{head_with, with_samples};
+use trials_projects::media::{head_with, sample, with_samples};
 
 /// Two entries on two channels; the second fades in while the first is audible.
 const ENTRIES: &str = "(Entry) 1 (Cut) I 1 1 1 00.00.00.00/0003 00.00.00.00/0000 00.00.02.00/0000
@@ -75,20 +75,55 @@ fn made_by_call(alloc: Global, shelf: &mut MemoryShelf) -> Result<MemoryBench, F
     Ok(bench)
 }
 
-/// Returns whether both outputs have this file, with the same content.
-fn have_same(one: &MemoryBench, other: &MemoryBench, name: &str) -> bool {
-    one.bytes(name).is_some() & (one.bytes(name) == other.bytes(name))
+/// The list over the media: the 96,000 frames of the first entry and the 3,845 of the second, with ten on either side
+/// as far as the file has them.
+const KEPT: &[u8] = b"<ADL>\r
+<SEQUENCE>\r
+(SEQ_SAMPLE_RATE) S48000\r
+(SEQ_FRAME_RATE) 25\r
+</SEQUENCE>\r
+<SOURCE_INDEX>\r
+(Index) 0001 (F) \"URL:file://localhost/M00001.wav\" _ 00.00.00.00/0000 00.00.02.00/0013\r
+(Index) 0002 (F) \"URL:file://localhost/M00002.wav\" _ 00.00.02.05/0390 00.00.00.02/0025\r
+</SOURCE_INDEX>\r
+<EVENT_LIST>\r
+(Entry) 0001 (Cut) I 0001 1 1 00.00.00.00/0003 00.00.00.00/0000 00.00.02.00/0000\r
+(Entry) 0002 (Cut) I 0002 1 2 00.00.02.05/0400 00.00.01.24/0000 00.00.02.01/0005\r
+(Infade) 00.00.00.01/0000 LIN _ _ _\r
+</EVENT_LIST>\r
+</ADL>\r
+";
+
+/// The medium of these frames.
+fn medium(alloc: Global, first: u64, frames: u64) -> Result<Vec<u8>, Fail> {
+    let bext = Bext {
+        text: [7; 338],
+        time_reference: first,
+    };
+    let mut file = head_with(alloc, 1, Depth::Sixteen, frames, bext)?;
+    for place in 0..frames {
+        file.extend_from_slice(&sample(first.saturating_add(place)))?;
+    }
+    Ok(file)
+}
+
+/// Whether a bench has both media and the list.
+fn has_all(alloc: Global, bench: &MemoryBench) -> Result<bool, Fail> {
+    let (one, other) = (medium(alloc, 0, 96_013)?, medium(alloc, 105_990, 3_865)?);
+    Ok(
+        (bench.bytes("M00001.wav") == Some(one.as_slice()))
+            & (bench.bytes("M00002.wav") == Some(other.as_slice()))
+            & (bench.bytes("consolidated.adl") == Some(KEPT)),
+    )
 }
 
 #[test]
 fn parts_make_the_media_and_the_list_of_the_call(rt: HostRuntime) -> Result<(), Fail> {
     let mut shelf = sources(rt.alloc())?;
     let by_parts = made_of_parts(rt.alloc(), &mut shelf)?;
+    assert!(rt; has_all(rt.alloc(), &by_parts)?);
     let by_call = made_by_call(rt.alloc(), &mut shelf)?;
-    let are_same = have_same(&by_parts, &by_call, "M00001.wav")
-        & have_same(&by_parts, &by_call, "M00002.wav")
-        & have_same(&by_parts, &by_call, "consolidated.adl");
-    assert!(rt; are_same);
+    assert!(rt; has_all(rt.alloc(), &by_call)?);
     Ok(())
 }
 
@@ -120,10 +155,44 @@ fn are_rendered(alloc: Global, samples: &[i32], shelf: &mut MemoryShelf) -> Resu
     Ok(are_bytes_of(file.get(SAMPLES_AT..).unwrap_or(&[]), samples))
 }
 
+/// A sample of the file at 24 bits.
+fn played(place: u64) -> i32 {
+    i32::from(i16::from_le_bytes(sample(place))) * 256
+}
+
+/// Whether both channels play their frames of the file. The fade of the second one, 1,920 frames from 94,080 on, isn't
+/// checked here.
+fn are_played(samples: &[i32]) -> bool {
+    let mut frame: u64 = 0;
+    for pair in samples.chunks_exact(2) {
+        let first = if frame < 96_000 {
+            played(frame.saturating_add(3))
+        } else {
+            0
+        };
+        let second = if frame < 94_080 {
+            0
+        } else {
+            played(frame.saturating_add(11_920))
+        };
+        let is_faded = (94_080..96_000).contains(&frame);
+        let is_played = match pair {
+            [one, other] => *one == first && (is_faded || *other == second),
+            _ => false,
+        };
+        if !is_played {
+            return false;
+        }
+        frame = frame.saturating_add(1);
+    }
+    frame == END
+}
+
 #[test]
 fn blocks_make_the_samples_of_the_call(rt: HostRuntime) -> Result<(), Fail> {
     let mut shelf = sources(rt.alloc())?;
     let samples = samples_of_blocks(rt.alloc(), &mut shelf)?;
+    assert!(rt; are_played(samples.as_slice()));
     assert!(rt; are_rendered(rt.alloc(), samples.as_slice(), &mut shelf)?);
     Ok(())
 }

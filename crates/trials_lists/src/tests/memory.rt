@@ -29,11 +29,17 @@ fn refusal(job: &Job) -> Result<Option<u8>, Fail> {
     }
 }
 
-/// Runs a job and prints its refusal number, if any.
+/// Does a work, and prints the number of its refusal. Only one allocation fails, so a second run has all the memory that
+/// it needs.
 fn tell(rt: &HostRuntime, job: &Job) -> Result<(), Fail> {
-    if let Some(number) = refusal(job)? {
-        println!(rt; "refused {number}")?;
+    let Some(number) = refusal(job)? else {
+        return Ok(());
+    };
+    if let Some(again) = refusal(job)? {
+        println!(rt; "refused {again} again")?;
+        return Err("refused although there was memory".into());
     }
+    println!(rt; "refused {number}")?;
     Ok(())
 }
 

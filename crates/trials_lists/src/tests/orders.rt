@@ -8,7 +8,7 @@ use shelf::{MemoryBench, MemoryShelf};
 use std::alloc::Global;
 use std::test::Fail;
 use trials_projects::lists::list;
-use trials_projects::media::head;
+use trials_projects::media::{head, head_at};
 
 /// Sample frames per block.
 const BLOCK: usize = 4_096;
@@ -105,14 +105,31 @@ fn consolidated(alloc: Global, order: Order) -> Result<MemoryBench, Fail> {
     Ok(bench)
 }
 
+/// The list over the frames that are kept: ten before and ten after the frame that is played.
+const KEPT: &[u8] = b"<ADL>\r
+<SEQUENCE>\r
+(SEQ_SAMPLE_RATE) S48000\r
+(SEQ_FRAME_RATE) 25\r
+</SEQUENCE>\r
+<SOURCE_INDEX>\r
+(Index) 0001 (F) \"URL:file://localhost/M00001.wav\" _ 00.00.04.24/1910 00.00.00.00/0021\r
+</SOURCE_INDEX>\r
+<EVENT_LIST>\r
+(Entry) 0001 (Cut) I 0001 1 1 00.00.05.00/0000 00.00.00.00/0000 00.00.00.00/0001\r
+</EVENT_LIST>\r
+</ADL>\r
+";
+
 #[test]
 fn both_orders_of_a_consolidation_are_one(rt: HostRuntime) -> Result<(), Fail> {
-    let by_time = consolidated(rt.alloc(), Order::ByTime)?;
-    let by_source = consolidated(rt.alloc(), Order::BySource)?;
-    let medium = by_time.bytes("M00001.wav").ok_or("no medium")?;
-    assert_eq!(rt; medium.len(), 732);
-    assert!(rt; by_source.bytes("M00001.wav") == Some(medium));
-    let list = by_time.bytes("consolidated.adl").ok_or("no list")?;
-    assert!(rt; by_source.bytes("consolidated.adl") == Some(list));
+    let mut medium = head_at(rt.alloc(), 1, Depth::Sixteen, 21, 239_990)?;
+    for _ in 0..21 {
+        medium.extend_from_slice(&[1, 0])?;
+    }
+    for order in [Order::ByTime, Order::BySource] {
+        let bench = consolidated(rt.alloc(), order)?;
+        assert!(rt; bench.bytes("M00001.wav") == Some(medium.as_slice()));
+        assert!(rt; bench.bytes("consolidated.adl") == Some(KEPT));
+    }
     Ok(())
 }

@@ -265,6 +265,12 @@ fn appends_go_on_behind_what_is_there(rt: HostRuntime) -> Result<(), Fail> {
     let count = made(&mut bench, &APPENDED);
     let written = fs::read(&rt, "folder_appends/A.wav")?;
     println!(rt; "{count} of 4 calls: {written:?}")?;
+    let wanted: &[u8] = if count == 4 {
+        &[1, 2, 3, 4, 5, 6, 7, 8, 9]
+    } else {
+        &[1, 2, 3, 4, 5, 6, 9]
+    };
+    assert!(rt; written.as_slice() == wanted);
     fs::remove_dir_all(&rt, "folder_appends")?;
     Ok(())
 }
