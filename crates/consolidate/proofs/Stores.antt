@@ -265,7 +265,7 @@ outcome_as un_so so quiet wrote none (NotLaidOut file un is same still writes la
     NotLaidOut file (un_so un) is same still (writes_then (wrote (Stays _)) writes) (λ unstarted. laid (none unstarted))
 outcome_as un_so so quiet wrote none (Stopped stale count did stops writes runs) =
     Stopped stale count (done_as so quiet did) stops (writes_then (wrote (Stays _)) writes) runs
-outcome_as un_so so quiet wrote none (NotFinished file stale count failures files did all is own rose runs) =
-    NotFinished file stale count failures files (done_as so quiet did) all is own rose runs
-outcome_as un_so so quiet wrote none (Finished stale count files did all is own last durable runs) =
-    Finished stale count files (done_as so quiet did) all is own last durable runs
+outcome_as un_so so quiet wrote none (NotFinished file stale failures files did all is own before rose runs) =
+    NotFinished file stale failures files (done_as so quiet did) all is own before rose runs
+outcome_as un_so so quiet wrote none (Finished stale files did all is own last durable runs) =
+    Finished stale files (done_as so quiet did) all is own last durable runs

@@ -1,19 +1,20 @@
 -- The outputs of a consolidation by number: which names they have, and what stands in them.
-use Rattle.std.proofs.Common.{◌≡◌, ◌≢◌, ◌∙◌, ℕ, suc, ◌+◌, ◌-◌, ◌<◌, Bool, IsTrue, List, length, Some, is_some, Result, Ok, Err, OnOk, codes, refl, sym, ap, add-one, arith, get_or}
+use Rattle.std.proofs.Common.{◌≡◌, ◌≢◌, ◌∙◌, ℕ, suc, ◌+◌, ◌-◌, ◌<◌, ◌≤◌, Bool, IsTrue, List, length, Some, is_some, Result, Ok, Err, OnOk, codes, refl, sym, ap, add-one, arith, get_or}
 use Rattle.std.proofs.lemmas.Bool.Decides.{nat_tests}
 use Rattle.std.proofs.lemmas.Option.{slice_get-get_or}
+use Rattle.std.specs.Prelude.{IfErr, ⊤}
 use Rattle.work_terms.specs.Disk.{Files, IsDurable}
 use Rattle.list_terms.specs.Renewed.{media_name}
 use Rattle.mediacopy.specs.declared.piece.CopyJob.{CopyJob}
 use Rattle.mediacopy.specs.Pieces.{no_run}
-use Rattle.execution.specs.Plan.{HoldLast, IsAt, IsForeign, IsLast, IsOwn, OfJob, OfMarks, Stays}
+use Rattle.execution.specs.Plan.{HoldBefore, HoldLast, IsAt, IsForeign, IsLast, IsOwn, OfJob, OfMarks, Stays}
 use Rattle.execution.specs.declared.fault.OutputFault.{OutputFault}
 use Rattle.consolidation.specs.Consolidated.{IsBehind, IsElsewhere}
 use Rattle.consolidation.specs.Media.{IsNoMedium}
 use Rattle.consolidation.specs.Outputs.{AreNamedOutputs, FailsAtMedium, job_plan, whole_output}
 use Rattle.consolidation.specs.Pieces.{job_count, job_of}
 use Rattle.consolidation.specs.Planned.{IsMediaPlan, MediaPlan}
-use Rattle.consolidation.specs.Reported.{IsReportThere}
+use Rattle.consolidation.specs.Reported.{IsReportThere, IsSumsThere}
 use Rattle.consolidation.proofs.Wholes.{first_job, job_named}
 
 -- what holds of the list and of the files of the report, where there is one
@@ -59,6 +60,23 @@ module _ (plan : MediaPlan) where
   holds_last sources written holds =
       let of = of_each (λ n. written n ≡ Some (whole_output plan sources n)) holds in
       (of.0, grind (arith, of.1))
+
+  -- if one of them fails, those before it are complete
+  pub before_there : (sources written : Files) (file : ℕ) → file < (job_plan plan).outputs
+      → (length plan.runs < file → IsSumsThere plan.report written)
+      → (length plan.runs + 2 ≤ file → IsReportThere plan.report written)
+      → HoldBefore (job_plan plan) file sources written
+  before_there sources written file few sums report i last under =
+      grind (arith, nat_tests, few, sums, report, last, under)
+
+  pub before_failed : (result : Result (Unit {0}) OutputFault) (sources written : Files) {failed : List ℕ → Type 0}
+      → IfErr result (λ fault. ⊤ → IsAt (job_plan plan) fault.file failed)
+      → IfErr result (λ fault. length plan.runs < fault.file → IsSumsThere plan.report written)
+      → IfErr result (λ fault. length plan.runs + 2 ≤ fault.file → IsReportThere plan.report written)
+      → IfErr result (λ fault. HoldBefore (job_plan plan) fault.file sources written)
+  before_failed (Ok x) sources written at sums report = tt
+  before_failed (Err fault) sources written at sums report =
+      before_there sources written fault.file (at tt).0 sums report
 
   -- a file that the work doesn't write is none of them
   pub foreign_behind : (n : List ℕ) → IsForeign (job_plan plan) n → IsBehind (is_some plan.report) n

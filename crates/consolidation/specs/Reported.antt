@@ -42,6 +42,11 @@ IsReportThere (Some report) written =
     (written (codes "SHA256SUMS") ≡ Some report.sums.items) × (written (codes "consolidated.json") ≡ Some
     report.json.items)
 
+-- the checksums are in their file, if there is a report
+abbrev pub IsSumsThere : Option Report → Files → Type 0
+IsSumsThere None written = ⊤
+IsSumsThere (Some report) written = written (codes "SHA256SUMS") ≡ Some report.sums.items
+
 -- the files of the report that is asked for, and by what it is made
 abbrev pub HoldsReport : Option AskedReport → Files → (AskedReport → Told) → Files → Type 0
 HoldsReport None sources told written = ⊤

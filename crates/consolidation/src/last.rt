@@ -5,7 +5,7 @@ ghost use Rattle.devices.specs.Frame.{OnlyWrites};
 ghost use Rattle.execution.specs.Plan.{IsAt, IsLast};
 ghost use Rattle.consolidation.specs.Consolidated.{IsBehind};
 ghost use Rattle.consolidation.specs.Outputs.{FailsAtReport, job_plan};
-ghost use Rattle.consolidation.specs.Reported.{IsNoReport, IsReportDurable, IsReportThere};
+ghost use Rattle.consolidation.specs.Reported.{IsNoReport, IsReportDurable, IsReportThere, IsSumsThere};
 ghost use Rattle.mediacopy.specs.Moment.{IsLater};
 
 use crate::Consolidation;
@@ -44,6 +44,8 @@ fn write_report_outputs<B: Bench>(
         → OnOk result (IsReportDurable true (B.stored bench.new) (B.may_leave bench.new)) }
     ensures report_last { IsTrue (B.honest bench.old) → IfErr result (λ fault. fault.file < first + 1
         → B.stored bench.new (codes "consolidated.json") ≡ B.stored bench.old (codes "consolidated.json")) }
+    ensures sums_first { IsTrue (B.honest bench.old) → IfErr result (λ fault. first < fault.file
+        → IsSumsThere (Some report.now) (B.stored bench.new)) }
     ensures number { IfErr result (λ fault. (first ≤ fault.file) × (fault.file ≤ first + 1)) }
     ensures only_writes { OnlyWrites B.Bench (IsNoReport true) bench.old bench.new result (λ _. ⊤)
         (FailsAtReport first) }
@@ -60,8 +62,8 @@ fn write_report_outputs<B: Bench>(
 }
 
 impl<'a> Consolidation<'a> {
-    /// Writes the files that come last, each of which is synced before the next is written: an unfinished output has no
-    /// list.
+    /// Writes the report, if there is one, and then the list. Syncs each file before it writes the next, so that an
+    /// output without a list is unfinished.
     pub(crate) fn write_last<B: Bench>(&self, bench: &mut B) -> Result<(), OutputFault>
         ensures report { IsTrue (B.honest bench.old)
             → OnOk result (IsReportThere self.now.report (B.stored bench.new)) }
@@ -74,6 +76,10 @@ impl<'a> Consolidation<'a> {
         ensures in_order { IsTrue (B.honest bench.old) → IfErr result (λ fault. (i : ℕ) → IsLast (job_plan self.now) i
             → fault.file < i
             → B.stored bench.new ((job_plan self.now).output i) ≡ B.stored bench.old ((job_plan self.now).output i)) }
+        ensures sums_first { IsTrue (B.honest bench.old) → IfErr result (λ fault. length self.now.runs < fault.file
+            → IsSumsThere self.now.report (B.stored bench.new)) }
+        ensures report_first { IsTrue (B.honest bench.old) → IfErr result (λ fault. length self.now.runs + 2 ≤ fault.file
+            → IsReportThere self.now.report (B.stored bench.new)) }
         ensures only_writes { OnlyWrites B.Bench (IsBehind (is_some self.now.report)) bench.old bench.new result
             (λ _. ⊤) (λ fault failed. IsAt (job_plan self.now) fault.file failed) }
         ensures later { IsLater B.moment bench.old bench.new }

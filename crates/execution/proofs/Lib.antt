@@ -2,6 +2,7 @@ mod Changes
 mod EventRuns
 mod Fills
 mod Firsts
+mod LastRounds
 mod MarkSteps
 mod Notes
 mod Orders

@@ -21,6 +21,7 @@ use Rattle.execution.specs.declared.fault.OutputFault.{OutputFault}
 use Rattle.execution.proofs.EventRuns.{mark-since}
 use Rattle.execution.proofs.Fills.{filled-whole}
 use Rattle.execution.proofs.Firsts.{rises-after}
+use Rattle.execution.proofs.LastRounds.{AreTurns, all-events}
 use Rattle.execution.proofs.MarkSteps.{leaves-wider, moments-then}
 use Rattle.execution.proofs.Sound.{laws-kept, leads-good, leads-keeps}
 
@@ -101,10 +102,22 @@ module _ {in_rounds : Bool} {events : List BoardEvent} {p p2 : JobPlan} {board b
 module _ {in_rounds : Bool} {events : List BoardEvent} {p p2 : JobPlan} {board board2 : Board} {s s2 : SourceView}
     {o o2 : OutputView} {had has : ℕ → Hand} {progress : Progress}
     (h : Performed in_rounds events (snapshot_of p board 0 s o) had (λ stale. snapshot_of p2 board2 stale s2 o2) has
-    (Ok progress)) (size : length board.jobs ≡ p.jobs.count) where
+    (Ok progress)) (size : length board.jobs ≡ p.jobs.count) (turns : in_rounds ≡ true → AreTurns events) where
   -- whether all jobs are done is what is reported
   reported : is_finished board2 ≡ progress.finished
   reported = ap (λ (x : Progress). x.finished) (sym h.stops.0)
+
+  -- all jobs are done, and so are all events: rounds after the last job change nothing
+  whole-done : progress.finished ≡ true → IsTrue s.honest → IsTrue o.honest → SourcesFit p s.files
+      → AreApart (jobs_over p.jobs s.files) → IsResting (snapshot_of p board 0 s o) had
+      → EventsDone (λ laid. laid ≡ o.files) events (snapshot_of p board 0 s o) had board2 o2.files s2.failures
+      o2.failures h.stale (length events) None
+  whole-done finished honest whole fit separate resting =
+      all-events (events-done h size honest whole fit separate resting) (reported ∙ finished) (resting.marked.idle 1)
+      (elim h.stops.1 [
+        | inl all ↦ inl all
+        | inr done ↦ inr (turns done.0)
+      ])
 
   -- jobs are left
   pub stopped-early : progress.finished ≡ false
@@ -147,8 +160,8 @@ module _ {in_rounds : Bool} {events : List BoardEvent} {p p2 : JobPlan} {board b
           durable = λ whole _. record { outputs = fin.durable (on whole); marks = fin.marks_durable (on whole) };
         };
         outcome = λ honest whole fit separate resting.
-            let did = events-done h size honest whole fit separate resting in
-            Finished h.stale h.count o2.files (rw quiet did) (reported ∙ finished)
+            let did = whole-done finished honest whole fit separate resting in
+            Finished h.stale o2.files (rw quiet did) (reported ∙ finished)
             (ap {B = Result Progress ExecutionFault} (λ (x : Progress). Ok x) h.stops.0) (fin.stays (on whole))
             (fin.last (on whole) s.files (did.complete (reported ∙ finished))) (fin.durable (on whole))
             (fin.marks (on whole) s.files (done_of board2) (events-marked h size honest whole resting.marked).now);
@@ -175,9 +188,10 @@ module _ {in_rounds : Bool} {events : List BoardEvent} {p p2 : JobPlan} {board b
               ∙ h.ran.kept.output.others whole (p.output i) stays;
           durable = λ whole ended. absurd ended;
         };
-        outcome = λ honest whole fit separate resting. NotFinished f.file h.stale h.count o2.failures o2.files
-            (events-done h size honest whole fit separate resting) (reported ∙ finished) refl (fin.stays (on whole))
-            failed.rose
+        outcome = λ honest whole fit separate resting. NotFinished f.file h.stale o2.failures o2.files
+            (whole-done finished honest whole fit separate resting) (reported ∙ finished) refl (fin.stays (on whole))
+            (fin.before (on whole) s.files ((whole-done finished honest whole fit separate resting).complete
+            (reported ∙ finished))) failed.rose
             (fin.marks (on whole) s.files (done_of board2) (events-marked h size honest whole resting.marked).now);
         moments = λ honest whole marked. moments-on o3 (Err f) fin honest whole marked;
       }
@@ -256,10 +270,10 @@ module _ {events : List BoardEvent} {p : JobPlan} {board : Board} {s : SourceVie
   outcome-since lay (NotLaidOut file un is same quiet writes laid) = absurd un
   outcome-since lay (Stopped stale count did stops writes runs) =
       Stopped stale count (since did) stops (writes_then {mid = o1} lay writes) runs
-  outcome-since lay (NotFinished file stale count failures files did all is own rose runs) =
-      NotFinished file stale count failures files (since did) all is own rose runs
-  outcome-since lay (Finished stale count files did all is own last durable runs) =
-      Finished stale count files (since did) all is own last durable runs
+  outcome-since lay (NotFinished file stale failures files did all is own before rose runs) =
+      NotFinished file stale failures files (since did) all is own before rose runs
+  outcome-since lay (Finished stale files did all is own last durable runs) =
+      Finished stale files (since did) all is own last durable runs
 
 -- a failure since then is one since before
 has-failed-since : (p : JobPlan) (o o1 o2 : OutputView) (result : Result Progress ExecutionFault)

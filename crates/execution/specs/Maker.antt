@@ -4,7 +4,7 @@ use Rattle.work_terms.specs.Disk.{Files, IsDurable}
 use Rattle.devices.specs.Views.{CrashesLeave, OutputView}
 use Rattle.job_terms.specs.Workers.{jobs_over}
 use Rattle.execution.specs.Marking.{AreLeftBy, IsRunningBy, LaysBy, LeavesBy, Marking, NoneStartedBy}
-use Rattle.execution.specs.Plan.{AreBlank, AreDurable, HoldJobs, HoldLast, IsLast, IsOwn, JobPlan, SourcesFit}
+use Rattle.execution.specs.Plan.{AreBlank, AreDurable, HoldBefore, HoldJobs, HoldLast, IsLast, IsOwn, JobPlan, SourcesFit}
 use Rattle.execution.specs.declared.fault.OutputFault.{OutputFault}
 
 -- each output of a job is laid out, and its marks are fresh; where no outcome had marks that are started, a crash leaves
@@ -27,6 +27,8 @@ pub record Finishes (plan : JobPlan) (old new : OutputView) (result : Result (Un
       → OnOk result (HoldLast plan sources new.files)
   pub in_order : IsTrue old.honest → IfErr result (λ fault. (i : ℕ) → IsLast plan i → fault.file < i
       → new.files (plan.output i) ≡ old.files (plan.output i))
+  pub before : IsTrue old.honest → (sources : Files) → HoldJobs plan sources old.files
+      → IfErr result (λ fault. HoldBefore plan fault.file sources new.files)
   pub durable : IsTrue old.honest → OnOk result (AreDurable plan new.files new.may_leave)
   pub marks_durable : IsTrue old.honest → (sources : Files) (m : Marking) → plan.marking sources ≡ Some m
       → OnOk result (IsDurable m.marks new.files new.may_leave)

@@ -12,7 +12,7 @@ use Rattle.execution.specs.EventRun.{MarkFails, Snapshot, jobs_of, marking_of}
 use Rattle.execution.specs.Filled.{AreApart, AreFilled}
 use Rattle.execution.specs.Laws.{KeepsLaws}
 use Rattle.execution.specs.Marking.{AreLeftBy, IsRunningBy, Leaves, LeavesBy, Marking, NoneStartedBy, RunsOn, done_of, is_started, settled}
-use Rattle.execution.specs.Plan.{AreBlank, AreDurable, HoldJobs, HoldLast, IsAt, IsForeign, IsLast, IsOwn, JobPlan, SourcesFit, Stays}
+use Rattle.execution.specs.Plan.{AreBlank, AreDurable, HoldBefore, HoldJobs, HoldLast, IsAt, IsForeign, IsLast, IsOwn, JobPlan, SourcesFit, Stays}
 use Rattle.execution.specs.Worlds.{Leads, state_of}
 use Rattle.execution.specs.declared.fault.ExecutionFault.{ExecutionFault}
 use Rattle.execution.specs.declared.fault.ExecutionFault.TheVariants as fault
@@ -86,9 +86,9 @@ StopsWith events count board stale (Ok progress) =
     (progress ≡ progress_of board stale) × (is_finished board ≡ false) × (count ≡ length events)
 StopsWith events count board stale (Err fault) = StopsBefore events count fault
 
--- No job was handed out and no source was touched; or the events ended, at a third fault, at a mark, for want of
--- memory,
--- or with jobs left; or all jobs are done, and what comes last failed, or is done.
+-- The result of a run, by where it ended: before the first job, with the sources untouched; at one of the events (a
+-- third fault, a mark that failed, no memory) or after all of them with jobs left; or after all events with every job
+-- done, when an output of the last ones failed, or none did.
 pub data Outcome (Begins : Files → Type 0) (events : List BoardEvent) (old : Snapshot) (had : ℕ → Hand) (new : Snapshot)
     (untouched : Type 0) (result : Result Progress ExecutionFault) : Type 0 where
   NotLaidOut : (file : ℕ) → untouched → result ≡ Err (fault.Output file) → new.board ≡ old.board
@@ -100,13 +100,14 @@ pub data Outcome (Begins : Files → Type 0) (events : List BoardEvent) (old : S
       → StopsWith events count new.board stale result → Writes (Stays old.plan) old.output new.output
       → RunsOn (marking_of old) (done_of new.board) new.output (end_of result)
       → Outcome Begins events old had new untouched result
-  NotFinished : (file stale count failures : ℕ) (files : Files) → EventsDone Begins events old had new.board files
-      new.source.failures failures stale count None → is_finished new.board ≡ true → result ≡ Err (fault.Output file)
-      → ((n : List ℕ) → IsOwn old.plan n → new.output.files n ≡ files n) → Rises failures new.output.failures
+  NotFinished : (file stale failures : ℕ) (files : Files) → EventsDone Begins events old had new.board files
+      new.source.failures failures stale (length events) None → is_finished new.board ≡ true → result ≡ Err (fault.Output file)
+      → ((n : List ℕ) → IsOwn old.plan n → new.output.files n ≡ files n)
+      → HoldBefore old.plan file old.source.files new.output.files → Rises failures new.output.failures
       → IsRunningBy (marking_of old) (done_of new.board) new.output
       → Outcome Begins events old had new untouched result
-  Finished : (stale count : ℕ) (files : Files) → EventsDone Begins events old had new.board files
-      new.source.failures new.output.failures stale count None → is_finished new.board ≡ true
+  Finished : (stale : ℕ) (files : Files) → EventsDone Begins events old had new.board files
+      new.source.failures new.output.failures stale (length events) None → is_finished new.board ≡ true
       → result ≡ Ok (progress_of new.board stale)
       → ((n : List ℕ) → IsOwn old.plan n → new.output.files n ≡ files n)
       → HoldLast old.plan old.source.files new.output.files

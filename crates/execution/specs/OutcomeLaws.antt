@@ -25,8 +25,8 @@ pub finished_all : {Begins : Files → Type 0} {events : List BoardEvent} {old n
 finished_all (NotLaidOut file un is same quiet writes laid) done = absurd (cc)
 finished_all (Stopped stale count did stops writes runs) done =
     absurd (false≢true (sym stops.1 ∙ (rw stops.0 at done)))
-finished_all (NotFinished file stale count failures files did all is own rose runs) done = absurd (cc)
-finished_all {old = old} (Finished stale count files did all is own last durable runs) done =
+finished_all (NotFinished file stale failures files did all is own before rose runs) done = absurd (cc)
+finished_all {old = old} (Finished stale files did all is own last durable runs) done =
     (all, λ k lt. own (old.plan.jobs.name k) (OfJob k lt refl) ∙ did.complete all k lt, last, runs)
 
 left_of_all : (m : Option Marking) (outcomes : Files → Type 0) → AreTrueOfAllBy m outcomes → AreLeftBy m outcomes
@@ -43,9 +43,9 @@ leaves_marks Begins events old had new untouched result (NotLaidOut file un is s
 leaves_marks Begins events old had new untouched result (Stopped stale count did stops writes runs) none =
     left_of_all (marking_of old) new.output.may_leave
     (runs_true (end_of result) (marking_of old) (done_of new.board) new.output runs)
-leaves_marks Begins events old had new untouched result (NotFinished file stale count failures files did all is own rose
-    runs) none = left_of_all (marking_of old) new.output.may_leave
+leaves_marks Begins events old had new untouched result (NotFinished file stale failures files did all is own before
+    rose runs) none = left_of_all (marking_of old) new.output.may_leave
     (running_true (marking_of old) (done_of new.board) new.output runs)
-leaves_marks Begins events old had new untouched result (Finished stale count files did all is own last durable runs)
+leaves_marks Begins events old had new untouched result (Finished stale files did all is own last durable runs)
     none = left_of_all (marking_of old) new.output.may_leave
     (running_true (marking_of old) (done_of new.board) new.output runs)

@@ -66,6 +66,11 @@ abbrev pub HoldLast : JobPlan → Files → Files → Type 0
 HoldLast plan sources files =
     (i : ℕ) → IsLast plan i → files (plan.output i) ≡ Some (plan.whole sources (plan.output i))
 
+-- each of the last outputs with a number below `file` holds all its bytes
+abbrev pub HoldBefore : JobPlan → ℕ → Files → Files → Type 0
+HoldBefore plan file sources files =
+    (i : ℕ) → IsLast plan i → i < file → files (plan.output i) ≡ Some (plan.whole sources (plan.output i))
+
 -- a crash leaves each output of a job, and each that comes last, as it is read
 pub record AreDurable (plan : JobPlan) (files : Files) (may_leave : Files → Type 0) : Type 0 where
   pub jobs : (k : ℕ) → k < plan.jobs.count → IsDurable (plan.jobs.name k) files may_leave

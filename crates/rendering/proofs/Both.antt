@@ -157,6 +157,8 @@ finishes_by g marked {old} {new} result is durable = record {
   last = λ honest sources hold. on_ok_weaker result (λ both i last. absurd (omega (arith, last))) (durable honest);
   in_order = λ honest.
       MatchResult-weaker result (durable honest) (λ _ _. tt) (λ fault _ i last after. absurd (omega (arith, last)));
+  before = λ honest sources hold.
+      MatchResult-weaker result (durable honest) (λ _ _. tt) (λ fault _ i last under. absurd (omega (arith, last)));
   durable = λ honest. on_ok_weaker result
       (λ both. record { jobs = λ k below. both.0; last = λ i last. absurd (omega (arith, last)) }) (durable honest);
   marks_durable = λ honest sources m same.

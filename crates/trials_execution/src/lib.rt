@@ -3,5 +3,7 @@
 #![tactic(auto)]
 
 mod listed;
+#[cfg(test)]
+mod tests;
 
 pub use listed::{Listed, write_listed};

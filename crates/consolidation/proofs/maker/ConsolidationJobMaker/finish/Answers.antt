@@ -1,6 +1,6 @@
 use Rattle.std.proofs.Common.{◌∙◌, IsTrue, ap, rules}
 use Rattle.work_terms.specs.Disk.{Files, IsDurable}
-use Rattle.consolidation.proofs.Numbers.{both_ok, each_last, foreign_behind, last_there, media_durable, own_behind}
+use Rattle.consolidation.proofs.Numbers.{before_failed, both_ok, each_last, foreign_behind, last_there, media_durable, own_behind}
 use Rattle.consolidation.proofs.Writes.{read_only, then_writes, wider}
 use Rattle.consolidation.proofs.maker.ConsolidationJobMaker.finish.Goals as goal
 
@@ -16,6 +16,8 @@ returns-clause-finishes g c =
       last = λ honest sources holds. both_ok c.write_last.result (last.list (on honest)) (last.report (on honest))
           (last_there plan sources _);
       in_order = search rules;
+      before = λ honest sources holds. before_failed plan c.write_last.result sources _
+          last.only_writes.failed_there (last.sums_first (on honest)) (last.report_first (on honest));
       durable = λ honest. both_ok c.write_last.result (last.durable_list (on honest)) (last.durable_report (on honest))
           (λ list report. record {
             jobs = media_durable plan _ _ _ _ (last.only_writes.durable (on honest))

@@ -27,6 +27,7 @@ returns-in-Ok-write_list-clause-finishes g c = record {
   last = λ honest sources hold i last. list-there (g.B.Bench.stored c.write_list.new.bench) sources i last
       (c.in-Ok-write_list.ensures.written (subst IsTrue (sym c.in-Ok.ensures.only_reads.honest_same) honest));
   in_order = search rules;
+  before = search rules;
   durable = λ honest.
       let still = subst IsTrue (sym c.in-Ok.ensures.only_reads.honest_same) honest in record {
         jobs = λ k lt. c.in-Ok-write_list.ensures.only_writes.durable still (codes "out") out-list
@@ -44,6 +45,7 @@ returns-in-Err-write_list-clause-finishes g c = record {
   stays = own-stays g.B.Bench c.in-Ok.ensures.only_reads c.in-Err-write_list.ensures.only_writes;
   last = search rules;
   in_order = λ honest i last after. absurd (no-more i last after);
+  before = λ honest sources hold i last under. absurd (omega (arith, last, under));
   durable = search rules;
   marks_durable = search rules;
   marks = search rules;

@@ -1,0 +1,2 @@
+// Runs of whole works over stores in memory.
+mod events;
