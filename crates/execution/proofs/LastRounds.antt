@@ -135,12 +135,24 @@ same-hands hands number empty = fun_ext (λ v. elim (eqb_tells v number) [
 module _ (marks : Bool) (jobs : Jobs) (world : World) (all : is_finished world.state.board ≡ true)
     (empty : world.hands 1 ≡ Nothing) (none : world.state.ended ≡ None) where
   idle-step : (event : BoardEvent) → IsTurn event → BoardStep marks jobs world event world
-  idle-step (Give n) is = rw is (Nothing, NoneLeft empty (none-left world.state.board all) refl (sym empty), same-hands
-      world.hands 1 empty)
-  idle-step (Work n) is = rw is (Nothing, HasNoJob (λ t e. cc (empty, e)) refl (sym empty), same-hands
-      world.hands 1 empty)
-  idle-step (Deliver n) is = rw is (Nothing, HasNoBytes (λ t bytes e. cc (empty, e)) refl (sym empty), same-hands
-      world.hands 1 empty)
+  idle-step (Give n) is = rw is (
+    Nothing,
+    NoneLeft empty (none-left world.state.board all) refl (sym empty),
+    same-hands
+        world.hands 1 empty,
+  )
+  idle-step (Work n) is = rw is (
+    Nothing,
+    HasNoJob (λ t e. cc (empty, e)) refl (sym empty),
+    same-hands
+        world.hands 1 empty,
+  )
+  idle-step (Deliver n) is = rw is (
+    Nothing,
+    HasNoBytes (λ t bytes e. cc (empty, e)) refl (sym empty),
+    same-hands
+        world.hands 1 empty,
+  )
   idle-step _ is = absurd is
 
   idle-run : (events : List BoardEvent) → AreTurns events → BoardRun marks jobs world events world
