@@ -21,7 +21,7 @@ pub trait Asides: Drop {
     fn sources(&self, alloc: Global) -> Option<Self::Sources>;
 }
 
-/// Number of further faults printed by default.
+/// Number of further faults printed unless all are requested.
 pub const FEW_FAULTS: usize = 20;
 
 /// The additional information for two lists.

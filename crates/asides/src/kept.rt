@@ -58,7 +58,7 @@ fn join(kept: &mut Vec<Kept>, next: Kept) -> Result<(), AllocError> {
     Ok(())
 }
 
-/// The samples to keep for the entries of a list. Incomplete if out of memory.
+/// The samples to keep for the entries of a list. `is_whole` is false if some are missing for lack of memory.
 #[derive(Drop)]
 pub struct KeptFrames<'a> {
     bound: &'a Bound,

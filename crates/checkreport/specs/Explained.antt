@@ -6,11 +6,13 @@ use Rattle.checkreport.specs.declared.explained.Member.{Member}
 use Rattle.checkreport.specs.declared.explained.Value.{Value}
 use Rattle.checkreport.specs.declared.explained.Value.TheVariants.{Nothing, Count, Text}
 
+-- a member value as JSON
 abbrev pub value_data : Value → Data
 value_data Nothing = null
 value_data (Count count) = number (unsigned count)
 value_data (Text text) = string (string_bytes text)
 
+-- the members of an object, in order
 abbrev pub members_of : List Member → Members
 members_of [] = no_members
 members_of (one ∷ more) = member one.name.now (value_data one.value) (members_of more)

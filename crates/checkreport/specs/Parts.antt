@@ -65,6 +65,7 @@ unfoldable pub refused_front : ExplainedFault → List ExplainedFault → List �
 refused_front first further =
     codes "{\"accepted\":false,\"faults\":[" ++ (fault_text first ++ after_commas fault_text further)
 
+-- the rest of the report of a refused list, after its faults
 unfoldable pub refused_end : Option (List ℕ) → Bool → List ℕ
 refused_end media_error are_all =
     counted (codes "],\"form\":") form ++ (codes ",\"media_error\":" ++ (compact_text (text_in media_error)

@@ -22,9 +22,11 @@ use Rattle.checkreport.specs.declared.explained.Room.{Room}
 abbrev pub is_of_index : ℕ → Notice → Bool
 is_of_index index notice = nat_lt 2 notice.kind && notice.at == index
 
+-- the number of a notice if it belongs to the index
 abbrev pub kind_at : ℕ → Notice → List Data
 kind_at index notice = if is_of_index index notice then count notice.kind ∷ [] else []
 
+-- numbers of the notices of an index
 abbrev pub kinds_of : ℕ → List Notice → List Data
 kinds_of index notices = flat_map (kind_at index) notices
 
@@ -92,24 +94,27 @@ accepted_data project binding beside = accepted_of project.rate (length project.
     (text_in beside.media_error) (room_data beside.room) (map passed_data beside.passed)
     (map notice_data (project.notices ++ binding.notices))
 
--- line, entry, index and file of a location
+-- line number of a location, if it has one
 abbrev pub line_in : Where → Option ℕ
 line_in (refused.Line line) = Some line
 line_in (refused.LineEntry line entry) = Some line
 line_in (refused.LineIndex line index) = Some line
 line_in place = None
 
+-- number of the entry of a location, if it has one
 abbrev pub entry_in : Where → Option ℕ
 entry_in (refused.LineEntry line entry) = Some entry
 entry_in (refused.Entry entry) = Some entry
 entry_in place = None
 
+-- number of the index of a location, if it has one
 abbrev pub index_in : Where → Option ℕ
 index_in (refused.LineIndex line index) = Some index
 index_in (refused.IndexFile index name) = Some index
 index_in (refused.Index index) = Some index
 index_in place = None
 
+-- name of the file of a location, or null
 abbrev pub file_in : Where → Data
 file_in (refused.IndexFile index name) = string name
 file_in (refused.File name) = string name
@@ -125,6 +130,7 @@ fault_of entry explained file index line refusal =
     (member (codes "line") (count_in line)
     (member (codes "refused") (count refusal) no_members))))))
 
+-- a fault with its explanation
 abbrev pub fault_data : Refusal → Data → Data
 fault_data refusal explained =
     fault_of (entry_in refusal.location) explained (file_in refusal.location) (index_in refusal.location) (line_in refusal.location)
@@ -135,6 +141,7 @@ pub record ExplainedFault : Type 0 where
   pub fault : Fault
   pub explained : Data
 
+-- a fault with its own explanation
 abbrev pub explained_fault : ExplainedFault → Data
 explained_fault told = fault_data (refusal_of told.fault) told.explained
 

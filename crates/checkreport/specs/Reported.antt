@@ -29,6 +29,7 @@ pub data Report : Type 0 where
 abbrev pub no_memory : Data
 no_memory = unread_data 18 Nowhere null
 
+-- text of a report, without a line end
 abbrev pub text_of : Report → List ℕ
 text_of (Accepted project binding beside) = compact_text (accepted_data project binding beside)
 text_of (Refused first further media_error are_all) = compact_text (refused_data first further media_error are_all)

@@ -43,8 +43,8 @@ pub struct Room {
     pub rendering: Option<u64>,
 }
 
-/// The source of explanations for faults, and of other supplements to the report of a list. Its answers are
-/// unspecified.
+/// The source of explanations for faults, and of other supplements to the report of a list. The contracts don't specify
+/// its texts.
 pub trait Explains {
     /// Returns the explanation of a fault, sorted by name. Returns `None` if out of memory, or if the limit of
     /// explained faults is reached.

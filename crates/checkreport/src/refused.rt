@@ -20,7 +20,7 @@ use list_terms::Location;
 use opening::Fault;
 use std::alloc::{AllocError, Global};
 
-/// A fault ready to print: its number, its location and its explanation.
+/// A fault ready to be printed: its number, its location and its explanation.
 #[derive(Drop)]
 pub struct ReportedFault {
     number: u8,
@@ -93,6 +93,7 @@ impl ReportedFault {
         out.end_line();
     }
 
+    /// Prints the fault as a JSON object.
     pub fn put<O: Console>(&self, out: &mut O)
         ensures { Prints O.contents O.failures out.old out.new (compact_text (ready_data self.now)) }
     {

@@ -267,7 +267,7 @@ impl fmt::Display for Explanation<'_> {
 }
 
 impl Findings<'_> {
-    /// Says that the files of a rendering are unfinished, by name, unless one of them may be missing.
+    /// Names the unfinished files of a rendering, unless one of them may be missing.
     fn of_rendering(self) -> Self {
         let is_gone = self
             .reason

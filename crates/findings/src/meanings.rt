@@ -75,7 +75,7 @@ pub struct Explained {
     number: Option<u8>,
 }
 
-/// Parses a refusal number; `None` stands for all numbers. Returns `NoSuchNumber` if no refusal has this number.
+/// Parses a refusal number; `None` means all numbers. Returns `NoSuchNumber` if no refusal has this number.
 pub fn meanings_of(number: Option<&str>) -> Result<Explained, NoSuchNumber>
     ensures { IsNone number.entry → IsOk result }
 {

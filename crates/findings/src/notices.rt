@@ -65,7 +65,7 @@ pub struct ExplainedNotices {
     kind: Option<u8>,
 }
 
-/// Parses a notice number; `None` stands for all numbers. Returns `NoSuchNotice` if no notice has this number.
+/// Parses a notice number; `None` means all numbers. Returns `NoSuchNotice` if no notice has this number.
 pub fn notice_meanings_of(number: Option<&str>) -> Result<ExplainedNotices, NoSuchNotice> {
     let Some(text) = number else {
         return Ok(ExplainedNotices { kind: None });

@@ -8,6 +8,7 @@ use Rattle.sourceindex.specs.Fault.{file_at}
 use Rattle.opening.specs.declared.fault.Fault.{Fault}
 use Rattle.opening.specs.declared.fault.Fault.TheVariants as fault
 
+-- the refusal that reports a fault
 abbrev pub refusal_of : Fault → Refusal
 refusal_of (fault.List fault) = list.refusal fault
 refusal_of (fault.SameName index) = record { number = 30; location = Index index; late = false }

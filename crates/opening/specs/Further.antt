@@ -33,6 +33,7 @@ abbrev pub fault_beside : Binding → ℕ → Event → Option Refusal
 fault_beside binding told event =
     if event.number == told then None else option_map (entry_refusal event) (entry_fault binding event)
 
+-- faults of all entries except the one with this number
 abbrev pub faults_beside : Binding → ℕ → List Event → List Refusal
 faults_beside binding told = filter_map (fault_beside binding told)
 
@@ -114,6 +115,7 @@ AreAll text files (fault.SameName index) all = OfText text (λ project. AreOfFil
 AreAll text files (fault.Media index name first) all = OfText text (λ project. AreOfFiles project files index all)
 AreAll text files (fault.Entry first) all = OfText text (λ project. AreOfEntries project files first.entry all)
 
+-- the further faults to report after the first fault, at most `most`
 abbrev pub AreFurther : (most : ℕ) → List ℕ → Files → Fault → Further → Type 0
 AreFurther most text files first further = (all : List Fault) × AreAll text files first all × IsCut most all further
 

@@ -15,6 +15,7 @@ path_among name places = option_map (λ place. place.path) (find (λ place. byte
 abbrev pub Knows : Paths → List Place → Type 0
 Knows paths places = (name : List ℕ) → get_by_text paths.paths name ≡ path_among name places
 
+-- naming of a file, given the path by which it was first named
 abbrev pub naming_of : Option (List ℕ) → List ℕ → Naming
 naming_of None path = First
 naming_of (Some known) path = if bytes_eq known path then Again else ByOtherPath

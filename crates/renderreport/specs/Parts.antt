@@ -33,6 +33,7 @@ abbrev pub listed_behind : (is_later : Bool) → List ℕ → List ℕ
 listed_behind is_later [] = []
 listed_behind is_later (n ∷ ns) = item_text is_later n ++ listed_behind true ns
 
+-- numbers separated by commas
 abbrev pub listed : List ℕ → List ℕ
 listed = listed_behind false
 
@@ -59,6 +60,7 @@ end_text facts digest = codes ",\"given_list_sha256\":\"" ++ (escape (encode_low
     ++ (codes "\",\"sha256\":\"" ++ (escape (encode_lower digest)
     ++ (codes "\",\"version\":\"" ++ (escape facts.version ++ codes "\"}\n")))))))))
 
+-- the whole report, part by part
 unfoldable pub report_parts : Facts → (digest : List ℕ) → List ℕ
 report_parts facts digest =
     opening_text facts ++ (listed (channels_of facts.clips.channels)

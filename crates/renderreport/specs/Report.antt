@@ -11,9 +11,11 @@ use Rattle.sound_terms.specs.Depth.{bits_of}
 use Rattle.work_terms.specs.Disk.{Files}
 use Rattle.renderreport.specs.declared.report_facts.ReportFacts.{ReportFacts}
 
+-- name of the report file
 abbrev pub report_name : List ℕ
 report_name = codes "render.json"
 
+-- name of the rendered file
 abbrev pub sound_name : List ℕ
 sound_name = codes "render.wav"
 
@@ -34,6 +36,7 @@ pub record Facts : Type 0 where
   pub clips : Clips
   pub marked : Option ℕ
 
+-- the content passed by a caller
 abbrev pub facts_of : ReportFacts → Facts
 facts_of facts = record {
   program = facts.program.now;
@@ -47,6 +50,7 @@ facts_of facts = record {
   marked = facts.marked;
 }
 
+-- a number as JSON
 abbrev pub count : ℕ → Data
 count n = number (unsigned n)
 

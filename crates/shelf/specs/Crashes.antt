@@ -132,6 +132,7 @@ reads_by Append note held old was = record { before = old; was = was; changed = 
 reads_by Write note held old was = record { before = old; was = was; changed = does_by Write note old; gone = inl }
 reads_by Sync note held old was = refl
 
+-- the files that are read are one of the possible outcomes of a crash
 pub reads_held : (start : Files) (notes : List Note) (name : List ℕ)
     → MayHold start notes name (replayed start notes name)
 reads_held start [] name = refl
@@ -149,6 +150,7 @@ gone_by Append note held read x none holds = holds.gone none
 gone_by Write note held read x none holds = holds.gone none
 gone_by Sync note held read x none holds = inl (holds ∙ none)
 
+-- if reads of a name find no file, a crash leaves none or an empty one under that name
 pub gone_held : (start : Files) (notes : List Note) (name : List ℕ) (x : Option (List ℕ))
     → replayed start notes name ≡ None → MayHold start notes name x → IsEmptyOrAbsent x
 gone_held start [] name x none holds = inl (holds ∙ none)
@@ -160,7 +162,7 @@ gone_held start (note ∷ notes) name x none holds = elim (cases_Bool (bytes_eq 
       (subst (λ (b : Bool). HoldsIf b note (replayed start (note ∷ notes) name) (MayHold start notes name) x) apart holds)
 ]
 
--- an outcome of a crash now is also one since any earlier moment, and the only ones since now
+-- an outcome of a crash now is an outcome since any earlier moment
 pub counts_now : (history : History) (t : ℕ) (c : Files) → MayLeave history c
     → LeftSince history.start history.notes t c
 counts_now history t c left = by_notes history.start history.notes left
@@ -170,6 +172,7 @@ counts_now history t c left = by_notes history.start history.notes left
     by_notes start [] left = left
     by_notes start (note ∷ notes) left = inl left
 
+-- an outcome since now is an outcome of a crash now
 pub only_now : (start : Files) (notes : List Note) (c : Files) → LeftSince start notes (length notes) c
     → MayLeave (record { start = start; notes = notes }) c
 only_now start [] c since = since
@@ -275,6 +278,7 @@ pub record HasChanged (note : Note) (old new : History) : Type 0 where
   pub durable : (n : List ℕ) → n ≢ note.name → IsDurable n (read_of old) (MayLeave old)
       → IsDurable n (read_of new) (MayLeave new)
 
+-- a call has these effects, whether it was recorded or not
 pub has_changed : (note : Note) (old new : History) → IsChange note old new → HasChanged note old new
 has_changed note old new (inl same) = subst (HasChanged note old) (sym same) (record {
   crash = λ c left. (c, left, record { here = stays_by note.kind note (c note.name); others = λ n apart. refl });
@@ -298,6 +302,7 @@ pub record HasSynced (name : List ℕ) (old new : History) : Type 0 where
   pub crash : (c : Files) → MayLeave new c → MayLeave old c
   pub durable : IsDurable name (read_of new) (MayLeave new)
 
+-- a recorded sync has these effects
 pub has_synced : (note : Note) (old : History) → note.kind ≡ Sync → HasSynced note.name old (noted note old)
 has_synced note old is = record { crash = crash; durable = durable }
   where
@@ -339,6 +344,7 @@ none_by Write kept fill note read (Some file) none gone = absurd (none-some file
 none_by Sync kept fill note None file none gone = gone
 none_by Sync kept fill note (Some read) file none gone = none
 
+-- if reads of a name find no file, the simulated crash leaves none under that name
 pub none_left : (kept fill : ℕ) (start : Files) (notes : List Note) (name : List ℕ)
     → replayed start notes name ≡ None → crashed kept fill start notes name ≡ None
 none_left kept fill start [] name none = none
@@ -393,6 +399,7 @@ left_holds Write kept fill note held read file was none = record {
 left_holds Sync kept fill note held None file was none = none refl
 left_holds Sync kept fill note held (Some read) file was none = refl
 
+-- the files after the simulated crash are one of the possible outcomes
 pub crash_held : (kept fill : ℕ) (start : Files) (notes : List Note) (name : List ℕ)
     → MayHold start notes name (crashed kept fill start notes name)
 crash_held kept fill start [] name = refl
@@ -426,6 +433,7 @@ all_by Write note held read before x apart was does gone = record {
 }
 all_by Sync note held read before x apart was does gone = absurd (apart refl)
 
+-- files changed by a step of the call are a possible outcome after the call
 pub all_left : (note : Note) (history : History) → note.kind ≢ Sync → (d c : Files) → MayLeave history d
     → Changes (step note) note.name d c
     → (read_of (noted note history) note.name ≡ None → IsEmptyOrAbsent (c note.name))

@@ -15,6 +15,7 @@ pub record Note : Type 0 where
   pub bytes : List ℕ
   pub part : ℕ
 
+-- the model of a recorded call
 abbrev pub note_of : Call → Note
 note_of call = record {
   name = string_bytes call.name;
@@ -29,6 +30,7 @@ pub record History : Type 0 where
   pub start : Files
   pub notes : List Note
 
+-- the history of these initial files and recorded calls
 abbrev pub history_by : Files → List Call → History
 history_by start calls = record { start = start; notes = map note_of calls }
 
@@ -40,7 +42,7 @@ noted note history = record { start = history.start; notes = note ∷ history.no
 abbrev pub placed : ℕ → List ℕ → List ℕ → List ℕ
 placed at bytes file = take at file ++ (bytes ++ drop (at + length bytes) file)
 
--- a call may write n bytes at offset `at` of a file of this size: an append at most at the end, an overwrite only
+-- a call may write n bytes at offset `at` of a file of this size: an append not past the end, an overwrite only
 -- inside
 abbrev pub has_place : Kind → (at n size : ℕ) → Bool
 has_place Create at n size = false
@@ -59,6 +61,7 @@ done_by Append note file = option_map (with_bytes Append note.at (length note.by
 done_by Write note file = option_map (with_bytes Write note.at (length note.bytes) (take note.part note.bytes)) file
 done_by Sync note file = file
 
+-- contents read after the call, by its own kind
 abbrev pub done : Note → Option (List ℕ) → Option (List ℕ)
 done note = done_by note.kind note
 
@@ -68,6 +71,7 @@ replayed start [] name = start name
 replayed start (note ∷ notes) name =
     if bytes_eq name note.name then done note (replayed start notes name) else replayed start notes name
 
+-- contents read of the files now
 abbrev pub read_of : History → Files
 read_of history = replayed history.start history.notes
 
@@ -78,6 +82,7 @@ step_by Append note = IsTornBehind note.at (length note.bytes)
 step_by Write note = IsTorn note.at (length note.bytes)
 step_by Sync note = λ old new. new ≡ old
 
+-- possible effects of the call, by its own kind
 abbrev pub step : Note → Option (List ℕ) → Option (List ℕ) → Type 0
 step note = step_by note.kind note
 
@@ -96,6 +101,7 @@ HoldsBy Append note read held x = IsPast (step_by Append note) read held x
 HoldsBy Write note read held x = IsPast (step_by Write note) read held x
 HoldsBy Sync note read held x = x ≡ read
 
+-- outcomes for a file after a call, which may be on another file
 abbrev pub HoldsIf : Bool → Note → Option (List ℕ) → (Option (List ℕ) → Type 0) → Option (List ℕ) → Type 0
 HoldsIf true note read held x = HoldsBy note.kind note read held x
 HoldsIf false note read held x = held x
@@ -125,9 +131,9 @@ abbrev pub or_else : Option (List ℕ) → Option (List ℕ) → Option (List �
 or_else None other = other
 or_else (Some file) other = Some file
 
--- Contents after the simulated crash, derived from those that it leaves without the call. Of the bytes written the
--- first `kept` are as written and the others are `fill`. A create has no effect if `kept` is 0. After a sync the file
--- is as it was read.
+-- Contents after the simulated crash, derived from those that it leaves without the call. The call leaves its first
+-- `kept` bytes as written and `fill` in place of the others. A create has no effect if `kept` is 0. After a sync the
+-- file is as it was read.
 abbrev pub left_by : Kind → (kept fill : ℕ) → Note → (read : Option (List ℕ)) → Option (List ℕ) → Option (List ℕ)
 left_by Create kept fill note read file = if kept == 0 then file else done_by Create note file
 left_by Append kept fill note read file =
@@ -136,6 +142,7 @@ left_by Write kept fill note read file =
     option_map (with_bytes Write note.at (length note.bytes) (spoilt_by kept fill (take note.part note.bytes))) file
 left_by Sync kept fill note read file = or_else read file
 
+-- contents after the simulated crash, by the kind of the call
 abbrev pub left_of : (kept fill : ℕ) → Note → (read : Option (List ℕ)) → Option (List ℕ) → Option (List ℕ)
 left_of kept fill note = left_by note.kind kept fill note
 

@@ -18,7 +18,7 @@ pub enum Untold {
     /// The device of the sources failed when they were bound again. The failure is counted.
     #[error("the device failed when the sources were read again")]
     Device,
-    /// The reported fault isn't the first one: the text or a file is invalid, but the fault is of an entry.
+    /// The given fault isn't the first one: the text of the list or a file is invalid and is checked earlier.
     #[error("the text of the list or a file is at fault before the entries")]
     NotFirst,
 }

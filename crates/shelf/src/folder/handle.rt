@@ -70,8 +70,8 @@ impl<F: OpenFile + FileExt + Drop> Handle<F> {
         Ok(())
     }
 
-    /// Appends the bytes to the file. Zeros are written as a hole if the file system supports holes. After an `Err` the
-    /// file may have grown by some of the bytes.
+    /// Appends the bytes to the file. If all of them are zero, they become a hole, on file systems with holes. After an
+    /// `Err` the file may have grown by some of the bytes.
     pub fn append(&mut self, bytes: &[u8]) -> io::Result<()>
         ensures end { OnOk result (self.new.length ≡ self.old.length + length bytes.now) }
         ensures same_end { OnErr result (self.new.length ≡ self.old.length) }

@@ -77,8 +77,8 @@ impl MemoryBench {
 
     /// Simulates a crash. Returns the files it leaves as a new bench without pending calls or failures.
     ///
-    /// Of the bytes of each call since the last sync of its file, the first `kept` are as written and the others are
-    /// `fill`. A create since the last sync has no effect if `kept` is 0. Returns `AllocError` if out of memory.
+    /// Each call since the last sync of its file leaves its first `kept` bytes as written and `fill` in place of the
+    /// others. A create since the last sync has no effect if `kept` is 0. Returns `AllocError` if out of memory.
     pub fn after_crash(self, kept: u64, fill: u8) -> Result<Self, AllocError>
         ensures left { IfOk result (λ bench. (name : List ℕ) → bench_files bench name
             ≡ crashed kept fill (bench_history self).start (bench_history self).notes name) }
@@ -109,8 +109,8 @@ impl MemoryBench {
 
     /// Returns the number of calls that changed or synced a file, at least in part.
     ///
-    /// After one more such call, a crash may leave any result that the step of the call allows. Only if reads find no
-    /// file, the crash leaves none or an empty one.
+    /// After one more such call other than a sync, a crash may leave any result that the step of the call allows; if
+    /// reads find no file, it leaves none or an empty one.
     pub fn calls(&self) -> usize
         ensures count { result ≡ length (bench_history self.now).notes }
         ensures all { (note : Note) → note.kind ≢ Sync → (d c : Files) → MayLeave (bench_history self.now) d
@@ -157,7 +157,7 @@ impl MemoryBench {
         }
     }
 
-    /// Makes a call fail that names no file of the bench or has no room.
+    /// Makes a call fail that can't be performed.
     fn refused(&mut self) -> Result<(), DeviceFault>
         ensures history { bench_history self.new ≡ bench_history self.old }
         ensures fails { IsErr result }

@@ -6,6 +6,7 @@ ghost use Rattle.work_terms.specs.Disk.{HasCause, Rises};
 use crate::failures::counted;
 use devices::DeviceFault;
 
+/// The failure count of a device, and its schedule of failures.
 #[derive(Clone, Copy)]
 pub struct Device {
     /// Number of failures; saturates.

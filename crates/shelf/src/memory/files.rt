@@ -9,6 +9,7 @@ use devices::DeviceFault;
 use std::alloc::{AllocError, Global};
 use std::collections::BTreeMap;
 
+/// Files by name, with their contents.
 #[derive(Drop)]
 pub struct NamedFiles {
     alloc: Global,
