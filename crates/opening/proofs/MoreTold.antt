@@ -1,17 +1,20 @@
 -- Faults reported so far, and one more.
 use Rattle.devices.specs.declared.source.Shelf as source
-use Rattle.std.proofs.Common.{arith, ◌≡◌, ◌∙◌, ◌+◌, ◌<◌, ◌∷◌, ◌++◌, [], ℕ, true, List, Option, None, Some, add-one, ap, length, sym, slice_index_or, subst, map, option_map, refl, take, take-suc}
+use Rattle.std.proofs.Common.{arith, ◌≡◌, ◌∙◌, ◌+◌, ◌<◌, ◌≤◌, ◌||◌, ◌^◌, ◌⊎◌, ◌∷◌, ◌++◌, [], ℕ, true, false, drop, inl, inr, List, Option, None, Some, add-one, ap, length, sym, slice_index_or, subst, map, option_map, refl, take, take-suc}
 use Rattle.std.specs.List.{cons_option}
-use Rattle.std.proofs.lemmas.List.{append_assoc, append-nil, map-append}
+use Rattle.std.proofs.lemmas.Bool.{cases_lt, or_cases}
+use Rattle.std.proofs.lemmas.List.{append_assoc, append-nil, map-append, take-append-drop}
+use Rattle.std.proofs.lemmas.List.Folds.{list_any-append}
 use Rattle.std.proofs.lemmas.List.Elements.{filter-append, filter_map-append}
 use Rattle.sound_terms.specs.declared.Event.{Event}
-use Rattle.work_terms.specs.Disk.{Files}
+use Rattle.work_terms.specs.Disk.{Files, Rises}
+use Rattle.work_terms.specs.Refusals.{is_device}
 use Rattle.list_terms.specs.Names.{Place, place_of_url}
 use Rattle.list_terms.specs.Project.{Source}
 use Rattle.list_terms.specs.Binding.{Binding, is_used}
 use Rattle.opening.specs.Faults.{refusal_of}
 use Rattle.opening.specs.declared.fault.Fault.{Fault}
-use Rattle.opening.specs.Further.{AreTold, IsToldOf, WasRead, fault_beside, faults_beside, places_of, used_of}
+use Rattle.opening.specs.Further.{AreTold, IsToldOf, WasRead, fault_beside, faults_beside, names_device, places_of, used_of}
 
 -- the faults of some entries and of one more
 pub one_more_entry : (binding : Binding) (told : ℕ) (events : List Event) (event : Event) (faults : List Fault)
@@ -89,3 +92,46 @@ read_on shelf before after = record {
   later = omega (arith, before.later, after.later);
   keeps = λ n failed. after.keeps n (before.keeps n failed);
 }
+
+-- ---- failed devices are counted
+
+earlier_rise : {a b c : ℕ} → Rises a b → b ≤ c → Rises a c
+earlier_rise rises after = record {
+  later = omega (arith, rises.later, after);
+  rose = λ few. omega (arith, rises.rose few, after);
+}
+
+later_rise : {a b c : ℕ} → a ≤ b → Rises b c → Rises a c
+later_rise {a} {b} {c} before rises = record {
+  later = omega (arith, before, rises.later);
+  rose = λ few. by_count few (cases_lt (b + 1) (2 ^ 64));
+}
+  where
+    by_count : a + 1 < 2 ^ 64 → (b + 1 < 2 ^ 64) ⊎ (2 ^ 64 ≤ b + 1) → a < c
+    by_count few (inl more) = omega (arith, before, rises.rose more)
+    by_count few (inr full) = omega (arith, few, full, rises.later)
+
+-- faults, and further ones
+pub counted_further : {a b c : ℕ} (faults more : List Fault) → a ≤ b → b ≤ c
+    → (names_device faults ≡ true → Rises a b) → (names_device more ≡ true → Rises b c)
+    → names_device (faults ++ more) ≡ true → Rises a c
+counted_further faults more before after first second is =
+    elim (or_cases (names_device faults) (names_device more)
+    (sym (list_any-append (λ fault. is_device (refusal_of fault).number) faults more) ∙ is)) [
+      | inl here ↦ earlier_rise (first here) after
+      | inr later ↦ later_rise before (second later)
+    ]
+
+-- the first of some faults
+pub devices_of_first : (most : ℕ) (all : List Fault) → names_device (take most all) ≡ true → names_device all ≡ true
+devices_of_first most all is =
+    ap names_device (sym (take-append-drop most all))
+    ∙ list_any-append (λ fault. is_device (refusal_of fault).number) (take most all) (drop most all)
+    ∙ ap (λ b. b || names_device (drop most all)) is
+
+-- faults that name no device, and one more
+pub none_further : (faults more : List Fault) → names_device faults ≡ false → names_device more ≡ false
+    → names_device (faults ++ more) ≡ false
+none_further faults more first second =
+    list_any-append (λ fault. is_device (refusal_of fault).number) faults more
+    ∙ ap (λ b. b || names_device more) first ∙ second

@@ -1,9 +1,9 @@
 -- Further faults of a refused list.
-use Rattle.std.specs.Prelude.{◌≡◌, ◌≤◌, ◌<◌, ◌^◌, ◌+◌, ◌-◌, ◌==◌, ◌⊎◌, ℕ, IsTrue, List, [], ◌∷◌, ◌++◌, Option, None, Some, Result, Ok, Err, if◌then◌else◌, drop, length, map, option_map, position, take, unwrap_or, ⊤}
-use Rattle.std.specs.List.{cons_option, filter, filter_map}
+use Rattle.std.specs.Prelude.{◌≡◌, ◌≤◌, ◌<◌, ◌^◌, ◌+◌, ◌-◌, ◌==◌, ◌⊎◌, ℕ, Bool, IsTrue, List, [], ◌∷◌, ◌++◌, Option, None, Some, Result, Ok, Err, if◌then◌else◌, drop, length, map, option_map, position, take, true, unwrap_or, ⊤}
+use Rattle.std.specs.List.{cons_option, filter, filter_map, list_any}
 use Rattle.sound_terms.specs.declared.Event.{Event}
 use Rattle.devices.specs.declared.source.Shelf as source
-use Rattle.work_terms.specs.Disk.{Files}
+use Rattle.work_terms.specs.Disk.{Files, Rises}
 use Rattle.work_terms.specs.Refusals.{Refusal, IndexFile, is_device}
 use Rattle.list_terms.specs.Text.{text_value}
 use Rattle.list_terms.specs.Names.{Place, place_of_url}
@@ -125,6 +125,14 @@ pub record WasRead {S : Type 0} (shelf : source.Ghosts S) (old new : S) : Type 0
   pub honest_same : shelf.honest new ≡ shelf.honest old
   pub later : shelf.failures old ≤ shelf.failures new
   pub keeps : (n : List ℕ) → shelf.failed_at old n → shelf.failed_at new n
+
+-- whether one of these faults says that a device failed
+abbrev pub names_device : List Fault → Bool
+names_device faults = list_any (λ fault. is_device (refusal_of fault).number) faults
+
+-- If one of these faults says that a device failed, the store counted a failure.
+abbrev pub IsCounted : {S : Type 0} → source.Ghosts S → S → S → List Fault → Type 0
+IsCounted shelf old new faults = names_device faults ≡ true → Rises (shelf.failures old) (shelf.failures new)
 
 -- the text or one of its files is invalid
 abbrev pub IsUnbound : List ℕ → Files → Type 0

@@ -2,7 +2,7 @@
 ghost use Rattle.std.specs.Prelude.{◌≡◌, ◌≤◌, ℕ, IfErr, IfOk, IsTrue, List, Ok, length};
 ghost use Rattle.list_terms.specs.Bound.{binding_of};
 ghost use Rattle.list_terms.specs.Text.{text_value};
-ghost use Rattle.opening.specs.Further.{AreAll, AreFurther, AreOfEntries, AreOfFiles, HasReason, IsCut, IsUnread, WasRead};
+ghost use Rattle.opening.specs.Further.{AreAll, AreFurther, AreOfEntries, AreOfFiles, HasReason, IsCounted, IsCut, IsUnread, WasRead};
 ghost use Rattle.opening.specs.Own.{IsTextOf, OfText};
 
 mod entries;
@@ -55,6 +55,7 @@ pub fn further_faults<S: Shelf>(
     ensures further { IsTrue (S.honest shelf.old)
         → IfOk result (AreFurther most list.now (S.stored shelf.old) first.now) }
     ensures few { IfOk result (λ further. length further.faults.items ≤ most) }
+    ensures counted { IfOk result (λ further. IsCounted S.Shelf shelf.old shelf.new further.faults.items) }
     ensures untold { IfErr result (HasReason S.Shelf list.now shelf.old shelf.new) }
     ensures only_read { WasRead S.Shelf shelf.old shelf.new }
 {
@@ -71,6 +72,7 @@ fn all_faults<S: Shelf>(
 ) -> Result<Vec<Fault>, Untold>
     ensures all { IsTrue (S.honest shelf.old)
         → IfOk result (λ all. AreAll list.now (S.stored shelf.old) first.now all.items) }
+    ensures counted { IfOk result (λ all. IsCounted S.Shelf shelf.old shelf.new all.items) }
     ensures untold { IfErr result (HasReason S.Shelf list.now shelf.old shelf.new) }
     ensures only_read { WasRead S.Shelf shelf.old shelf.new }
 {
@@ -118,6 +120,7 @@ fn behind_file<S: Shelf>(
     ensures of_files { IsTrue (S.honest shelf.old)
         → IfOk result (λ faults. OfText list.now (λ project.
         AreOfFiles project (S.stored shelf.old) index faults.items)) }
+    ensures counted { IfOk result (λ faults. IsCounted S.Shelf shelf.old shelf.new faults.items) }
     ensures untold { IfErr result (HasReason S.Shelf list.now shelf.old shelf.new) }
     ensures only_read { WasRead S.Shelf shelf.old shelf.new }
 {
@@ -136,6 +139,7 @@ fn beside_entry<S: Shelf>(
     ensures of_entries { IsTrue (S.honest shelf.old)
         → IfOk result (λ faults. OfText list.now (λ project.
         AreOfEntries project (S.stored shelf.old) entry faults.items)) }
+    ensures counted { IfOk result (λ faults. IsCounted S.Shelf shelf.old shelf.new faults.items) }
     ensures untold { IfErr result (HasReason S.Shelf list.now shelf.old shelf.new) }
     ensures only_read { WasRead S.Shelf shelf.old shelf.new }
 {

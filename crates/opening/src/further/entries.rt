@@ -1,7 +1,8 @@
 // Faults of entries, each checked independently.
-ghost use Rattle.std.specs.Prelude.{◌≡◌, IfOk, map, option_map};
+ghost use Rattle.std.specs.Prelude.{◌≡◌, [], IfOk, false, map, option_map};
+ghost use Rattle.std.specs.List.{cons_option};
 ghost use Rattle.opening.specs.Faults.{refusal_of};
-ghost use Rattle.opening.specs.Further.{fault_beside, faults_beside};
+ghost use Rattle.opening.specs.Further.{fault_beside, faults_beside, names_device};
 
 use crate::Fault;
 use projectcheck::{EventFault, fault_of};
@@ -11,7 +12,8 @@ use std::alloc::{AllocError, Global};
 
 /// Returns the fault of an entry, unless it is the entry already reported.
 fn entry_fault(bound: &Bound, event: &Event, reported: u32) -> Option<Fault>
-    ensures { option_map refusal_of result ≡ fault_beside bound.now reported event.now }
+    ensures beside { option_map refusal_of result ≡ fault_beside bound.now reported event.now }
+    ensures devices { names_device (cons_option result []) ≡ false }
 {
     if event.number == reported {
         return None;
@@ -30,7 +32,9 @@ pub fn entry_faults(
     events: &[Event],
     reported: u32,
 ) -> Result<Vec<Fault>, AllocError>
-    ensures { IfOk result (λ faults. map refusal_of faults.items ≡ faults_beside bound.now reported events.now) }
+    ensures beside { IfOk result (λ faults. map refusal_of faults.items
+        ≡ faults_beside bound.now reported events.now) }
+    ensures devices { IfOk result (λ faults. names_device faults.items ≡ false) }
 {
     let mut faults = Vec::new(alloc);
     for event in events {

@@ -4,7 +4,7 @@ ghost use Rattle.std.specs.List.{cons_option};
 ghost use Rattle.list_terms.specs.Names as names;
 ghost use Rattle.list_terms.specs.Names.{place_of_url};
 ghost use Rattle.opening.specs.Further as spec;
-ghost use Rattle.opening.specs.Further.{AreOfFiles, AreTold, IsFileTold, WasRead, places_of, used_of};
+ghost use Rattle.opening.specs.Further.{AreOfFiles, AreTold, IsCounted, IsFileTold, WasRead, places_of, used_of};
 ghost use Rattle.opening.specs.Paths.{Knows};
 
 use super::paths::{Naming, Paths};
@@ -25,6 +25,7 @@ fn file_fault<S: Shelf>(
     requires { place_of_url source.now.url ≡ Some location.now }
     ensures reported { IsTrue (S.honest shelf.old)
         → IfOk result (IsFileTold (S.stored shelf.old) source.now location.now) }
+    ensures counted { IfOk result (λ told. IsCounted S.Shelf shelf.old shelf.new (cons_option told [])) }
     ensures only_read { WasRead S.Shelf shelf.old shelf.new }
 {
     match open(alloc, shelf, location.name()) {
@@ -49,6 +50,7 @@ fn source_fault<S: Shelf>(
     ensures reported { IsTrue (S.honest shelf.old) → (named : List names.Place) → Knows paths.old named
         → IfOk result (λ reported.
         AreTold (S.stored shelf.old) named (used_of used.now (source.now ∷ [])) (cons_option reported [])) }
+    ensures counted { IfOk result (λ told. IsCounted S.Shelf shelf.old shelf.new (cons_option told [])) }
     ensures noted { (named : List names.Place) → Knows paths.old named
         → OnOk result (Knows paths.new (named ++ places_of (used_of used.now (source.now ∷ [])))) }
     ensures only_read { WasRead S.Shelf shelf.old shelf.new }
@@ -113,6 +115,7 @@ fn tell_files<S: Shelf>(
 ) -> Result<Vec<Fault>, AllocError>
     ensures reported { IsTrue (S.honest shelf.old) → (named : List names.Place) → Knows paths.old named
         → IfOk result (λ faults. AreTold (S.stored shelf.old) named (used_of used.now sources.now) faults.items) }
+    ensures counted { IfOk result (λ faults. IsCounted S.Shelf shelf.old shelf.new faults.items) }
     ensures only_read { WasRead S.Shelf shelf.old shelf.new }
 {
     let mut faults = Vec::new(alloc);
@@ -152,6 +155,7 @@ pub fn file_faults<S: Shelf>(
 ) -> Result<Vec<Fault>, AllocError>
     ensures of_files { IsTrue (S.honest shelf.old)
         → IfOk result (λ faults. AreOfFiles project.now (S.stored shelf.old) reported faults.items) }
+    ensures counted { IfOk result (λ faults. IsCounted S.Shelf shelf.old shelf.new faults.items) }
     ensures only_read { WasRead S.Shelf shelf.old shelf.new }
 {
     let used = UsedNumbers::new(alloc, project.events());

@@ -1,7 +1,7 @@
 use Rattle.std.proofs.Common.{◌++◌, ◌∷◌, [], sym, take, IsTrue}
 use Rattle.std.proofs.lemmas.List.{append-nil, take_all}
 use Rattle.opening.specs.Further.{places_of, used_of}
-use Rattle.opening.proofs.MoreTold.{named_further, read_on, told_further, used_further}
+use Rattle.opening.proofs.MoreTold.{counted_further, named_further, read_on, told_further, used_further}
 use Rattle.opening.proofs.further.files.tell_files.Goals as goal
 use Rattle.opening.proofs.further.files.tell_files.Goals.{in-Some+in_ok-push, in_default}
 
@@ -29,6 +29,14 @@ loop-source-preserved g c =
                 (told_further files named before here c.loop-source.faults.items [] (walked.reported honest named knows)
                 (rw (w.in_default.is, walked.read.same) at reported))
           ];
+      counted = elim c.match-branch-2.branch [
+        | in-Some+in_ok-push w ↦ rw (w.faults-is, w.in_ok-push.ensures.items)
+            (counted_further c.loop-source.faults.items _ walked.read.later one.only_read.later walked.counted
+            (rw w.in-Some.is at one.counted))
+        | in_default w ↦ rw (w.faults-is, sym (append-nil c.loop-source.faults.items))
+            (counted_further c.loop-source.faults.items [] walked.read.later one.only_read.later walked.counted
+            (rw w.in_default.is at one.counted))
+      ];
       noted = λ named knows.
           rw (← named_further named before here) (one.noted (named ++ places_of before) (walked.noted named knows));
     })
