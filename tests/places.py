@@ -18,6 +18,11 @@ DEPTH = AT_16_BITS.words("render")
 RENDERED = model.Answer(0, "rendered 4 frames 1 channels", rendered_files())
 MEDIA_FILES = {"A.wav": wave()}
 MEMORY = 256 * 2 ** 20
+# Format characters, fillers and blanks; and spaces, a combining mark and others that are visible or as wide as one.
+INVISIBLE = (
+    "\u00ad\u034f\u0600\u0605\u061c\u06dd\u070f\u08e2\u115f\u1160\u17b4\u180b\u180e\u200b\u200c\u200d\u2060\u2061\u206a"
+    "\u2800\u3164\ufe0f\ufeff\uffa0\ufff9\ufffb\U000110bd\U0001d173\U000e0001\U000e0041\U000e0100")
+VISIBLE = "\u00a0\u0301\u0606\u2003\u2801\u3000\u3163\ufffd\U0001f3b5"
 
 
 def prepared(scene: Scene) -> None:
@@ -92,15 +97,16 @@ def list_is_folder(scene: Scene) -> None:
 
 
 def control_characters(scene: Scene) -> None:
-    """A name is printed on one line: control characters, marks of direction and separators of lines as the escapes of
-    their bytes, all else as it stands."""
+    """A name is printed on one line: invisible characters as the escapes of their bytes, all others unchanged."""
     prepared(scene)
     for name, printed in (
         ("no\nlist", "no%0Alist"), ("\t.adl", "%09.adl"), ("\x7f", "%7F"), ("\u0085", "%C2%85"),
         ("no list", "no list"), ("Ü%0A.adl", "Ü%0A.adl"),
         ("wav.\u202edlA", "wav.%E2%80%AEdlA"), ("a\u2028b", "a%E2%80%A8b"), ("a\u2029b", "a%E2%80%A9b"),
         ("\u2066a\u2069", "%E2%81%A6a%E2%81%A9"), ("a\u200fb\u200e", "a%E2%80%8Fb%E2%80%8E"),
-        ("\u061ca", quote("\u061ca")), ("\u2027\u202f\u2065\u206a\u200d", "\u2027\u202f\u2065\u206a\u200d"),
+        ("\u061ca", quote("\u061ca")), ("\u2027\u202f\u2065\u206a\u200d", "\u2027\u202f%E2%81%A5%E2%81%AA%E2%80%8D"),
+        *((f"A{each}.adl", f"A{quote(each)}.adl") for each in INVISIBLE),
+        *((f"A{each}.adl", f"A{each}.adl") for each in VISIBLE),
     ):
         same_outcome(scene.run("render", name, MEDIA, OUT), 1, f"refused 21 at file {printed}")
         same_outcome(scene.run("render", LIST, MEDIA, name), 1, f"refused 20 at file {printed}")

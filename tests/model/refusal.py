@@ -3,9 +3,10 @@
 import unicodedata
 from typing import NamedTuple
 
-# UAX 9, table 4: explicit embeddings, overrides and isolates by their class, and the implicit marks ALM, LRM and RLM.
-DIRECTIONS = ("LRE", "RLE", "LRO", "RLO", "PDF", "LRI", "RLI", "FSI", "PDI")
-IMPLICIT_MARKS = "\u061c\u200e\u200f"
+# What an invisible character that isn't of category Cc, Cf, Zl or Zp is called.
+BLANKS = ("HANGUL FILLER", "SEONG FILLER", "VARIATION SELECTOR", "VOWEL INHERENT", "GRAPHEME JOINER", "PATTERN BLANK")
+# Code points that UAX 44 reserves for further invisible characters.
+RESERVED = {0x2065, *range(0xFFF0, 0xFFF9), *range(0xE0000, 0xE1000)}
 
 
 class Refused(Exception):
@@ -32,13 +33,13 @@ class Notice(NamedTuple):
 
 
 def is_unseen(character: str) -> bool:
-    """A control character, a mark of direction, or a separator of lines or paragraphs, by the Unicode standard."""
+    """Returns whether a character is invisible, by the Unicode standard."""
     return (
-        unicodedata.category(character) in ("Cc", "Zl", "Zp")
-        or unicodedata.bidirectional(character) in DIRECTIONS or character in IMPLICIT_MARKS)
+        unicodedata.category(character) in ("Cc", "Cf", "Zl", "Zp") or ord(character) in RESERVED
+        or any(name in unicodedata.name(character, "") for name in BLANKS))
 
 
 def printed_name(name: str) -> str:
-    """A name as it stands in a line: characters that aren't seen as the percent escapes of their bytes."""
+    """Returns a name as it is printed in a line: invisible characters as the percent escapes of their bytes."""
     return "".join(
         "".join(f"%{byte:02X}" for byte in each.encode()) if is_unseen(each) else each for each in name)

@@ -1,17 +1,24 @@
--- The names of media have only visible characters, so they are printed unchanged.
+-- The name of a medium has only visible characters, so a line has it unchanged.
 use Rattle.std.proofs.Common.{◌≡◌, ◌∙◌, ℕ, ◌-◌, ◌/◌, ◌<◌, ◌≤◌, ◌%◌, ◌==◌, cond, Bool, true, false, ◌&&◌, List, [], ◌∷◌, ◌++◌, length, zero, suc, refl, ap, arith, codes}
-use Rattle.std.specs.Prelude.{nat_le, decimal, replicate, encode_utf8}
+use Rattle.std.specs.Prelude.{nat_le, nat_lt, decimal, replicate, encode_utf8}
 use Rattle.std.specs.List.{All, flat_map, list_all}
-use Rattle.std.specs.Char.{is_control}
-use Rattle.std.proofs.lemmas.Bool.{and_parts}
+use Rattle.std.specs.Bool.{beq}
+use Rattle.std.proofs.lemmas.Bool.{and_parts, le-ltb, ne_eqb}
 use Rattle.std.proofs.lemmas.Bool.Decides.{nat_tests}
 use Rattle.std.specs.Fmt.{digit_glyph, digits, digits_onto}
 use Rattle.std.proofs.lemmas.List.Elements.{All-nil, All-cons}
 use Rattle.std.proofs.lemmas.List.Folds.{list_all-append}
 use Rattle.std.proofs.lemmas.Str.{chars-IsAscii, encode_ascii}
 use Rattle.std.proofs.lemmas.Str.Ascii.{IsAscii-from_all}
+use Rattle.ucd_table.proofs.Facts.{Stepped-below, same_from_beq}
+use Rattle.ucd_category.specs.GeneralCategory.{general_category}
+use Rattle.ucd_category.proofs.Computing.{ucd_category}
+use Rattle.ucd_category.proofs.GeneralCategoryLemmas.{general_category_stepped}
+use Rattle.ucd_derived.specs.Binary.{is_default_ignorable_code_point}
+use Rattle.ucd_derived.proofs.BinaryLemmas.{is_default_ignorable_code_point_stepped}
+use Rattle.ucd_derived.proofs.Computing.{ucd_derived}
 use Rattle.list_terms.specs.Renewed.{media_name}
-use Rattle.console.specs.Lines.{is_mark, printed_character, printed_name}
+use Rattle.console.specs.Lines.{is_hidden, is_unseen, printed_character, printed_name}
 
 -- a printable ASCII character
 abbrev is_plain : ℕ → Bool
@@ -23,19 +30,27 @@ plain-bounds b h = (grind (arith, nat_tests), grind (arith, nat_tests))
 both : (x y : Bool) → x ≡ true → y ≡ true → (x && y) ≡ true
 both x y one two = rw (one, two) refl
 
-control-plain : (b : ℕ) → 32 ≤ b → b ≤ 126 → is_control b ≡ false
-control-plain b low high = grind (arith, nat_tests)
+category-plain : (b : ℕ) → 32 ≤ b → b ≤ 126 → is_hidden (general_category b) ≡ false
+unfolding ucd_category
+category-plain b low high =
+    same_from_beq _ _ (Stepped-below general_category general_category_stepped (λ x category. beq (is_hidden category) (nat_lt x 32)) 127
+    refl b (omega (arith, high))) ∙ le-ltb b 32 low
 
-mark-plain : (b : ℕ) → b ≤ 126 → is_mark b ≡ false
-mark-plain b high = grind (arith, nat_tests)
+ignored-plain : (b : ℕ) → b ≤ 126 → is_default_ignorable_code_point b ≡ false
+unfolding ucd_derived
+ignored-plain b high =
+    same_from_beq _ _ (Stepped-below is_default_ignorable_code_point is_default_ignorable_code_point_stepped
+    (λ x is_ignored. beq is_ignored false) 127 refl b (omega (arith, high)))
+
+plain-seen : (b : ℕ) → 32 ≤ b → b ≤ 126 → is_unseen b ≡ false
+plain-seen b low high =
+    rw (category-plain b low high, ignored-plain b high, ne_eqb b 0x2800 (λ is. omega (arith, is, high))) refl
 
 character-plain : (b : ℕ) → is_plain b ≡ true → printed_character b ≡ b ∷ []
 character-plain b h =
     let within = plain-bounds b h in
-    let free : is_control b ≡ false = control-plain b within.0 within.1 in
-    let unmarked : is_mark b ≡ false = mark-plain b within.1 in
     let one : encode_utf8 b ≡ b ∷ [] = encode_ascii b (omega arith) in
-    rw (free, unmarked, one) refl
+    rw (plain-seen b within.0 within.1, one) refl
 
 characters-plain : (bs : List ℕ) → list_all is_plain bs ≡ true → flat_map printed_character bs ≡ bs
 characters-plain [] h = refl

@@ -1,25 +1,31 @@
--- The lines that the program prints, without line feeds.
-use Rattle.std.specs.Prelude.{ℕ, Bool, ◌||◌, ◌&&◌, ◌==◌, List, [], ◌∷◌, ◌++◌, if◌then◌else◌, nat_le, nat_lt, decimal, codes, encode_utf8}
+-- The lines that the program prints, without their ends.
+use Rattle.std.specs.Prelude.{ℕ, Bool, true, false, ◌||◌, ◌==◌, List, [], ◌∷◌, ◌++◌, if◌then◌else◌, nat_le, nat_lt, decimal, codes, encode_utf8}
 use Rattle.std.specs.List.{flat_map}
-use Rattle.std.specs.Char.{is_control}
 use Rattle.std.specs.Str.{chars}
+use Rattle.ucd_category.specs.GeneralCategory.{general_category}
+use Rattle.ucd_category.specs.declared.GeneralCategory.{GeneralCategory}
+use Rattle.ucd_category.specs.declared.GeneralCategory.TheVariants.{Control, Format, LineSeparator, ParagraphSeparator}
+use Rattle.ucd_derived.specs.Binary.{is_default_ignorable_code_point}
 use Rattle.percent_encoding.specs.Percent.{percent_encode_byte}
 use Rattle.list_terms.specs.declared.Notice.{Notice}
 use Rattle.console.specs.declared.lines.ListOfTwo.{ListOfTwo}
 use Rattle.console.specs.declared.lines.ListOfTwo.TheVariants.{First, Second}
 use Rattle.work_terms.specs.Refusals.{Where, Nowhere, Line, LineEntry, LineIndex, IndexFile, Index, Entry, File, Job}
 
--- ALM, LRM, RLM, line and paragraph separators, and bidirectional embeddings, overrides and isolates
-abbrev pub is_mark : ℕ → Bool
-is_mark code = code == 1564
-    || ((nat_le 8206 code && nat_le code 8207)
-    || ((nat_le 8232 code && nat_le code 8238) || (nat_le 8294 code && nat_le code 8297)))
+-- general categories without a visible form (Unicode 18.0, section 4.5): Cc, Cf, Zl and Zp
+abbrev pub is_hidden : GeneralCategory → Bool
+is_hidden Control = true
+is_hidden Format = true
+is_hidden LineSeparator = true
+is_hidden ParagraphSeparator = true
+is_hidden _ = false
 
--- an invisible character that may change the display of its line
+-- an invisible character: of such a category, ignored by default when text is displayed, or the blank Braille pattern
 abbrev pub is_unseen : ℕ → Bool
-is_unseen character = is_control character || is_mark character
+is_unseen character =
+    is_hidden (general_category character) || (is_default_ignorable_code_point character || character == 0x2800)
 
--- an invisible character as percent escapes of its UTF-8 bytes, any other character unchanged
+-- an invisible character as the percent escapes of its UTF-8 bytes, any other unchanged
 abbrev pub printed_character : ℕ → List ℕ
 printed_character character =
     if is_unseen character then flat_map percent_encode_byte (encode_utf8 character) else encode_utf8 character

@@ -1,9 +1,11 @@
--- Worked examples of the lines of refusals and comparisons.
-use Rattle.std.specs.Prelude.{◌≡◌, ◌++◌, refl, codes}
+-- Worked examples of the lines of refusals and comparisons, and of invisible characters.
+use Rattle.std.specs.Prelude.{◌≡◌, ◌++◌, ◌∷◌, [], false, refl, codes, map, true}
 use Rattle.std.specs.Fmt.{digits}
+use Rattle.ucd_category.proofs.Computing.{ucd_category}
+use Rattle.ucd_derived.proofs.Computing.{ucd_derived}
 use Rattle.work_terms.specs.Refusals.{Nowhere, Line, LineEntry, LineIndex, Index, Entry, Job}
 use Rattle.console.specs.declared.lines.ListOfTwo.TheVariants.{First, Second}
-use Rattle.console.specs.Lines.{differ_text, in_list, refusal_text, same_text}
+use Rattle.console.specs.Lines.{differ_text, in_list, is_unseen, refusal_text, same_text}
 
 line_without_place : refusal_text 18 Nowhere ≡ codes "refused 18"
 unfolding digits
@@ -48,3 +50,16 @@ line_same = refl
 line_differ : differ_text (codes "01.00.00.00/0003") 64 ≡ codes "differ at 01.00.00.00/0003 channel 64"
 unfolding digits
 line_differ = refl
+
+-- a control, the soft hyphen, ALM, the zero width space, a separator of lines, the blank Braille pattern, the Hangul
+-- filler, a variation selector and a tag
+invisible : map is_unseen
+    (0x1B ∷ 0xAD ∷ 0x61C ∷ 0x200B ∷ 0x2028 ∷ 0x2800 ∷ 0x3164 ∷ 0xFE0F ∷ 0xE0041 ∷ [])
+    ≡ true ∷ true ∷ true ∷ true ∷ true ∷ true ∷ true ∷ true ∷ true ∷ []
+unfolding ucd_category ucd_derived
+invisible = refl
+
+-- `A`, the no-break space, a combining accent, an ideographic space and a private character
+visible : map is_unseen (0x41 ∷ 0xA0 ∷ 0x301 ∷ 0x3000 ∷ 0xE000 ∷ []) ≡ false ∷ false ∷ false ∷ false ∷ false ∷ []
+unfolding ucd_category ucd_derived
+visible = refl

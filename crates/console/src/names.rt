@@ -8,27 +8,33 @@ ghost use Rattle.console.specs.Printing.{Prints};
 
 use crate::console::Console;
 use percent_encoding::percent_encode_byte;
+use ucd_category::GeneralCategory;
+use ucd_derived::is_default_ignorable_code_point;
 
-/// Returns whether a character is invisible and may change the display of its line: a control
-/// character, a bidirectional formatting character, or a line or paragraph separator.
+/// Returns whether a character is invisible in a line, so that it may hide a difference or change how the rest is shown:
+/// a control or format character, a separator of lines or paragraphs, or one of the blank fillers.
 pub fn is_unseen(character: char) -> bool
     ensures { result ≡ lines.is_unseen character }
 {
-    character.is_control() || is_mark(u32::from(character))
+    is_hidden(GeneralCategory::for_char(character))
+        || is_default_ignorable_code_point(character)
+        || character == '\u{2800}'
 }
 
-/// Returns whether a code point is a bidirectional formatting character, or a line or paragraph
-/// separator.
-fn is_mark(code: u32) -> bool
-    ensures { result ≡ lines.is_mark code }
+/// Returns whether the characters of a general category have no visible form.
+fn is_hidden(category: GeneralCategory) -> bool
+    ensures { result ≡ lines.is_hidden category }
 {
-    code == 0x61C
-        || (0x200E <= code && code <= 0x200F)
-        || (0x2028 <= code && code <= 0x202E)
-        || (0x2066 <= code && code <= 0x2069)
+    match category {
+        GeneralCategory::Control
+        | GeneralCategory::Format
+        | GeneralCategory::LineSeparator
+        | GeneralCategory::ParagraphSeparator => true,
+        _ => false,
+    }
 }
 
-/// Prints a name, with invisible characters as percent escapes of their UTF-8 bytes.
+/// Prints a name, with each invisible character as the percent escapes of its UTF-8 bytes.
 pub fn put_name<C: Console>(console: &mut C, name: &str)
     ensures { Prints C.contents C.failures console.old console.new (printed_name name.now) }
 {
