@@ -261,11 +261,20 @@ pub outcome_as : {Begins Starts : Files → Type 0} {events : List BoardEvent} {
     (snapshot_of after board 0 (source_of g k m q) e) untouched ended
     → Outcome Starts events (snapshot_of plan first 0 (source_of f h' n p') u) had
     (snapshot_of after board 0 (source_of g k' m q') e) plain ended
-outcome_as un_so so quiet wrote none (NotLaidOut file un is same still writes laid) =
+outcome_as un_so so quiet wrote none (NotLaidOut file un is same still writes laid layout) =
     NotLaidOut file (un_so un) is same still (writes_then (wrote (Stays _)) writes) (λ unstarted. laid (none unstarted))
+    (record {
+      at = record { rose = rw quiet at layout.at.rose; failed = layout.at.failed };
+      early = layout.early;
+      before = layout.before;
+      after = λ honest i past inside. layout.after (rw (wrote (λ _. ⊤)).same_honest honest) i past inside
+          ∙ (wrote (λ _. ⊤)).others honest _ tt;
+      blank = λ unstarted. layout.blank (none unstarted);
+    })
 outcome_as un_so so quiet wrote none (Stopped stale count did stops writes runs) =
     Stopped stale count (done_as so quiet did) stops (writes_then (wrote (Stays _)) writes) runs
-outcome_as un_so so quiet wrote none (NotFinished file stale failures files did all is own before rose runs) =
-    NotFinished file stale failures files (done_as so quiet did) all is own before rose runs
+outcome_as un_so so quiet wrote none (NotFinished file stale failures files did all is own before rose at runs) =
+    NotFinished file stale failures files (done_as so quiet did) all is own before rose
+    (record { rose = rw quiet at at.rose; failed = at.failed }) runs
 outcome_as un_so so quiet wrote none (Finished stale files did all is own last durable runs) =
     Finished stale files (done_as so quiet did) all is own last durable runs

@@ -1,7 +1,9 @@
 -- Media that are laid out: as long as the whole ones, the same outside of the jobs' places, and zero in these.
-use Rattle.std.proofs.Common.{◌≡◌, ◌≢◌, ℕ, suc, ◌+◌, ◌-◌, ◌*◌, ◌/◌, ◌<◌, ◌≤◌, min, List, length, Some, ap, add-one, arith, length-take, mul-le-mul_right, slice_get}
+use Rattle.std.proofs.Common.{◌≡◌, ◌≢◌, ℕ, suc, ◌+◌, ◌-◌, ◌*◌, ◌/◌, ◌<◌, ◌≤◌, min, true, List, length, Some, Result, Ok, Err, get_or, ap, sym, add-one, arith, length-take, mul-le-mul_right, slice_get}
+use Rattle.std.specs.Prelude.{IfErr, nat_lt, ⊤}
+use Rattle.std.proofs.lemmas.Bool.Decides.{nat_tests}
 use Rattle.std.proofs.lemmas.Grind.{elements}
-use Rattle.std.proofs.lemmas.Option.{slice_get_within}
+use Rattle.std.proofs.lemmas.Option.{slice_get-get_or, slice_get_within}
 use Rattle.sound_terms.specs.declared.piece.Run.{Run}
 use Rattle.sound_terms.specs.Media.{frame_length, sound_at}
 use Rattle.sound_terms.specs.Waves.{data_place, data_size, file_of, header_of, zeros}
@@ -11,11 +13,12 @@ use Rattle.list_terms.specs.Renewed.{media_name}
 use Rattle.job_terms.specs.Workers.{jobs_over}
 use Rattle.mediacopy.specs.declared.piece.CopyJob.{CopyJob}
 use Rattle.mediacopy.specs.Copied.{laid_out}
-use Rattle.mediacopy.specs.Pieces.{piece_bytes, piece_place, run_at}
-use Rattle.execution.specs.Plan.{AreBlank, IsBlank, SourcesFit}
+use Rattle.mediacopy.specs.Pieces.{no_run, piece_bytes, piece_place, run_at}
+use Rattle.execution.specs.Plan.{AreBlank, AreBlankBefore, IsBlank, SourcesFit}
+use Rattle.execution.specs.declared.fault.OutputFault.{OutputFault}
 use Rattle.consolidation.specs.Jobs.{work_of}
-use Rattle.consolidation.specs.Media.{IsLaidOut}
-use Rattle.consolidation.specs.Outputs.{job_plan, whole_output}
+use Rattle.consolidation.specs.Media.{AreKeptFrom, IsLaidOut}
+use Rattle.consolidation.specs.Outputs.{FailsAtMedium, job_plan, whole_output}
 use Rattle.consolidation.specs.Pieces.{job_count, job_of, jobs_before, pieces_in}
 use Rattle.consolidation.specs.Planned.{IsMediaPlan, MediaPlan}
 use Rattle.consolidation.specs.Work.{run_info}
@@ -30,6 +33,21 @@ pub one_more_laid : (plan : MediaPlan) → IsMediaPlan plan → (i : ℕ) (old n
 one_more_laid plan is i old new inside others before now k below run there =
     let apart = media_name-injective (k + 1) (i + 1) in
     grind (arith, is.few, inside, apart, others (media_name (k + 1)), before k, now, below, there)
+
+-- a medium that is written is none of the others
+pub still_laid : (plan : MediaPlan) → IsMediaPlan plan → (i : ℕ) (old new : Files) → i < length plan.runs
+    → ((n : List ℕ) → n ≢ media_name (i + 1) → new n ≡ old n) → ((k : ℕ) → k < i → IsLaidOut plan old k)
+    → (k : ℕ) → k < i → IsLaidOut plan new k
+still_laid plan is i old new inside others before k below run there =
+    let apart = media_name-injective (k + 1) (i + 1) in
+    grind (arith, is.few, inside, apart, others (media_name (k + 1)), before k, below, there)
+
+pub kept_further : (plan : MediaPlan) → IsMediaPlan plan → (i : ℕ) (first old new : Files) → i < length plan.runs
+    → ((n : List ℕ) → n ≢ media_name (i + 1) → new n ≡ old n) → AreKeptFrom plan i first old
+    → AreKeptFrom plan (i + 1) first new
+kept_further plan is i first old new inside others kept k past below =
+    let apart = media_name-injective (k + 1) (i + 1) in
+    grind (arith, is.few, inside, apart, others (media_name (k + 1)), kept k, past, below)
 
 module _ (plan : MediaPlan) (is : IsMediaPlan plan) (sources : Files) where
   -- a byte among the samples of a run's medium
@@ -111,3 +129,22 @@ module _ (plan : MediaPlan) (is : IsMediaPlan plan) (sources : Files) where
         blank_output (full_by_pieces plan is sources fit.sized) written i run there
         (rw (add-one i) at (laid i (slice_get_within plan.runs i run there) run there)));
   }
+
+  -- where the medium of a number failed, so are those before it
+  blank_before : SourcesFit (job_plan plan) sources → (written : Files) (file : ℕ) → file < length plan.runs
+      → ((k : ℕ) → k < file → IsLaidOut plan written k) → AreBlankBefore (job_plan plan) sources file written
+  blank_before fit written file early laid k i below under same =
+      let within : i < length plan.runs = omega (arith, under, early) in
+      let test : nat_lt i (length plan.runs) ≡ true = grind (arith, nat_tests, within) in
+      let own = same_place plan is (job_of plan.runs k).run i (job_named plan k below) within
+      (sym (rw test at same)) in
+      let there = slice_get-get_or plan.runs i no_run within in
+      rw own (blank_output (full_by_pieces plan is sources fit.sized) written i _ there
+      (rw (add-one i) at (laid i under _ there)))
+
+  pub media_before : SourcesFit (job_plan plan) sources → (result : Result (Unit {0}) OutputFault) {written : Files}
+      {failed : List ℕ → Type 0} → IfErr result (λ fault. ⊤ → FailsAtMedium (length plan.runs) fault failed)
+      → IfErr result (λ fault. (k : ℕ) → k < fault.file → IsLaidOut plan written k)
+      → IfErr result (λ fault. AreBlankBefore (job_plan plan) sources fault.file written)
+  media_before fit (Ok x) fails laid = tt
+  media_before fit (Err fault) {written = written} fails laid = blank_before fit written fault.file (fails tt).0 laid

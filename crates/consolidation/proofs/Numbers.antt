@@ -1,16 +1,17 @@
 -- The outputs of a consolidation by number: which names they have, and what stands in them.
-use Rattle.std.proofs.Common.{◌≡◌, ◌≢◌, ◌∙◌, ℕ, suc, ◌+◌, ◌-◌, ◌<◌, ◌≤◌, Bool, IsTrue, List, length, Some, is_some, Result, Ok, Err, OnOk, codes, refl, sym, ap, add-one, arith, get_or}
+use Rattle.std.proofs.Common.{◌≡◌, ◌≢◌, ◌∙◌, ℕ, suc, ◌+◌, ◌-◌, ◌<◌, ◌≤◌, Bool, true, inl, inr, IsTrue, List, length, Some, is_some, Result, Ok, Err, OnOk, codes, refl, sym, ap, add-one, arith, get_or}
+use Rattle.std.proofs.lemmas.Bool.{cases_lt}
 use Rattle.std.proofs.lemmas.Bool.Decides.{nat_tests}
 use Rattle.std.proofs.lemmas.Option.{slice_get-get_or}
-use Rattle.std.specs.Prelude.{IfErr, ⊤}
+use Rattle.std.specs.Prelude.{IfErr, nat_lt, ⊤}
 use Rattle.work_terms.specs.Disk.{Files, IsDurable}
 use Rattle.list_terms.specs.Renewed.{media_name}
 use Rattle.mediacopy.specs.declared.piece.CopyJob.{CopyJob}
 use Rattle.mediacopy.specs.Pieces.{no_run}
-use Rattle.execution.specs.Plan.{HoldBefore, HoldLast, IsAt, IsForeign, IsLast, IsOwn, OfJob, OfMarks, Stays}
+use Rattle.execution.specs.Plan.{AreKeptAfter, HoldBefore, HoldLast, IsAt, IsForeign, IsLast, IsOwn, OfJob, OfMarks, Stays}
 use Rattle.execution.specs.declared.fault.OutputFault.{OutputFault}
 use Rattle.consolidation.specs.Consolidated.{IsBehind, IsElsewhere}
-use Rattle.consolidation.specs.Media.{IsNoMedium}
+use Rattle.consolidation.specs.Media.{AreKeptFrom, IsNoMedium}
 use Rattle.consolidation.specs.Outputs.{AreNamedOutputs, FailsAtMedium, job_plan, whole_output}
 use Rattle.consolidation.specs.Pieces.{job_count, job_of}
 use Rattle.consolidation.specs.Planned.{IsMediaPlan, MediaPlan}
@@ -61,13 +62,23 @@ module _ (plan : MediaPlan) where
       let of = of_each (λ n. written n ≡ Some (whole_output plan sources n)) holds in
       (of.0, grind (arith, of.1))
 
-  -- if one of them fails, those before it are complete
+  -- what holds of the files of the report holds of each of them before the one that failed
+  each_before : (P : List ℕ → Type 0) (file : ℕ) → file < (job_plan plan).outputs
+      → (IsTrue (is_some plan.report) → (length plan.runs < file → P (codes "SHA256SUMS"))
+      × (length plan.runs + 1 < file → P (codes "consolidated.json")))
+      → (i : ℕ) → IsLast (job_plan plan) i → i < file → P ((job_plan plan).output i)
+  each_before P file few of i last under = grind (arith, nat_tests, few, of, last, under)
+
+  -- if one of the last files fails, those before it are complete
   pub before_there : (sources written : Files) (file : ℕ) → file < (job_plan plan).outputs
       → (length plan.runs < file → IsSumsThere plan.report written)
       → (length plan.runs + 2 ≤ file → IsReportThere plan.report written)
       → HoldBefore (job_plan plan) file sources written
-  before_there sources written file few sums report i last under =
-      grind (arith, nat_tests, few, sums, report, last, under)
+  before_there sources written file few sums report =
+      each_before (λ n. written n ≡ Some (whole_output plan sources n)) file few (λ told. (
+        λ past. grind (arith, told, sums past),
+        λ past. grind (arith, told, report (omega (arith, past))),
+      ))
 
   pub before_failed : (result : Result (Unit {0}) OutputFault) (sources written : Files) {failed : List ℕ → Type 0}
       → IfErr result (λ fault. ⊤ → IsAt (job_plan plan) fault.file failed)
@@ -149,6 +160,30 @@ module _ (plan : MediaPlan) (is : IsMediaPlan plan) where
     last = last_stays plan;
     elsewhere = foreign_elsewhere plan (is_some plan.report) refl;
   }
+
+  -- a medium that failed comes before those that come last
+  pub media_early : (result : Result (Unit {0}) OutputFault) {failed : List ℕ → Type 0}
+      → IfErr result (λ fault. ⊤ → FailsAtMedium (length plan.runs) fault failed)
+      → IfErr result (λ fault. fault.file < (job_plan plan).last)
+  media_early (Ok x) fails = tt
+  media_early (Err fault) fails = (fails tt).0
+
+  -- and the outputs after it are as they were
+  kept_after : (file : ℕ) (old new : Files) → ((n : List ℕ) → IsNoMedium (length plan.runs) n → new n ≡ old n)
+      → AreKeptFrom plan (file + 1) old new → AreKeptAfter (job_plan plan) file old new
+  kept_after file old new others kept i past inside = elim (cases_lt i (length plan.runs)) [
+    | inl below ↦
+        let test : nat_lt i (length plan.runs) ≡ true = grind (arith, nat_tests, below) in
+        rw test (rw (add-one i) at (kept i (omega (arith, past)) below))
+    | inr behind ↦ others _ (no_medium _ (last_stays plan i (behind, inside)))
+  ]
+
+  pub media_after : (result : Result (Unit {0}) OutputFault) (old new : Files)
+      → ((n : List ℕ) → IsNoMedium (length plan.runs) n → new n ≡ old n)
+      → IfErr result (λ fault. AreKeptFrom plan (fault.file + 1) old new)
+      → IfErr result (λ fault. AreKeptAfter (job_plan plan) fault.file old new)
+  media_after (Ok x) old new others kept = tt
+  media_after (Err fault) old new others kept = kept_after fault.file old new others kept
 
 -- what follows from two things where there is a value follows there
 pub both_ok : {X E P Q R : Type 0} (result : Result X E) → OnOk result P → OnOk result Q → (P → Q → R)

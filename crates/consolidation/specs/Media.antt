@@ -1,5 +1,5 @@
 -- Media by the runs that they are of.
-use Rattle.std.specs.Prelude.{◌≡◌, ◌≢◌, ℕ, ◌+◌, ◌≤◌, List, Some, slice_get}
+use Rattle.std.specs.Prelude.{◌≡◌, ◌≢◌, ℕ, ◌+◌, ◌<◌, ◌≤◌, List, length, Some, slice_get}
 use Rattle.sound_terms.specs.declared.piece.Run.{Run}
 use Rattle.work_terms.specs.Disk.{Files}
 use Rattle.devices.specs.declared.bench.Bench.{Ghosts}
@@ -16,6 +16,11 @@ IsNoMedium media name = (number : ℕ) → 1 ≤ number → number ≤ media →
 abbrev pub IsLaidOut : MediaPlan → Files → ℕ → Type 0
 IsLaidOut plan written k = (run : Run) → slice_get plan.runs k ≡ Some run
     → written (media_name (k + 1)) ≡ Some (laid_out (run_info plan.sounds plan.homes run))
+
+-- the media of the runs from this place on are as they were
+abbrev pub AreKeptFrom : MediaPlan → ℕ → (old new : Files) → Type 0
+AreKeptFrom plan from old new =
+    (k : ℕ) → from ≤ k → k < length plan.runs → new (media_name (k + 1)) ≡ old (media_name (k + 1))
 
 -- a crash leaves nothing that it couldn't leave before
 abbrev pub Narrows : {B : Type 0} → Ghosts B → B → B → Type 0

@@ -1,9 +1,9 @@
 // The media of a consolidation as outputs by number: laid out, and synced.
-ghost use Rattle.std.specs.Prelude.{◌≡◌, ◌≢◌, ◌<◌, ◌+◌, ℕ, IsTrue, OnOk, length, ⊤};
+ghost use Rattle.std.specs.Prelude.{◌≡◌, ◌≢◌, ◌<◌, ◌+◌, ℕ, IsTrue, IfErr, OnOk, length, ⊤};
 ghost use Rattle.work_terms.specs.Disk.{IsDurable, ReadsTo};
 ghost use Rattle.list_terms.specs.Renewed.{media_name};
 ghost use Rattle.devices.specs.Frame.{OnlyWrites};
-ghost use Rattle.consolidation.specs.Media.{IsLaidOut, IsNoMedium, Narrows};
+ghost use Rattle.consolidation.specs.Media.{AreKeptFrom, IsLaidOut, IsNoMedium, Narrows};
 ghost use Rattle.consolidation.specs.Outputs.{FailsAtMedium};
 ghost use Rattle.consolidation.specs.Planned.{IsMediaPlan};
 ghost use Rattle.mediacopy.specs.Moment.{IsLater};
@@ -23,6 +23,7 @@ impl<'a> Consolidation<'a> {
     ) -> Result<(), OutputFault>
         requires { position < length self.now.runs }
         ensures laid { IsTrue (B.honest bench.old) → OnOk result (IsLaidOut self.now (B.stored bench.new) position) }
+        ensures number { IfErr result (λ fault. fault.file ≡ position) }
         ensures only_writes { OnlyWrites B.Bench (λ n. n ≢ media_name (position + 1)) bench.old bench.new result (λ _. ⊤)
             (FailsAtMedium (length self.now.runs)) }
         ensures later { IsLater B.moment bench.old bench.new }
@@ -38,10 +39,15 @@ impl<'a> Consolidation<'a> {
         }
     }
 
-    /// Makes each medium at its full length: its header, and zeros in the place of all samples. It takes no memory.
+    /// Preallocates the media in order: each with its header and zeros in place of all samples. If one fails, the media
+    /// before it are preallocated and those after it are unchanged. Allocates no memory.
     pub(crate) fn lay_out_outputs<B: Bench>(&self, bench: &mut B) -> Result<(), OutputFault>
         ensures laid { IsTrue (B.honest bench.old) → OnOk result ((k : ℕ) → k < length self.now.runs
             → IsLaidOut self.now (B.stored bench.new) k) }
+        ensures before { IsTrue (B.honest bench.old) → IfErr result (λ fault. (k : ℕ) → k < fault.file
+            → IsLaidOut self.now (B.stored bench.new) k) }
+        ensures after { IsTrue (B.honest bench.old)
+            → IfErr result (λ fault. AreKeptFrom self.now (fault.file + 1) (B.stored bench.old) (B.stored bench.new)) }
         ensures only_writes { OnlyWrites B.Bench (IsNoMedium (length self.now.runs)) bench.old bench.new result (λ _. ⊤)
             (FailsAtMedium (length self.now.runs)) }
         ensures later { IsLater B.moment bench.old bench.new }

@@ -1,5 +1,5 @@
 -- A work that is laid out, done and finished.
-use Rattle.std.proofs.Common.{◌≡◌, ◌∙◌, ℕ, ◌<◌, Bool, true, false, IsTrue, Option, Some, None, Result, Ok, Err, List, length, take, refl, sym, ap, subst, inl, inr, arith}
+use Rattle.std.proofs.Common.{◌≡◌, ◌∙◌, ℕ, ◌<◌, ◌≤◌, Bool, true, false, IsTrue, Option, Some, None, Result, Ok, Err, List, length, take, refl, sym, ap, subst, inl, inr, arith}
 use Rattle.work_terms.specs.Disk.{Files}
 use Rattle.devices.specs.Views.{CrashesLeave, OutputView, SourceView, Writes}
 use Rattle.devices.specs.ViewLaws.{crashes_then, crashes_weaker, reads_none, writes_then, writes_wider}
@@ -28,6 +28,12 @@ use Rattle.execution.proofs.Sound.{laws-kept, leads-good, leads-keeps}
 -- what stays of the work is foreign to it
 foreign : (p : JobPlan) {old new : OutputView} → Writes (Stays p) old new → Writes (IsForeign p) old new
 foreign p writes = writes_wider (Stays p) (IsForeign p) (λ n f. f.stays) writes
+
+-- a failure since a later moment is one since an earlier one
+fails-since : (p : JobPlan) (o o1 o2 : OutputView) (file : ℕ) → o.failures ≤ o1.failures → OutputFails p file o1 o2
+    → OutputFails p file o o2
+fails-since p o o1 o2 file later h =
+    record { rose = rises-after _ _ _ later h.rose; failed = h.failed }
 
 -- ---- events on outputs as they are
 
@@ -180,10 +186,7 @@ module _ {in_rounds : Bool} {events : List BoardEvent} {p p2 : JobPlan} {board b
           size = h.ran.kept.size;
           source = h.ran.kept.source;
           output = writes_then {mid = o2} (foreign p h.ran.kept.output) (rw h.ran.kept.plan at writes);
-          failed = record {
-            rose = rises-after _ _ _ h.ran.kept.output.later failed.rose;
-            failed = failed.failed;
-          };
+          failed = fails-since p o o2 o3 f.file h.ran.kept.output.later failed;
           order = λ whole i last stays before. fin.in_order (on whole) i last before
               ∙ h.ran.kept.output.others whole (p.output i) stays;
           durable = λ whole ended. absurd ended;
@@ -191,7 +194,7 @@ module _ {in_rounds : Bool} {events : List BoardEvent} {p p2 : JobPlan} {board b
         outcome = λ honest whole fit separate resting. NotFinished f.file h.stale o2.failures o2.files
             (whole-done finished honest whole fit separate resting) (reported ∙ finished) refl (fin.stays (on whole))
             (fin.before (on whole) s.files ((whole-done finished honest whole fit separate resting).complete
-            (reported ∙ finished))) failed.rose
+            (reported ∙ finished))) failed.rose (fails-since p o o2 o3 f.file h.ran.kept.output.later failed)
             (fin.marks (on whole) s.files (done_of board2) (events-marked h size honest whole resting.marked).now);
         moments = λ honest whole marked. moments-on o3 (Err f) fin honest whole marked;
       }
@@ -237,7 +240,14 @@ not-laid {p = p} {board = board} {s = s} same f lay writes failed un = record {
     order = λ whole i last stays before. writes.others whole (p.output i) stays;
     durable = λ whole ended. absurd ended;
   };
-  outcome = λ honest whole fit separate fresh. NotLaidOut f.file un refl refl refl writes (lay.left whole s.files);
+  outcome = λ honest whole fit separate fresh. NotLaidOut f.file un refl refl refl writes (lay.left whole s.files)
+      (record {
+        at = failed;
+        early = lay.early;
+        before = lay.before whole s.files fit;
+        after = λ still. lay.after whole;
+        blank = lay.blank whole s.files fit;
+      });
   moments = λ honest whole fresh. crashes_weaker _ _ (lays-sets (p.marking s.files) (done_of board))
       (lay.any_moment whole s.files fresh.unstarted);
 }
@@ -267,11 +277,12 @@ module _ {events : List BoardEvent} {p : JobPlan} {board : Board} {s : SourceVie
       → Outcome (λ laid. laid ≡ o1.files) events (snapshot_of p board 0 s o1) had c ⊥ result
       → Outcome (AreBlank (jobs_over p.jobs s.files) (p.whole s.files)) events (snapshot_of p board 0 s o) had c
       untouched result
-  outcome-since lay (NotLaidOut file un is same quiet writes laid) = absurd un
+  outcome-since lay (NotLaidOut file un is same quiet writes laid layout) = absurd un
   outcome-since lay (Stopped stale count did stops writes runs) =
       Stopped stale count (since did) stops (writes_then {mid = o1} lay writes) runs
-  outcome-since lay (NotFinished file stale failures files did all is own before rose runs) =
-      NotFinished file stale failures files (since did) all is own before rose runs
+  outcome-since lay (NotFinished file stale failures files did all is own before rose at runs) =
+      NotFinished file stale failures files (since did) all is own before rose (fails-since p o o1 _ file lay.later at)
+      runs
   outcome-since lay (Finished stale files did all is own last durable runs) =
       Finished stale files (since did) all is own last durable runs
 
@@ -280,7 +291,7 @@ has-failed-since : (p : JobPlan) (o o1 o2 : OutputView) (result : Result Progres
     → Writes (Stays p) o o1 → HasFailed p o1 o2 result → HasFailed p o o2 result
 has-failed-since p o o1 o2 (Err fault.Mark) lay h = mark-since p o o1 o2 lay.later h
 has-failed-since p o o1 o2 (Err (fault.Output file)) lay h =
-    record { rose = rises-after _ _ _ lay.later h.rose; failed = h.failed }
+    fails-since p o o1 o2 file lay.later h
 has-failed-since p o o1 o2 _ lay h = tt
 
 -- laid out, and then done

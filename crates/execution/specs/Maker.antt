@@ -4,7 +4,7 @@ use Rattle.work_terms.specs.Disk.{Files, IsDurable}
 use Rattle.devices.specs.Views.{CrashesLeave, OutputView}
 use Rattle.job_terms.specs.Workers.{jobs_over}
 use Rattle.execution.specs.Marking.{AreLeftBy, IsRunningBy, LaysBy, LeavesBy, Marking, NoneStartedBy}
-use Rattle.execution.specs.Plan.{AreBlank, AreDurable, HoldBefore, HoldJobs, HoldLast, IsLast, IsOwn, JobPlan, SourcesFit}
+use Rattle.execution.specs.Plan.{AreBlank, AreBlankBefore, AreDurable, AreKeptAfter, HoldBefore, HoldJobs, HoldLast, IsLast, IsOwn, JobPlan, SourcesFit, StartBlankBy}
 use Rattle.execution.specs.declared.fault.OutputFault.{OutputFault}
 
 -- each output of a job is laid out, and its marks are fresh; where no outcome had marks that are started, a crash leaves
@@ -18,6 +18,16 @@ pub record LaysOut (plan : JobPlan) (old new : OutputView) (result : Result (Uni
       → CrashesLeave (LaysBy (plan.marking sources)) old new
   pub left : IsTrue old.honest → (sources : Files) → NoneStartedBy (plan.marking sources) old.may_leave
       → OnErr result (AreLeftBy (plan.marking sources) new.may_leave)
+  -- outputs are laid out in the order of their numbers, and those that come last aren't
+  pub early : IfErr result (λ fault. fault.file < plan.last)
+  pub before : IsTrue old.honest → (sources : Files) → SourcesFit plan sources
+      → IfErr result (λ fault. AreBlankBefore plan sources fault.file new.files)
+  pub after : IsTrue old.honest → IfErr result (λ fault. AreKeptAfter plan fault.file old.files new.files)
+  -- marks are started once all else is laid out
+  pub blank : IsTrue old.honest → (sources : Files) → SourcesFit plan sources
+      → NoneStartedBy (plan.marking sources) old.may_leave
+      → OnErr result (StartBlankBy (plan.marking sources) (jobs_over plan.jobs sources) (plan.whole sources)
+      new.may_leave)
 
 -- the outputs of jobs and the marks stay as they are, and become durable; what comes last is written in its order, once
 -- the jobs' outputs hold their bytes

@@ -12,7 +12,7 @@ use Rattle.execution.specs.EventRun.{MarkFails, Snapshot, jobs_of, marking_of}
 use Rattle.execution.specs.Filled.{AreApart, AreFilled}
 use Rattle.execution.specs.Laws.{KeepsLaws}
 use Rattle.execution.specs.Marking.{AreLeftBy, IsRunningBy, Leaves, LeavesBy, Marking, NoneStartedBy, RunsOn, done_of, is_started, settled}
-use Rattle.execution.specs.Plan.{AreBlank, AreDurable, HoldBefore, HoldJobs, HoldLast, IsAt, IsForeign, IsLast, IsOwn, JobPlan, SourcesFit, Stays}
+use Rattle.execution.specs.Plan.{AreBlank, AreBlankBefore, AreDurable, AreKeptAfter, HoldBefore, HoldJobs, HoldLast, IsAt, IsForeign, IsLast, IsOwn, JobPlan, SourcesFit, StartBlankBy, Stays}
 use Rattle.execution.specs.Worlds.{Leads, state_of}
 use Rattle.execution.specs.declared.fault.ExecutionFault.{ExecutionFault}
 use Rattle.execution.specs.declared.fault.ExecutionFault.TheVariants as fault
@@ -21,7 +21,7 @@ use Rattle.execution.specs.declared.fault.ExecutionFault.TheVariants as fault
 abbrev pub whole_of : Snapshot → List ℕ → List ℕ
 whole_of snapshot = snapshot.plan.whole snapshot.source.files
 
--- the device failed at the output of this number
+-- The device failed at the output of this number.
 pub record OutputFails (plan : JobPlan) (file : ℕ) (old new : OutputView) : Type 0 where
   pub rose : Rises old.failures new.failures
   pub failed : IsAt plan file new.failed_at
@@ -86,6 +86,16 @@ StopsWith events count board stale (Ok progress) =
     (progress ≡ progress_of board stale) × (is_finished board ≡ false) × (count ≡ length events)
 StopsWith events count board stale (Err fault) = StopsBefore events count fault
 
+-- A layout that failed at the output of this number: those before it are laid out, those after it are unchanged, and
+-- marks that are started have none set, over outputs that are laid out.
+pub record IsFailedLayout (old : Snapshot) (new : OutputView) (file : ℕ) : Type 0 where
+  pub at : OutputFails old.plan file old.output new
+  pub early : file < old.plan.last
+  pub before : AreBlankBefore old.plan old.source.files file new.files
+  pub after : IsTrue old.output.honest → AreKeptAfter old.plan file old.output.files new.files
+  pub blank : NoneStartedBy (marking_of old) old.output.may_leave
+      → StartBlankBy (marking_of old) (jobs_of old) (whole_of old) new.may_leave
+
 -- The result of a run, by where it ended: before the first job, with the sources untouched; at one of the events (a
 -- third fault, a mark that failed, no memory) or after all of them with jobs left; or after all events with every job
 -- done, when an output of the last ones failed, or none did.
@@ -94,6 +104,7 @@ pub data Outcome (Begins : Files → Type 0) (events : List BoardEvent) (old : S
   NotLaidOut : (file : ℕ) → untouched → result ≡ Err (fault.Output file) → new.board ≡ old.board
       → new.source.failures ≡ old.source.failures → Writes (Stays old.plan) old.output new.output
       → (NoneStartedBy (marking_of old) old.output.may_leave → AreLeftBy (marking_of old) new.output.may_leave)
+      → IsFailedLayout old new.output file
       → Outcome Begins events old had new untouched result
   Stopped : (stale count : ℕ) → EventsDone Begins events old had new.board new.output.files new.source.failures
       new.output.failures stale count (end_of result)
@@ -104,6 +115,7 @@ pub data Outcome (Begins : Files → Type 0) (events : List BoardEvent) (old : S
       new.source.failures failures stale (length events) None → is_finished new.board ≡ true → result ≡ Err (fault.Output file)
       → ((n : List ℕ) → IsOwn old.plan n → new.output.files n ≡ files n)
       → HoldBefore old.plan file old.source.files new.output.files → Rises failures new.output.failures
+      → OutputFails old.plan file old.output new.output
       → IsRunningBy (marking_of old) (done_of new.board) new.output
       → Outcome Begins events old had new untouched result
   Finished : (stale : ℕ) (files : Files) → EventsDone Begins events old had new.board files

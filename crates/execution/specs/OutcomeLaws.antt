@@ -22,10 +22,10 @@ pub finished_all : {Begins : Files → Type 0} {events : List BoardEvent} {old n
     → (is_finished new.board ≡ true) × HoldJobs old.plan old.source.files new.output.files
     × HoldLast old.plan old.source.files new.output.files
     × IsRunningBy (marking_of old) (done_of new.board) new.output
-finished_all (NotLaidOut file un is same quiet writes laid) done = absurd (cc)
+finished_all (NotLaidOut file un is same quiet writes laid layout) done = absurd (cc)
 finished_all (Stopped stale count did stops writes runs) done =
     absurd (false≢true (sym stops.1 ∙ (rw stops.0 at done)))
-finished_all (NotFinished file stale failures files did all is own before rose runs) done = absurd (cc)
+finished_all (NotFinished file stale failures files did all is own before rose at runs) done = absurd (cc)
 finished_all {old = old} (Finished stale files did all is own last durable runs) done =
     (all, λ k lt. own (old.plan.jobs.name k) (OfJob k lt refl) ∙ did.complete all k lt, last, runs)
 
@@ -38,13 +38,13 @@ pub leaves_marks : (Begins : Files → Type 0) (events : List BoardEvent) (old :
     (new : Snapshot) (untouched : Type 0) (result : Result Progress ExecutionFault)
     → Outcome Begins events old had new untouched result
     → (untouched → NoneStartedBy (marking_of old) old.output.may_leave) → AreLeftBy (marking_of old) new.output.may_leave
-leaves_marks Begins events old had new untouched result (NotLaidOut file un is same quiet writes laid) none =
+leaves_marks Begins events old had new untouched result (NotLaidOut file un is same quiet writes laid layout) none =
     laid (none un)
 leaves_marks Begins events old had new untouched result (Stopped stale count did stops writes runs) none =
     left_of_all (marking_of old) new.output.may_leave
     (runs_true (end_of result) (marking_of old) (done_of new.board) new.output runs)
 leaves_marks Begins events old had new untouched result (NotFinished file stale failures files did all is own before
-    rose runs) none = left_of_all (marking_of old) new.output.may_leave
+    rose at runs) none = left_of_all (marking_of old) new.output.may_leave
     (running_true (marking_of old) (done_of new.board) new.output runs)
 leaves_marks Begins events old had new untouched result (Finished stale files did all is own last durable runs)
     none = left_of_all (marking_of old) new.output.may_leave

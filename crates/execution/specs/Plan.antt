@@ -1,9 +1,9 @@
 -- What a work is to do.
-use Rattle.std.specs.Prelude.{◌≡◌, ◌≢◌, ℕ, ◌+◌, ◌<◌, ◌≤◌, Bool, Option, Some, List, length, slice_index_or}
+use Rattle.std.specs.Prelude.{◌≡◌, ◌≢◌, ℕ, ◌+◌, ◌<◌, ◌≤◌, Bool, false, true, Option, None, Some, List, length, slice_index_or, ⊤}
 use Rattle.work_terms.specs.Disk.{Files, IsDurable}
 use Rattle.job_terms.specs.Workers.{Jobs, JobsBy, jobs_over}
 use Rattle.execution.specs.Filled.{AreParts}
-use Rattle.execution.specs.Marking.{Marking}
+use Rattle.execution.specs.Marking.{Leaves, Marking, is_started}
 
 -- its jobs, the first of those that are marked together with each, whether jobs that are done get marks, the marks and
 -- all bytes of each output by what the sources hold; and the names of its outputs by number, of which those from `last`
@@ -75,6 +75,25 @@ HoldBefore plan file sources files =
 pub record AreDurable (plan : JobPlan) (files : Files) (may_leave : Files → Type 0) : Type 0 where
   pub jobs : (k : ℕ) → k < plan.jobs.count → IsDurable (plan.jobs.name k) files may_leave
   pub last : (i : ℕ) → IsLast plan i → IsDurable (plan.output i) files may_leave
+
+-- each output of a job with a number below `file` is laid out
+abbrev pub AreBlankBefore : JobPlan → Files → ℕ → Files → Type 0
+AreBlankBefore plan sources file files =
+    (k i : ℕ) → k < plan.jobs.count → i < file → plan.output i ≡ plan.jobs.name k
+    → IsBlank (jobs_over plan.jobs sources) (plan.jobs.name k) (plan.whole sources (plan.jobs.name k))
+    (files (plan.jobs.name k))
+
+-- each output with a number above `file` is as it was
+abbrev pub AreKeptAfter : JobPlan → ℕ → Files → Files → Type 0
+AreKeptAfter plan file old new =
+    (i : ℕ) → file < i → i < plan.outputs → new (plan.output i) ≡ old (plan.output i)
+
+-- In each outcome of a crash, marks that are started are this run's, none of them is set, and each output of a job is
+-- laid out.
+abbrev pub StartBlankBy : Option Marking → Jobs → (List ℕ → List ℕ) → (Files → Type 0) → Type 0
+StartBlankBy None jobs whole outcomes = ⊤
+StartBlankBy (Some m) jobs whole outcomes = (c : Files) → outcomes c → is_started (c m.marks) ≡ true
+    → Leaves m (λ _. false) (λ _. false) c × AreBlank jobs whole c
 
 -- the device failed at the output of this number
 abbrev pub IsAt : JobPlan → ℕ → (List ℕ → Type 0) → Type 0

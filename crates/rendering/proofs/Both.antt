@@ -1,7 +1,7 @@
 -- A marked rendering's two files: laid out, and synced.
 use Rattle.std.proofs.Common.{◌≡◌, ◌∙◌, ◌<◌, ℕ, Bool, IsTrue, true, false, Some, ap, length, refl, sym, arith}
-use Rattle.std.specs.Prelude.{◌≢◌, ⊤, Result, Err, OnOk}
-use Rattle.std.proofs.lemmas.Result.{MatchResult-weaker, on_ok_weaker}
+use Rattle.std.specs.Prelude.{◌≢◌, ⊤, Result, Err, IfErr, OnOk}
+use Rattle.std.proofs.lemmas.Result.{IfErr-weaker, MatchResult-weaker, on_ok_weaker}
 use Rattle.std.proofs.lemmas.Option.{same_Some}
 use Rattle.work_terms.specs.Disk.{Files, IsBeside, IsDurable, IsUntouched, LeavesOnly, LeavesOthers}
 use Rattle.devices.specs.Views.{output_view}
@@ -38,12 +38,18 @@ module _ {B : Type 0} (g : Ghosts B) (marked : MarkedWork) {old mid : B}
   lays_sound sources none c is started = absurd (cc (started, unstarted none c is))
 
   -- it couldn't be
-  pub lays_none : (fault : OutputFault) → LaysOut (plan_of marked) (output_view g old) (output_view g mid) (Err fault)
-  lays_none fault = record {
+  pub lays_none : (fault : OutputFault) → fault.file ≡ 0
+      → (IsTrue (g.honest old) → g.stored mid marks_name ≡ g.stored old marks_name)
+      → LaysOut (plan_of marked) (output_view g old) (output_view g mid) (Err fault)
+  lays_none fault first others = record {
     laid = λ honest sources fit. tt;
     marks = λ honest sources done none. tt;
     any_moment = λ honest sources none. leaves_as g (lays_sound sources none) beside.moments;
     left = λ honest sources none c d at other started. absurd (cc (started, unstarted none c (beside.now c at)));
+    early = omega (arith, first);
+    before = λ honest sources fit k i lt below same. absurd (omega (arith, below, first));
+    after = λ honest i past inside. let is : i ≡ 1 = omega (arith, past, inside, first) in rw is (others honest);
+    blank = λ honest sources fit none c at started. absurd (cc (started, unstarted none c (beside.now c at)));
   }
 
   -- ---- and then its marks are begun
@@ -120,9 +126,9 @@ module _ {B : Type 0} (g : Ghosts B) (marked : MarkedWork) {old mid : B}
       → (IsTrue (g.honest mid) → OnOk result (Holds g (fresh_marks marked.run) new))
       → (IsTrue (g.honest mid) → NoneStarted (g.may_leave mid) → LeavesOnly g.moment g.left_since mid new Begins)
       → (IsTrue (g.honest mid) → NoneStarted (g.may_leave mid) → (c : Files) → g.may_leave new c → Begins c)
-      → Wrote g (λ n. n ≢ marks_name) mid new quiet device failed
+      → Wrote g (λ n. n ≢ marks_name) mid new quiet device failed → IfErr result (λ fault. fault.file ≡ 1)
       → LaysOut (plan_of marked) (output_view g old) (output_view g new) result
-  lays_both {new} result is laid durable same fresh started moments crash w = record {
+  lays_both {new} result is laid durable same fresh started moments crash w second = record {
     laid = λ honest sources fit. on_ok_weaker result (λ _. laid_blank marked sources is.work (g.stored new)
         (w.others (on honest) sound_name names_apart ∙ laid honest)) (started (on honest));
     marks = λ honest sources done none. on_ok_weaker result
@@ -135,6 +141,18 @@ module _ {B : Type 0} (g : Ghosts B) (marked : MarkedWork) {old mid : B}
     left = λ honest sources none. MatchResult-weaker result (started (on honest)) (λ _ _. tt)
         (λ _ _. left_begun sources is fresh (laid honest) (durable honest) (g.may_leave new)
         (crash (on honest) (none_begun none)));
+    early = IfErr-weaker result _ _ (λ fault at. omega (arith, at)) second;
+    before = λ honest sources fit. IfErr-weaker result _ _ (λ fault at k i lt below same.
+        (laid_blank marked sources is.work (g.stored new) (w.others (on honest) sound_name names_apart ∙ laid honest)).each
+        k lt) second;
+    after = λ honest. IfErr-weaker result _ _ (λ fault at i past inside. absurd (omega (arith, past, inside, at)))
+        second;
+    blank = λ honest sources fit none. MatchResult-weaker result (started (on honest)) (λ _ _. tt)
+        (λ _ _ c at starts. let left = crash (on honest) (none_begun none) c at in (
+          lays_begun sources is fresh (laid honest) (durable honest) c left starts,
+          laid_blank marked sources is.work c (sound_same sources is fresh (laid honest) (durable honest) c left
+              ∙ laid honest),
+        ));
   }
     where
       on : IsTrue (g.honest old) → IsTrue (g.honest mid)

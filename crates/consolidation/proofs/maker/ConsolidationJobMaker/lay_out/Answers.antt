@@ -1,7 +1,7 @@
 use Rattle.std.proofs.Common.{rules}
 use Rattle.std.proofs.lemmas.Result.{IfErr-weaker, on_ok_weaker}
-use Rattle.consolidation.proofs.Blanks.{are_blank_outputs}
-use Rattle.consolidation.proofs.Numbers.{at_medium, no_medium}
+use Rattle.consolidation.proofs.Blanks.{are_blank_outputs, media_before}
+use Rattle.consolidation.proofs.Numbers.{at_medium, media_after, media_early, no_medium}
 use Rattle.consolidation.proofs.Writes.{wider}
 use Rattle.consolidation.proofs.maker.ConsolidationJobMaker.lay_out.Goals as goal
 
@@ -13,6 +13,13 @@ returns-clause-lays_out g c = record {
   marks = search rules;
   any_moment = search rules;
   left = search rules;
+  early = media_early c.args.self.now c.lay_out_outputs.ensures.planned c.lay_out_outputs.result c.lay_out_outputs.ensures.only_writes.failed_there;
+  before = λ honest sources fit. media_before c.args.self.now c.lay_out_outputs.ensures.planned sources fit
+      c.lay_out_outputs.result c.lay_out_outputs.ensures.only_writes.failed_there
+      (c.lay_out_outputs.ensures.before honest);
+  after = λ honest. media_after c.args.self.now c.lay_out_outputs.ensures.planned c.lay_out_outputs.result _ _
+      (c.lay_out_outputs.ensures.only_writes.others honest) (c.lay_out_outputs.ensures.after honest);
+  blank = search rules;
 }
 
 pub returns-clause-only_writes : goal.returns-clause-only_writes

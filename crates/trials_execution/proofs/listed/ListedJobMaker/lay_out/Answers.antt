@@ -1,4 +1,4 @@
-use Rattle.std.proofs.Common.{◌≢◌, IsTrue, codes, sym, subst, arith, rules}
+use Rattle.std.proofs.Common.{◌≡◌, ◌≢◌, ◌∙◌, IsTrue, codes, sym, subst, arith, rules}
 use Rattle.execution.specs.Plan.{Stays}
 use Rattle.trials_execution.specs.Listed.{plan_of}
 use Rattle.trials_execution.proofs.Outs.{blank-out, both, no-out, wider}
@@ -28,4 +28,38 @@ returns-in-Ok-append-clause-lays_out g c = record {
   marks = search rules;
   any_moment = search rules;
   left = search rules;
+  early = search rules;
+  before = search rules;
+  after = search rules;
+  blank = search rules;
+}
+
+pub returns-in-Err-clause-lays_out : goal.returns-in-Err-clause-lays_out
+returns-in-Err-clause-lays_out g c = record {
+  laid = search rules;
+  marks = search rules;
+  any_moment = search rules;
+  left = search rules;
+  early = omega arith;
+  before = λ honest sources fit k i below under same. absurd (omega (arith, under));
+  after = λ honest i past inside.
+      let is : i ≡ 1 = omega (arith, past, inside) in
+      rw is (c.in-Err.ensures.only_writes.others honest (codes "list") (λ e. cc));
+  blank = search rules;
+}
+
+pub returns-in-Err-append-clause-lays_out : goal.returns-in-Err-append-clause-lays_out
+returns-in-Err-append-clause-lays_out g c = record {
+  laid = search rules;
+  marks = search rules;
+  any_moment = search rules;
+  left = search rules;
+  early = omega arith;
+  before = λ honest sources fit k i below under same. absurd (omega (arith, under));
+  after = λ honest i past inside.
+      let is : i ≡ 1 = omega (arith, past, inside) in
+      let still = subst IsTrue (sym c.in-Ok.ensures.only_writes.honest_same) honest in
+      rw is (c.in-Err-append.ensures.only_writes.others still (codes "list") (λ e. cc)
+      ∙ c.in-Ok.ensures.only_writes.others honest (codes "list") (λ e. cc));
+  blank = search rules;
 }
