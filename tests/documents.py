@@ -156,9 +156,11 @@ def synopsis(scene: Scene) -> None:
     are named below."""
     text = (TOP / "README.md").read_text()
     common = re.findall(r"--[a-z]+", re.search(r"All but `explain` and `help` also take ([^.]*)\.", text)[1])
-    options = {command: sorted(set(told)) for command, told in helped(scene).items() if command != "explain"}
-    same("the options of each command",
-         {command: sorted({*told, *common}) for command, told in synopses(text).items()}, options)
+    options = {command: told for command, told in helped(scene).items() if command not in ("explain", "help")}
+    told = synopses(text)
+    same("the commands over a list", list(told), list(options))
+    for command, named in options.items():
+        same(f"the options of {command}", sorted({*told[command], *common}), sorted(set(named)))
 
 
 @case("the man page")
