@@ -1,5 +1,6 @@
 """What the documents say of the program: transcripts, examples, options, and the files that they name."""
 
+import hashlib
 import os
 import re
 import shlex
@@ -7,9 +8,11 @@ import shutil
 import subprocess
 import sys
 from functools import lru_cache
+from itertools import zip_longest
 from pathlib import Path
 
 import citing
+import interface
 from harness import LIST, MEDIA, OUT, Cases, Mismatch, Scene, Skipped, same, same_bytes
 from tables import CHANGELOG, FIRST_LIST, VERSION, wave
 
@@ -23,6 +26,8 @@ PAGES = (TOP / "README.md", TOP / "CHANGELOG.md", *sorted(DOCS.glob("*.md")), *s
 TIMEOUT = 60
 # Pages of what was measured, some of it of other versions.
 MEASURED = ("CHANGELOG.md", "FIGURES.md", "PERFORMANCE.md", "HISTORY.md")
+# The version before interfaces were written out.
+FIRST_VERSION = "1.0.0"
 # How pages write a time of a list. It isn't the name of a file.
 TIME_FORM = "hh.mm.ss.ff/rrrr"
 
@@ -194,6 +199,26 @@ def version(scene: Scene) -> None:
     dated = re.search(r"^## \[(\S+)\] - (\S+)$", CHANGELOG.read_text(), re.M)
     same("the first line of the man page", (SHARE / "adlcons.1").read_text().partition("\n")[0],
          f'.TH ADLCONS 1 {dated[2]} "adlcons {dated[1]}"')
+
+
+@case("the interface of the version")
+def interface_of_version(scene: Scene) -> None:
+    """What tests/interface.py writes of the program is the file of its version. The file of each version that has a date
+    is the one of which CHANGELOG.md has the SHA-256. So a changed interface needs a new version in CHANGELOG.md and in
+    the program; tests/interface.py writes its file."""
+    pinned = {}
+    for head in re.split(r"(?m)^## ", CHANGELOG.read_text())[1:]:
+        name, date = re.match(r"\[(\S+)\] - (\S+)\n", head).groups()
+        digest = re.search(r"^Interface: `docs/interface/(\S+)\.txt`, SHA-256 `([0-9a-f]{64})`$", head, re.M)
+        if re.fullmatch(r"\d{4}-\d\d-\d\d", date) and name != FIRST_VERSION:
+            same(f"whether CHANGELOG.md has the SHA-256 of the interface of {name}", digest and digest[1], name)
+            pinned[name] = digest[2]
+    files = {path.stem: hashlib.sha256(path.read_bytes()).hexdigest() for path in interface.FOLDER.glob("*.txt")}
+    same("the interfaces of versions that have a date", {name: files.get(name) for name in pinned}, pinned)
+    same("the versions that have an interface", sorted({*files, VERSION}), sorted({*pinned, VERSION}))
+    current = (interface.FOLDER / f"{VERSION}.txt").read_text().splitlines()
+    for told, wanted in zip_longest(interface.interface_of(scene).splitlines(), current):
+        same(f"a line of the interface of {VERSION} (see tests/interface.py)", told, wanted)
 
 
 @case("man shows the page")
