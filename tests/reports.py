@@ -13,7 +13,7 @@ import model
 from examples import EXAMPLES, media_of_examples, text_of
 from harness import LIST, MEDIA, ROOM, Mismatch, Scene, Skipped, Suite, same, words_of
 from model.binding import bind, faults_of_entries, faults_of_files
-from model.refusal import Refused
+from model.refusal import Refused, is_unseen
 from tables import FIRST_LIST, bext_chunk, data_chunk, format_chunk, riff_file, wave
 
 SCHEMA = Path(__file__).resolve().parent.parent / "docs/report.schema.json"
@@ -36,8 +36,9 @@ def in_order(value):
 
 
 def line_of(report: dict) -> str:
-    """A line, without a space, with its names in order."""
-    return json.dumps(in_order(report), ensure_ascii=False, separators=(",", ":")) + "\n"
+    """Returns a report as a line without a space, with its names in order and each invisible character escaped."""
+    text = json.dumps(in_order(report), ensure_ascii=False, separators=(",", ":"))
+    return "".join(json.dumps(each)[1:-1] if is_unseen(each) else each for each in text) + "\n"
 
 
 def reported(scene: Scene, status: int) -> dict:
@@ -250,9 +251,14 @@ def base_past_the_day(scene: Scene) -> None:
     same("the base", report["indexes"][0]["base"], first)
 
 
+# Controls, format characters, fillers and blanks, of which each UTF-8 length has one.
+INVISIBLE = "\x7f\u0080\u009b\u009f\u00ad\u0600\u200b\u200d\u202e\u2066\u2029\u2800\u3164\ufeff\U0001d173\U000e0001\U000e0fff"
+
+
 def unprintable_names(scene: Scene) -> None:
-    """A name of a file with each character that JSON has to escape, in a report that is accepted and in one that isn't."""
-    name = "".join(chr(code) for code in range(1, 0x30) if chr(code) != "/") + "\\é\u2028.wav"
+    """A name of a file with each character that JSON has to escape, and with invisible ones, which are escaped too, in a
+    report that is accepted and in one that isn't."""
+    name = "".join(chr(code) for code in range(1, 0x30) if chr(code) != "/") + "\\é\u2028" + INVISIBLE + "日\U0001f3b5.wav"
     text = model.list_text([model.source_line(1, quote(name), b"_")], [entry(1, 1, 0, 4)])
     scene.put(text, {name: wave()})
     for status in (0, 1):
@@ -261,6 +267,20 @@ def unprintable_names(scene: Scene) -> None:
         report = reported(scene, status)
         (told,) = report["indexes" if status == 0 else "faults"]
         same("the name", told["file"], name)
+
+
+def invisible_texts(scene: Scene) -> None:
+    """Invisible characters in a line of the list are escaped in what explains its fault and in what isn't honoured."""
+    comment = f'"{INVISIBLE.removeprefix(chr(0x7F))}"'
+    lines = FIRST_LIST.splitlines(keepends=True)
+    gain = f"(Gain) _ _ -3.00 {comment}"
+    scene.put(b"".join((*lines[:10], f"{gain}\n".encode(), *lines[10:])), {"A.wav": wave()})
+    (fault,) = reported(scene, 1)["faults"]
+    same("the line at fault", fault["explained"]["text"], gain)
+    lines[9] = lines[9].rstrip(b"\n") + f" {comment} (Mute)\n".encode()
+    scene.put(b"".join(lines), {"A.wav": wave()})
+    (passed,) = reported(scene, 0)["not_honoured"]
+    same("what isn't honoured", passed["words"], f"{comment} (Mute)")
 
 
 # Long reports
@@ -355,6 +375,7 @@ def run(suite: Suite) -> None:
             FIRST_LIST.replace(part, other), {"A.wav": wave()}, lambda *_: [], is_complete=False))
     suite.case("the report of a file that begins past the day", base_past_the_day)
     suite.case("the report of a name that JSON escapes", unprintable_names)
+    suite.case("the report of invisible characters in the list", invisible_texts)
     for name, (text, status, objects) in long_lists().items():
         suite.case(f"the report of ten megabytes of {name}", long_report(text, status, objects))
     suite.case("the report of a list that isn't there", unread)

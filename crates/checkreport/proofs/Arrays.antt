@@ -4,7 +4,7 @@ use Rattle.console.specs.Printing.{Prints}
 use Rattle.console.specs.PrintingLaws.{prints_more}
 use Rattle.console.specs.declared.console.Console.{Ghosts}
 use Rattle.serde_json.specs.Data.{Data}
-use Rattle.serde_json.specs.Written.{compact_text}
+use Rattle.checkreport.specs.Printed.{printed_text}
 use Rattle.opening.specs.declared.fault.Fault.{Fault}
 use Rattle.checkreport.specs.Parts.{after_commas, fault_text, refused_end, refused_front}
 use Rattle.checkreport.specs.Report.{ExplainedFault, faults_of}
@@ -51,8 +51,8 @@ refused_printed out first AreThese explained further media_error are_all {old = 
 
 -- a fault after a text
 pub fault_printed : {O : Type 0} (out : Ghosts O) (text : ExplainedFault → List ℕ) (fault : Fault) (explained value : Data)
-    {before : List ℕ} {old mid new : O} → before ++ compact_text value ≡ text (record { fault = fault; explained = explained })
-    → Prints out.contents out.failures old mid before → Prints out.contents out.failures mid new (compact_text value)
+    {before : List ℕ} {old mid new : O} → before ++ printed_text value ≡ text (record { fault = fault; explained = explained })
+    → Prints out.contents out.failures old mid before → Prints out.contents out.failures mid new (printed_text value)
     → (told : Data) × Prints out.contents out.failures old new (text (record { fault = fault; explained = told }))
 fault_printed out text fault explained value {old = old} {new = new} is front own = (
   explained,

@@ -6,7 +6,8 @@ use Rattle.std.specs.List.{list_any}
 use Rattle.json.specs.Print.{escape_byte, quoted}
 use Rattle.serde_json.specs.Data.{Data, boolean, null}
 use Rattle.serde_json.specs.View.{items_of}
-use Rattle.serde_json.specs.Written.{comma_if, compact_text, items_text, members_text}
+use Rattle.serde_json.specs.Written.{comma_if}
+use Rattle.checkreport.specs.Printed.{printed_items, printed_members, printed_string, printed_text}
 use Rattle.sound_terms.specs.declared.BoundIndex.{BoundIndex}
 use Rattle.sound_terms.specs.Depth.{bits_of}
 use Rattle.sound_terms.specs.Sounds.{SoundFacts}
@@ -27,28 +28,28 @@ empty (x ∷ xs) none = absurd (omega (arith, none))
 
 -- values after commas, and the end of the array
 further : {X : Type 0} (told : X → Data) (xs : List X)
-    → after_commas (λ x. compact_text (told x)) xs ++ 93 ∷ [] ≡ items_text true (items_of (map told xs))
+    → after_commas (λ x. printed_text (told x)) xs ++ 93 ∷ [] ≡ printed_items true (items_of (map told xs))
 further told [] = refl
 further told (x ∷ xs) =
     ap (λ (text : List ℕ). 44 ∷ text)
-    (append_assoc (compact_text (told x)) (after_commas (λ x. compact_text (told x)) xs) (93 ∷ [])
-    ∙ ap (λ (text : List ℕ). compact_text (told x) ++ text) (further told xs))
+    (append_assoc (printed_text (told x)) (after_commas (λ x. printed_text (told x)) xs) (93 ∷ [])
+    ∙ ap (λ (text : List ℕ). printed_text (told x) ++ text) (further told xs))
 
 -- an array from its first element on
 array_of : {X : Type 0} (told : X → Data) (x : X) (xs : List X)
-    → compact_text (told x) ++ (after_commas (λ x. compact_text (told x)) xs ++ 93 ∷ [])
-    ≡ items_text false (items_of (map told (x ∷ xs)))
-array_of told x xs = ap (λ (text : List ℕ). compact_text (told x) ++ text) (further told xs)
+    → printed_text (told x) ++ (after_commas (λ x. printed_text (told x)) xs ++ 93 ∷ [])
+    ≡ printed_items false (items_of (map told (x ∷ xs)))
+array_of told x xs = ap (λ (text : List ℕ). printed_text (told x) ++ text) (further told xs)
 
 pub notices_text : (notice : Notice) (notices : List Notice)
     → notice_text notice ++ (after_commas notice_text notices ++ 93 ∷ [])
-    ≡ items_text false (items_of (map notice_data (notice ∷ notices)))
+    ≡ printed_items false (items_of (map notice_data (notice ∷ notices)))
 unfolding notice_text
 notices_text = array_of notice_data
 
 pub indexes_text : (sounds : List SoundFacts) (notices : List Notice) (index : BoundIndex) (indexes : List BoundIndex)
     → index_text sounds notices index ++ (after_commas (index_text sounds notices) indexes ++ 93 ∷ [])
-    ≡ items_text false (items_of (map (index_data sounds notices) (index ∷ indexes)))
+    ≡ printed_items false (items_of (map (index_data sounds notices) (index ∷ indexes)))
 unfolding index_text
 indexes_text sounds notices = array_of (index_data sounds notices)
 
@@ -62,7 +63,7 @@ after_both text (x ∷ xs) ys =
 
 pub both_text : (notice : Notice) (notices others : List Notice)
     → notice_text notice ++ (after_commas notice_text notices ++ (after_commas notice_text others ++ 93 ∷ []))
-    ≡ items_text false (items_of (map notice_data ((notice ∷ notices) ++ others)))
+    ≡ printed_items false (items_of (map notice_data ((notice ∷ notices) ++ others)))
 both_text notice notices others =
     ap (λ (text : List ℕ). notice_text notice ++ text)
     (sym (append_assoc (after_commas notice_text notices) (after_commas notice_text others) (93 ∷ []))
@@ -70,36 +71,36 @@ both_text notice notices others =
     ∙ notices_text notice (notices ++ others)
 
 -- values separated by commas, and the end of the array
-listed_text : (later : Bool) (values : List Data) → listed later values ++ 93 ∷ [] ≡ items_text later (items_of values)
+listed_text : (later : Bool) (values : List Data) → listed later values ++ 93 ∷ [] ≡ printed_items later (items_of values)
 listed_text later [] = refl
 listed_text later (value ∷ values) =
-    append_assoc (comma_if later) (compact_text value ++ listed true values) (93 ∷ [])
+    append_assoc (comma_if later) (printed_text value ++ listed true values) (93 ∷ [])
     ∙ ap (λ (text : List ℕ). comma_if later ++ text)
-    (append_assoc (compact_text value) (listed true values) (93 ∷ [])
-    ∙ ap (λ (text : List ℕ). compact_text value ++ text) (listed_text true values))
+    (append_assoc (printed_text value) (listed true values) (93 ∷ [])
+    ∙ ap (λ (text : List ℕ). printed_text value ++ text) (listed_text true values))
 
 -- the parts of an index
 pub index_parts : (notices : List Notice) (index : BoundIndex) (facts : SoundFacts)
     → counted (codes "{\"base\":") index.base ++ (counted (codes ",\"channels\":") facts.channels
-    ++ (counted (codes ",\"depth\":") (bits_of facts.depth) ++ (codes ",\"file\":" ++ (quoted facts.name
+    ++ (counted (codes ",\"depth\":") (bits_of facts.depth) ++ (codes ",\"file\":" ++ (printed_string facts.name
     ++ (counted (codes ",\"frames\":") facts.frames ++ (counted (codes ",\"index\":") index.number
     ++ (codes ",\"notices\":[" ++ (listed false (kinds_of index.number notices) ++ codes "]}"))))))))
-    ≡ compact_text (index_of_file notices index facts)
+    ≡ printed_text (index_of_file notices index facts)
 unfolding escape_byte
 index_parts notices index facts =
     let kinds = kinds_of index.number notices in
-    let text : listed false kinds ++ codes "]}" ≡ items_text false (items_of kinds) ++ 125 ∷ [] =
+    let text : listed false kinds ++ codes "]}" ≡ printed_items false (items_of kinds) ++ 125 ∷ [] =
     sym (append_assoc (listed false kinds) (93 ∷ []) (125 ∷ []))
     ∙ ap (λ (text : List ℕ). text ++ 125 ∷ []) (listed_text false kinds) in
     ap (λ (text : List ℕ). counted (codes "{\"base\":") index.base ++ (counted (codes ",\"channels\":") facts.channels
-    ++ (counted (codes ",\"depth\":") (bits_of facts.depth) ++ (codes ",\"file\":" ++ (quoted facts.name
+    ++ (counted (codes ",\"depth\":") (bits_of facts.depth) ++ (codes ",\"file\":" ++ (printed_string facts.name
     ++ (counted (codes ",\"frames\":") facts.frames ++ (counted (codes ",\"index\":") index.number
     ++ (codes ",\"notices\":[" ++ text)))))))) text
 
 -- the parts of the maximum size of the outputs
 pub room_parts : (room : Room)
-    → (codes "{\"media\":" ++ compact_text (count_in room.media))
-    ++ ((codes ",\"rendering\":" ++ compact_text (count_in room.rendering)) ++ codes "}") ≡ room_text room
+    → (codes "{\"media\":" ++ printed_text (count_in room.media))
+    ++ ((codes ",\"rendering\":" ++ printed_text (count_in room.rendering)) ++ codes "}") ≡ room_text room
 unfolding escape_byte room_text
 room_parts room = refl
 
@@ -107,20 +108,20 @@ room_parts room = refl
 pub accepted_parts : (rate entries : ℕ) (indexes notices : List Data) (beside : Beside)
     → counted (codes "{\"accepted\":true,\"entry_count\":") entries ++ (counted (codes ",\"form\":") form
     ++ (codes ",\"indexes\":["
-    ++ (items_text false (items_of indexes) ++ (beside_text beside ++ (codes ",\"notices\":["
-    ++ (items_text false (items_of notices) ++ (counted (codes ",\"rate\":") rate ++ codes "}")))))))
-    ≡ compact_text (accepted_of rate entries indexes (text_in beside.media_error) (room_data beside.room)
+    ++ (printed_items false (items_of indexes) ++ (beside_text beside ++ (codes ",\"notices\":["
+    ++ (printed_items false (items_of notices) ++ (counted (codes ",\"rate\":") rate ++ codes "}")))))))
+    ≡ printed_text (accepted_of rate entries indexes (text_in beside.media_error) (room_data beside.room)
     (map passed_data beside.passed) notices)
 unfolding escape_byte beside_text room_text
 accepted_parts rate entries indexes notices beside =
     let end = codes ",\"notices\":["
-    ++ (items_text false (items_of notices) ++ (counted (codes ",\"rate\":") rate ++ codes "}")) in
-    let passed = items_text false (items_of (map passed_data beside.passed)) in
-    let media = compact_text (text_in beside.media_error) in
-    let room = compact_text (room_data beside.room) in
+    ++ (printed_items false (items_of notices) ++ (counted (codes ",\"rate\":") rate ++ codes "}")) in
+    let passed = printed_items false (items_of (map passed_data beside.passed)) in
+    let media = printed_text (text_in beside.media_error) in
+    let room = printed_text (room_data beside.room) in
     ap (λ (text : List ℕ). counted (codes "{\"accepted\":true,\"entry_count\":") entries
     ++ (counted (codes ",\"form\":") form ++ (codes ",\"indexes\":["
-    ++ (items_text false (items_of indexes) ++ (codes ",\"media_error\":" ++ text)))))
+    ++ (printed_items false (items_of indexes) ++ (codes ",\"media_error\":" ++ text)))))
     (append_assoc media (codes ",\"most_bytes\":" ++ (room ++ (codes ",\"not_honoured\":[" ++ passed))) end
     ∙ ap (λ (text : List ℕ). media ++ (codes ",\"most_bytes\":" ++ text))
     (append_assoc room (codes ",\"not_honoured\":[" ++ passed) end))
@@ -128,7 +129,7 @@ accepted_parts rate entries indexes notices beside =
 -- an array of the lines that aren't fully honoured
 pub passed_text_of : (passed : PassedLine) (more : List PassedLine)
     → passed_text passed ++ (after_commas passed_text more ++ 93 ∷ [])
-    ≡ items_text false (items_of (map passed_data (passed ∷ more)))
+    ≡ printed_items false (items_of (map passed_data (passed ∷ more)))
 unfolding passed_text
 passed_text_of = array_of passed_data
 
@@ -197,50 +198,50 @@ any_step index k notices d below =
 
 -- the parts of a fault
 pub fault_parts : (entry : Option ℕ) (explained file : Data) (index line : Option ℕ) (refusal : ℕ)
-    → (codes "{\"entry\":" ++ compact_text (count_in entry)) ++ (codes ",\"explained\":" ++ (compact_text explained
-    ++ (codes ",\"file\":" ++ (compact_text file
-    ++ ((codes ",\"index\":" ++ compact_text (count_in index)) ++ ((codes ",\"line\":" ++ compact_text (count_in line))
+    → (codes "{\"entry\":" ++ printed_text (count_in entry)) ++ (codes ",\"explained\":" ++ (printed_text explained
+    ++ (codes ",\"file\":" ++ (printed_text file
+    ++ ((codes ",\"index\":" ++ printed_text (count_in index)) ++ ((codes ",\"line\":" ++ printed_text (count_in line))
     ++ (counted (codes ",\"refused\":") refusal ++ codes "}")))))))
-    ≡ compact_text (fault_of entry explained file index line refusal)
+    ≡ printed_text (fault_of entry explained file index line refusal)
 unfolding escape_byte
 fault_parts entry explained file index line refusal = refl
 
 -- members after commas, and the end of the object
 members_further : (members : List Member)
-    → after_commas member_text members ++ 125 ∷ [] ≡ members_text true (members_of members)
+    → after_commas member_text members ++ 125 ∷ [] ≡ printed_members true (members_of members)
 unfolding member_text
 members_further [] = refl
 members_further (one ∷ more) =
     ap (λ (text : List ℕ). 44 ∷ text)
-    (append_assoc (quoted one.name.now ++ 58 ∷ compact_text (value_data one.value)) (after_commas member_text more)
+    (append_assoc (quoted one.name.now ++ 58 ∷ printed_text (value_data one.value)) (after_commas member_text more)
     (125 ∷ [])
-    ∙ append_assoc (quoted one.name.now) (58 ∷ compact_text (value_data one.value))
+    ∙ append_assoc (quoted one.name.now) (58 ∷ printed_text (value_data one.value))
     (after_commas member_text more ++ 125 ∷ [])
-    ∙ ap (λ (text : List ℕ). quoted one.name.now ++ 58 ∷ (compact_text (value_data one.value) ++ text))
+    ∙ ap (λ (text : List ℕ). quoted one.name.now ++ 58 ∷ (printed_text (value_data one.value) ++ text))
     (members_further more))
 
 -- an object from its first member on
 pub members_text_of : (one : Member) (more : List Member)
-    → member_text one ++ (after_commas member_text more ++ 125 ∷ []) ≡ members_text false (members_of (one ∷ more))
+    → member_text one ++ (after_commas member_text more ++ 125 ∷ []) ≡ printed_members false (members_of (one ∷ more))
 unfolding member_text
 members_text_of one more =
-    append_assoc (quoted one.name.now) (58 ∷ compact_text (value_data one.value))
+    append_assoc (quoted one.name.now) (58 ∷ printed_text (value_data one.value))
     (after_commas member_text more ++ 125 ∷ [])
-    ∙ ap (λ (text : List ℕ). quoted one.name.now ++ 58 ∷ (compact_text (value_data one.value) ++ text))
+    ∙ ap (λ (text : List ℕ). quoted one.name.now ++ 58 ∷ (printed_text (value_data one.value) ++ text))
     (members_further more)
 
 -- the start of a refused report with its first fault, and a further fault
 pub front_first : (first : ExplainedFault) (value : Data) → value ≡ explained_fault first
-    → codes "{\"accepted\":false,\"faults\":[" ++ compact_text value ≡ refused_front first []
+    → codes "{\"accepted\":false,\"faults\":[" ++ printed_text value ≡ refused_front first []
 unfolding refused_front fault_text
 front_first first value same =
     ap (λ (text : List ℕ). codes "{\"accepted\":false,\"faults\":[" ++ text)
-    (ap compact_text same ∙ sym (append-nil (compact_text (explained_fault first))))
+    (ap printed_text same ∙ sym (append-nil (printed_text (explained_fault first))))
 
 pub next_text : (fault : ExplainedFault) (value : Data) → value ≡ explained_fault fault
-    → 44 ∷ compact_text value ≡ 44 ∷ fault_text fault
+    → 44 ∷ printed_text value ≡ 44 ∷ fault_text fault
 unfolding fault_text
-next_text fault value same = ap (λ (value : Data). 44 ∷ compact_text value) same
+next_text fault value same = ap (λ (value : Data). 44 ∷ printed_text value) same
 
 pub one_more : (faults : List ExplainedFault) (fault : ExplainedFault)
     → after_commas fault_text faults ++ 44 ∷ fault_text fault ≡ after_commas fault_text (faults ++ fault ∷ [])
@@ -260,24 +261,24 @@ joined first more items end is =
 pub refused_text : (first : ExplainedFault) (faults : List ExplainedFault) (media_error : Option (List ℕ))
     (are_all : Bool)
     → refused_front first [] ++ (after_commas fault_text faults ++ refused_end media_error are_all)
-    ≡ compact_text (refused_data first faults media_error are_all)
+    ≡ printed_text (refused_data first faults media_error are_all)
 unfolding refused_front refused_end fault_text escape_byte
 refused_text first faults media_error are_all =
     ap (λ (text : List ℕ). codes "{\"accepted\":false,\"faults\":[" ++ text)
-    (joined (compact_text (explained_fault first)) (after_commas fault_text faults)
-    (items_text true (items_of (map explained_fault faults)))
-    (counted (codes ",\"form\":") form ++ (codes ",\"media_error\":" ++ (compact_text (text_in media_error)
-    ++ (codes ",\"complete\":" ++ (compact_text (boolean are_all) ++ codes "}")))))
+    (joined (printed_text (explained_fault first)) (after_commas fault_text faults)
+    (printed_items true (items_of (map explained_fault faults)))
+    (counted (codes ",\"form\":") form ++ (codes ",\"media_error\":" ++ (printed_text (text_in media_error)
+    ++ (codes ",\"complete\":" ++ (printed_text (boolean are_all) ++ codes "}")))))
     (further explained_fault faults))
 
 -- the parts of the report of a list that can't be read
 pub unread_text : (fault : Data)
-    → codes "{\"accepted\":false,\"faults\":[" ++ (compact_text fault ++ refused_end None false)
-    ≡ compact_text (refused_of (fault ∷ []) null false)
+    → codes "{\"accepted\":false,\"faults\":[" ++ (printed_text fault ++ refused_end None false)
+    ≡ printed_text (refused_of (fault ∷ []) null false)
 unfolding refused_end escape_byte
 unread_text fault =
     ap (λ (text : List ℕ). codes "{\"accepted\":false,\"faults\":[" ++ text)
-    (sym (append_assoc (compact_text fault) (93 ∷ []) (counted (codes ",\"form\":") form ++ (codes ",\"media_error\":"
+    (sym (append_assoc (printed_text fault) (93 ∷ []) (counted (codes ",\"form\":") form ++ (codes ",\"media_error\":"
     ++ (codes "null" ++ (codes ",\"complete\":" ++ (codes "false" ++ codes "}")))))))
 
 -- one more reported fault

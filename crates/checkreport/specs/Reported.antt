@@ -1,6 +1,6 @@
 -- Output and exit status of a check with a report.
 use Rattle.std.specs.Prelude.{◌≡◌, ◌⊎◌, ℕ, Bool, IsTrue, List, [], ◌∷◌, ◌++◌, Option, Some, Ok, Err, false, map, true, ⊤}
-use Rattle.serde_json.specs.Written.{compact_text}
+use Rattle.checkreport.specs.Printed.{printed_text}
 use Rattle.work_terms.specs.Disk.{Files}
 use Rattle.work_terms.specs.Refusals.{IsDue, Nowhere, Refusal, Where}
 use Rattle.list_terms.specs.Project.{ListProject}
@@ -31,9 +31,9 @@ no_memory = unread_data 18 Nowhere null
 
 -- text of a report, without a line end
 abbrev pub text_of : Report → List ℕ
-text_of (Accepted project binding beside) = compact_text (accepted_data project binding beside)
-text_of (Refused first further media_error are_all) = compact_text (refused_data first further media_error are_all)
-text_of Untold = compact_text no_memory
+text_of (Accepted project binding beside) = printed_text (accepted_data project binding beside)
+text_of (Refused first further media_error are_all) = printed_text (refused_data first further media_error are_all)
+text_of Untold = printed_text no_memory
 
 -- exit status: 0 accepted, 1 refused or out of memory
 abbrev pub status_of : Report → ℕ
@@ -93,7 +93,7 @@ pub record IsReported {O : Type 0} (list : List ℕ) (files : Files) (out : cons
 -- prints that a list can't be read, as one line
 pub record PrintsUnread {O : Type 0} (out : console.Ghosts O) (old new : O) (number : ℕ) (place : Where) : Type 0 where
   pub explained : Data
-  pub printed : Prints out.contents out.failures old new (compact_text (unread_data number place explained) ++ 10 ∷ [])
+  pub printed : Prints out.contents out.failures old new (printed_text (unread_data number place explained) ++ 10 ∷ [])
 
 -- prints the report of a refused list with its first and its further faults, and whether they are all
 pub record PrintsRefused {O : Type 0} (out : console.Ghosts O) (old new : O) (first : Fault)
@@ -104,7 +104,7 @@ pub record PrintsRefused {O : Type 0} (out : console.Ghosts O) (old new : O) (fi
   pub are_all : Bool
   pub these : AreThese (faults_of further) are_all
   pub printed : Prints out.contents out.failures old new
-      (compact_text (refused_data (record { fault = first; explained = explained }) further media_error are_all))
+      (printed_text (refused_data (record { fault = first; explained = explained }) further media_error are_all))
 
 -- prints the report of a refused list as one line, or the out-of-memory report
 abbrev pub PrintsRefusedLine : {O : Type 0} (out : console.Ghosts O) (old new : O) (first : Fault)
@@ -113,6 +113,6 @@ PrintsRefusedLine out old new first AreThese =
     ((explained : Data) × (further : List ExplainedFault) × (media_error : Option (List ℕ)) × (are_all : Bool)
     × AreThese (faults_of further) are_all
     × Prints out.contents out.failures old new
-    (compact_text (refused_data (record { fault = first; explained = explained }) further media_error are_all)
+    (printed_text (refused_data (record { fault = first; explained = explained }) further media_error are_all)
     ++ 10 ∷ []))
-    ⊎ Prints out.contents out.failures old new (compact_text no_memory ++ 10 ∷ [])
+    ⊎ Prints out.contents out.failures old new (printed_text no_memory ++ 10 ∷ [])

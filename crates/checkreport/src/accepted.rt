@@ -2,7 +2,7 @@
 ghost use Rattle.std.specs.Prelude.{◌≡◌, ◌++◌, ◌||◌, codes, decimal, false, map, option_map, slice_get};
 ghost use Rattle.serde_json.specs.View.{items_of};
 ghost use Rattle.serde_json.specs.Written as written;
-ghost use Rattle.serde_json.specs.Written.{compact_text, items_text};
+ghost use Rattle.checkreport.specs.Printed.{printed_items, printed_text};
 ghost use Rattle.console.specs.Printing.{Prints};
 ghost use Rattle.checkreport.specs.Report as spec;
 ghost use Rattle.report_terms.specs.Report.{notice_data};
@@ -26,7 +26,7 @@ pub fn put_report<X: Explains, O: Console>(
     out: &mut O,
 )
     ensures { (beside : Beside) × Prints O.contents O.failures out.old out.new
-        (compact_text (accepted_data checked.now.project checked.now.bound beside)) }
+        (printed_text (accepted_data checked.now.project checked.now.bound beside)) }
 {
     let project = checked.project();
     let bound = checked.bound();
@@ -69,7 +69,7 @@ fn put_beside<X: Explains, O: Console>(
 /// Prints the notices of the list and of its files, and the end of the array.
 fn put_notices<O: Console>(out: &mut O, list: &[Notice], files: &[Notice])
     ensures { Prints O.contents O.failures out.old out.new
-        (items_text false (items_of (map notice_data (list.now ++ files.now)))) }
+        (printed_items false (items_of (map notice_data (list.now ++ files.now)))) }
 {
     match list.split_first() {
         Some((first, rest)) => {
@@ -85,7 +85,7 @@ fn put_notices<O: Console>(out: &mut O, list: &[Notice], files: &[Notice])
 /// Prints the notices and the end of the array.
 fn put_notices_of_files<O: Console>(out: &mut O, notices: &[Notice])
     ensures { Prints O.contents O.failures out.old out.new
-        (items_text false (items_of (map notice_data notices.now))) }
+        (printed_items false (items_of (map notice_data notices.now))) }
 {
     match notices.split_first() {
         Some((first, rest)) => {
@@ -137,7 +137,7 @@ fn put_indexes<O: Console>(
     notices: &[Notice],
 )
     ensures { Prints O.contents O.failures out.old out.new
-        (items_text false (items_of (map (spec.index_data sounds.now notices.now) indexes.now))) }
+        (printed_items false (items_of (map (spec.index_data sounds.now notices.now) indexes.now))) }
 {
     match indexes.split_first() {
         Some((first, rest)) => {
@@ -185,7 +185,7 @@ fn sound_at(sounds: &[Sound], position: u32) -> Option<&Sound>
 /// Prints an index whose file is `sound`.
 fn put_index_of<O: Console>(out: &mut O, index: &BoundIndex, sound: &Sound, notices: &[Notice])
     ensures { Prints O.contents O.failures out.old out.new
-        (compact_text (index_of_file notices.now index.now sound.now)) }
+        (printed_text (index_of_file notices.now index.now sound.now)) }
 {
     put_counted(out, "{\"base\":", index.base);
     put_counted(out, ",\"channels\":", u64::from(sound.channels()));

@@ -1,13 +1,13 @@
 // Explanations and other supplements to faults and projects.
 ghost use Rattle.std.specs.Prelude.{◌++◌, ◌∷◌, List, false, map};
 ghost use Rattle.serde_json.specs.View.{items_of};
-ghost use Rattle.serde_json.specs.Written.{compact_text, items_text, members_text};
+ghost use Rattle.checkreport.specs.Printed.{printed_items, printed_members, printed_text};
 ghost use Rattle.console.specs.Printing.{Prints};
 ghost use Rattle.checkreport.specs.Explained.{explained_data, members_of, value_data};
 ghost use Rattle.checkreport.specs.Report.{passed_data};
 ghost use Rattle.checkreport.specs.Parts.{after_commas, member_text, passed_text, room_text};
 
-use crate::values::{put_found, put_string, put_text};
+use crate::values::{put_found, put_quoted, put_string, put_text};
 use console::{Console, put_counted};
 use opening::Fault;
 use projectcheck::Checked;
@@ -62,7 +62,7 @@ pub trait Explains {
 
 /// Prints an explanation as a JSON object, or null.
 pub fn put_explained<O: Console>(out: &mut O, explained: &Option<Vec<Member>>)
-    ensures { Prints O.contents O.failures out.old out.new (compact_text (explained_data explained.now)) }
+    ensures { Prints O.contents O.failures out.old out.new (printed_text (explained_data explained.now)) }
 {
     match explained {
         Some(members) => {
@@ -75,7 +75,7 @@ pub fn put_explained<O: Console>(out: &mut O, explained: &Option<Vec<Member>>)
 
 /// Prints the members and the end of the object.
 fn put_members<O: Console>(out: &mut O, members: &[Member])
-    ensures { Prints O.contents O.failures out.old out.new (members_text false (members_of members.now)) }
+    ensures { Prints O.contents O.failures out.old out.new (printed_members false (members_of members.now)) }
 {
     match members.split_first() {
         Some((first, rest)) => {
@@ -102,13 +102,13 @@ fn put_further_members<O: Console>(out: &mut O, members: &[Member])
 fn put_member<O: Console>(out: &mut O, member: &Member)
     ensures { Prints O.contents O.failures out.old out.new (member_text member.now) }
 {
-    put_string(out, member.name);
+    put_quoted(out, member.name);
     out.put(b":");
     put_value(out, &member.value);
 }
 
 fn put_value<O: Console>(out: &mut O, value: &Value)
-    ensures { Prints O.contents O.failures out.old out.new (compact_text (value_data value.now)) }
+    ensures { Prints O.contents O.failures out.old out.new (printed_text (value_data value.now)) }
 {
     match value {
         Value::Nothing => out.put(b"null"),
@@ -120,7 +120,7 @@ fn put_value<O: Console>(out: &mut O, value: &Value)
 /// Prints the lines that aren't fully honoured, and the end of the array.
 pub fn put_all_passed<X: Explains, O: Console>(alloc: Global, explains: &mut X, out: &mut O)
     ensures { (passed : List PassedLine) × Prints O.contents O.failures out.old out.new
-        (items_text false (items_of (map passed_data passed))) }
+        (printed_items false (items_of (map passed_data passed))) }
 {
     match explains.next_passed(alloc) {
         Some(first) => {

@@ -1,7 +1,7 @@
 // Printing of whole reports.
 ghost use Rattle.std.specs.Prelude.{◌≡◌, ◌≤◌, ◌++◌, ◌∷◌, [], ℕ, IsTrue, List, OnErr, OnOk, false, string_bytes};
 ghost use Rattle.serde_json.specs.Data.{Data};
-ghost use Rattle.serde_json.specs.Written.{compact_text};
+ghost use Rattle.checkreport.specs.Printed.{printed_text};
 ghost use Rattle.work_terms.specs.Disk.{Files};
 ghost use Rattle.work_terms.specs.Refusals.{File, IsDue, Nowhere};
 ghost use Rattle.list_terms.specs.Heard.{IsAccepted, project_fault};
@@ -31,7 +31,7 @@ pub fn put_accepted<X: Explains, O: Console>(
     out: &mut O,
 ) -> u8
     ensures printed { (beside : Beside) × Prints O.contents O.failures out.old out.new
-        (compact_text (accepted_data checked.now.project checked.now.bound beside) ++ 10 ∷ []) }
+        (printed_text (accepted_data checked.now.project checked.now.bound beside) ++ 10 ∷ []) }
     ensures reported { (list : List ℕ) (files : Files) → IsAccepted list files checked.now.project checked.now.bound
         → IsReported list files O.Console out.old out.new result }
     ensures status { result ≡ 0 }
@@ -91,7 +91,7 @@ pub fn put_unread<O: Console>(
 /// Prints the out-of-memory report, and returns the exit status, 1.
 pub fn put_no_memory<O: Console>(out: &mut O) -> u8
     ensures status { result ≡ 1 }
-    ensures printed { Prints O.contents O.failures out.old out.new (compact_text no_memory ++ 10 ∷ []) }
+    ensures printed { Prints O.contents O.failures out.old out.new (printed_text no_memory ++ 10 ∷ []) }
     ensures unread { PrintsUnread O.Console out.old out.new 18 Nowhere }
 {
     let fault = ReportedFault::of_memory();

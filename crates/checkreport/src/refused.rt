@@ -1,7 +1,7 @@
 // Reports of refused lists.
 ghost use Rattle.std.specs.Prelude.{◌≡◌, ◌∷◌, [], Bool, IfOk, None, OnErr, OnOk, List, map, option_map, string_bytes, ◌++◌, false, true};
 ghost use Rattle.serde_json.specs.Data.{Data, null, string};
-ghost use Rattle.serde_json.specs.Written.{compact_text};
+ghost use Rattle.checkreport.specs.Printed.{printed_text};
 ghost use Rattle.work_terms.specs.Refusals.{Refusal};
 ghost use Rattle.adlread.specs.Further.{IsLeft};
 ghost use Rattle.opening.specs.Faults.{refusal_of};
@@ -85,7 +85,7 @@ impl ReportedFault {
     /// Prints the report of a list that can't be read, as one line.
     pub fn put_alone<O: Console>(&self, out: &mut O)
         ensures { Prints O.contents O.failures out.old out.new
-            (compact_text (refused_of (ready_data self.now ∷ []) null false) ++ 10 ∷ []) }
+            (printed_text (refused_of (ready_data self.now ∷ []) null false) ++ 10 ∷ []) }
     {
         out.put(b"{\"accepted\":false,\"faults\":[");
         self.put(out);
@@ -95,7 +95,7 @@ impl ReportedFault {
 
     /// Prints the fault as a JSON object.
     pub fn put<O: Console>(&self, out: &mut O)
-        ensures { Prints O.contents O.failures out.old out.new (compact_text (ready_data self.now)) }
+        ensures { Prints O.contents O.failures out.old out.new (printed_text (ready_data self.now)) }
     {
         put_found(out, "{\"entry\":", self.entry);
         out.put(b",\"explained\":");

@@ -1,21 +1,23 @@
 // Printing of JSON values.
 ghost use Rattle.std.specs.Prelude.{◌≡◌, ◌<◌, ◌++◌, option_map, string_bytes};
 ghost use Rattle.std.specs.Char.{digit_char};
+ghost use Rattle.std.specs.List.{flat_map};
+ghost use Rattle.std.specs.Str.{chars};
 ghost use Rattle.json.specs.Print as json;
 ghost use Rattle.json.specs.Print.{escape_byte, quoted};
 ghost use Rattle.serde_json.specs.Data.{boolean};
-ghost use Rattle.serde_json.specs.Written.{compact_text};
+ghost use Rattle.checkreport.specs.Printed.{printed_in_string, printed_string, printed_text, unit_escape};
 ghost use Rattle.checkreport.specs.Report.{count_in, text_in};
 ghost use Rattle.console.specs.Printing.{Prints};
 
-use console::{Console, put_counted};
+use console::{Console, is_unseen, put_counted};
 
 /// Version of the report format.
 pub const FORM: u64 = 6;
 
 /// Prints `words`, followed by a number or null.
 pub fn put_found<O: Console>(out: &mut O, words: &str, found: Option<u64>)
-    ensures { Prints O.contents O.failures out.old out.new (words.now ++ compact_text (count_in found)) }
+    ensures { Prints O.contents O.failures out.old out.new (words.now ++ printed_text (count_in found)) }
 {
     match found {
         Some(number) => put_counted(out, words, number),
@@ -28,7 +30,7 @@ pub fn put_found<O: Console>(out: &mut O, words: &str, found: Option<u64>)
 
 /// Prints `true` or `false`.
 pub fn put_flag<O: Console>(out: &mut O, flag: bool)
-    ensures { Prints O.contents O.failures out.old out.new (compact_text (boolean flag)) }
+    ensures { Prints O.contents O.failures out.old out.new (printed_text (boolean flag)) }
 {
     if flag {
         out.put(b"true");
@@ -40,7 +42,7 @@ pub fn put_flag<O: Console>(out: &mut O, flag: bool)
 /// Prints a text as a JSON string, or null if there is none.
 pub fn put_text<O: Console>(out: &mut O, text: &Option<String>)
     ensures { Prints O.contents O.failures out.old out.new
-        (compact_text (text_in (option_map string_bytes text.now))) }
+        (printed_text (text_in (option_map string_bytes text.now))) }
 {
     match text {
         Some(text) => put_string(out, text.as_str()),
@@ -48,12 +50,67 @@ pub fn put_text<O: Console>(out: &mut O, text: &Option<String>)
     }
 }
 
-/// Prints a text as a JSON string.
+/// Prints a text as a JSON string, with each invisible character escaped.
 pub fn put_string<O: Console>(out: &mut O, text: &str)
-    ensures { Prints O.contents O.failures out.old out.new (quoted text.now) }
+    ensures { Prints O.contents O.failures out.old out.new (printed_string text.now) }
 {
     out.put(b"\"");
-    put_escaped(out, text.as_bytes());
+    put_characters(out, text);
+    out.put(b"\"");
+}
+
+/// Prints the characters of a text as they are in a string.
+fn put_characters<O: Console>(out: &mut O, text: &str)
+    ensures { Prints O.contents O.failures out.old out.new (flat_map printed_in_string (chars text.now)) }
+{
+    for character in text.chars() {
+        put_character(out, character);
+    }
+}
+
+/// Prints a character as it is in a string.
+fn put_character<O: Console>(out: &mut O, character: char)
+    ensures { Prints O.contents O.failures out.old out.new (printed_in_string character) }
+{
+    if character >= ' ' && is_unseen(character) {
+        let mut units = [0; 2];
+        put_units(out, character.encode_utf16(&mut units));
+    } else {
+        let mut buffer = [0; 4];
+        let text: &str = character.encode_utf8(&mut buffer);
+        put_escaped(out, text.as_bytes());
+    }
+}
+
+/// Prints UTF-16 code units as escapes.
+fn put_units<O: Console>(out: &mut O, units: &[u16])
+    ensures { Prints O.contents O.failures out.old out.new (flat_map unit_escape units.now) }
+{
+    for unit in units {
+        put_unit(out, *unit);
+    }
+}
+
+/// Prints a UTF-16 code unit as an escape.
+fn put_unit<O: Console>(out: &mut O, unit: u16)
+    ensures { Prints O.contents O.failures out.old out.new (unit_escape unit) }
+{
+    out.put(&[
+        b'\\',
+        b'u',
+        digit((unit / 4096 % 16) as u8),
+        digit((unit / 256 % 16) as u8),
+        digit((unit / 16 % 16) as u8),
+        digit((unit % 16) as u8),
+    ]);
+}
+
+/// Prints a name of the program's own as a string.
+pub fn put_quoted<O: Console>(out: &mut O, name: &str)
+    ensures { Prints O.contents O.failures out.old out.new (quoted name.now) }
+{
+    out.put(b"\"");
+    put_escaped(out, name.as_bytes());
     out.put(b"\"");
 }
 

@@ -1,6 +1,6 @@
 use Rattle.std.proofs.Common.{false, map, rules}
 use Rattle.serde_json.specs.View.{items_of}
-use Rattle.serde_json.specs.Written.{items_text}
+use Rattle.checkreport.specs.Printed.{printed_items}
 use Rattle.checkreport.specs.Report.{index_data}
 use Rattle.checkreport.proofs.Arrays.{none_printed, some_printed}
 use Rattle.checkreport.proofs.Parts.{indexes_text}
@@ -8,11 +8,11 @@ use Rattle.checkreport.proofs.accepted.put_indexes.Goals as goal
 
 pub returns-in-Some : goal.returns-in-Some
 returns-in-Some g c =
-    some_printed g.O.Console.contents g.O.Console.failures (λ xs. items_text false (items_of (map (index_data c.args.sounds.now c.args.notices.now) xs)))
+    some_printed g.O.Console.contents g.O.Console.failures (λ xs. printed_items false (items_of (map (index_data c.args.sounds.now c.args.notices.now) xs)))
     c.args.indexes.now c.in-Some.first.now c.in-Some.rest.now (search (rules, c.in-Some.ensures.cases))
     (indexes_text c.args.sounds.now c.args.notices.now c.in-Some.first.now c.in-Some.rest.now) c.put_index.ensures c.put_further_indexes.ensures c.put.ensures
 
 pub returns-in-None : goal.returns-in-None
 returns-in-None g c =
-    none_printed g.O.Console.contents g.O.Console.failures (λ xs. items_text false (items_of (map (index_data c.args.sounds.now c.args.notices.now) xs)))
+    none_printed g.O.Console.contents g.O.Console.failures (λ xs. printed_items false (items_of (map (index_data c.args.sounds.now c.args.notices.now) xs)))
     c.args.indexes.now c.in-None.ensures.cases c.put-in-None.ensures

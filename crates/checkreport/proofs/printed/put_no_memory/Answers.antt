@@ -1,13 +1,13 @@
 use Rattle.std.proofs.Common.{◌++◌, ◌∷◌, [], ap, false, subst}
 use Rattle.serde_json.specs.Data.{Data, null}
-use Rattle.serde_json.specs.Written.{compact_text}
+use Rattle.checkreport.specs.Printed.{printed_text}
 use Rattle.checkreport.specs.Report.{refused_of}
 use Rattle.console.specs.Printing.{Prints}
 use Rattle.checkreport.proofs.printed.put_no_memory.Goals as goal
 
 pub returns-clause-printed : goal.returns-clause-printed
 returns-clause-printed g c = subst (Prints g.O.Console.contents g.O.Console.failures _ _)
-    (ap (λ (fault : Data). compact_text (refused_of (fault ∷ []) null false) ++ 10 ∷ []) c.of_memory-fault.ensures)
+    (ap (λ (fault : Data). printed_text (refused_of (fault ∷ []) null false) ++ 10 ∷ []) c.of_memory-fault.ensures)
     c.put_alone.ensures
 
 pub returns-clause-unread : goal.returns-clause-unread
