@@ -43,7 +43,8 @@ def commands(scene: Scene) -> list:
     lines = []
     for command in ([], *re.findall(r"^  ([a-z]+)  ", scene.run("--help").output.decode(), re.M)):
         text = scene.run(*[command] * bool(command), "--help").output.decode()
-        lines.append(re.search(r"^Usage: (.*)$", text, re.M)[1])
+        usage = re.search(r"^Usage: (.*)$", text, re.M)
+        lines.append(usage[1] if usage else f"adlcons {command}")
         for short, long, value, rest in re.findall(r"^ +(-\w)?,? *(--[a-z]+)(?: (<\w+>))?(.*)$", text, re.M):
             default = re.search(r" \[default: (\S+)\]$", rest)
             words = [word for word in (short, long, value, default and f"default {default[1]}") if word]
@@ -69,7 +70,7 @@ def with_letters(line: str) -> str:
     """A line with T for each time, NAME for each file, and N for each number but that of a refusal, a notice or a list."""
     line = re.sub(r"\d\d\.\d\d\.\d\d\.\d\d/\d{4}", "T", line)
     line = re.sub(r" file \S+", " file NAME", line)
-    return re.sub(r"(?<!^refused )(?<!^notice )(?<!in list )(?<![\w-])\d+\b", "N", line)
+    return re.sub(r"(?<!^refused )(?<!^notice )(?<!in list )(?<!\w)-?\b\d+\b", "N", line)
 
 
 def answers(scene: Scene) -> list:
@@ -140,8 +141,9 @@ def written(scene: Scene) -> list:
             lines += [f"    {re.sub('[0-9a-f]{64}', 'SHA-256', line)}"
                       for line in files["SHA256SUMS"].decode().splitlines()]
         if words == ("render",):
-            lines += [f"    {name} {len(data)} bytes, SHA-256 {hashlib.sha256(data).hexdigest()}"
-                      for name, data in sorted(files.items())]
+            marks, sound = files["render.marks"], files["render.wav"]
+            lines.append(f"    render.marks {marks.hex()}")
+            lines.append(f"    render.wav {len(sound)} bytes, SHA-256 {hashlib.sha256(sound).hexdigest()}")
     scene.empty_out()
     return lines
 
