@@ -13,15 +13,20 @@ from tables import data_chunk, format_chunk, riff_file, wave
 
 MIDNIGHT = b"00.00.00.00/0000"
 OPTIONS = model.Options(handle=0, depth=16)
-# The refusals for want of memory, of which a command meets those for what it makes: the text of a list and a file; the
-# pieces of its entries; a pass over them, the runs of kept frames and the new list, or a rendering; the jobs.
+# The refusals for want of memory.
 MEMORY = {18, 31, 45, 47, 51, 54, 56, 57, 60, 63, 69}
+# Those that a command meets, in the order of its allocations. First the bytes of the list, the passes of a consolidation,
+# the text of the list, a file, and the pieces of the entries. Then a consolidation needs memory for its passes, the runs of
+# kept frames, the new list, the ends of the jobs of each run, and the jobs; a rendering for its plan, its marks, the jobs
+# and its worker.
 MET = {
-    "check": {18, 31},
-    "consolidate": {18, 31, 47, 51, 54, 56, 60},
-    "render": {18, 31, 47, 57, 60, 69},
-    "resume": {18, 31, 47, 57, 60, 69},
+    "check": [18, 31],
+    "consolidate": [18, 51, 18, 31, 47, 51, 54, 56, 54, 60],
+    "render": [18, 31, 47, 57, 69, 60, 57],
+    "resume": [18, 31, 47, 57, 69, 60, 57],
 }
+# With a report, whose text is made before the jobs.
+REPORTED = [18, 51, 18, 31, 47, 51, 54, 56, 54, 56, 60]
 # A device that has no memory for a name fails.
 DEVICES = {20: b" at file OUT", 22: b" at index 1 file A.wav", 52: b"", 62: b" at file "}
 REFUSED = re.compile(rb"refused (\d\d)([^\n]*)\n")
@@ -92,6 +97,13 @@ def number_of(got: Outcome, written: dict, begun: dict, whole: tuple) -> int:
     return number
 
 
+def in_order(numbers: list) -> list:
+    """The refusals for want of memory in the order of the allocations that fail, each once where several follow one
+    another."""
+    refused = [number for number in numbers if number in MEMORY]
+    return [number for place, number in enumerate(refused) if place == 0 or refused[place - 1] != number]
+
+
 def each_allocation(command: str, put, before=nothing, more: tuple = ()):
     def body(scene: Scene) -> None:
         put(scene)
@@ -114,7 +126,7 @@ def each_allocation(command: str, put, before=nothing, more: tuple = ()):
                 raise Mismatch(f"allocation {fails} of {command} failed: {fault}") from fault
             if not log.exists():
                 break
-        same("the refusals that weren't met", MET[command] - set(numbers), set())
+        same("the refusals, in their order", in_order(numbers), REPORTED if more else MET[command])
     return body
 
 
