@@ -1,6 +1,6 @@
 -- Whole sources, hashed piece by piece.
 use Rattle.std.proofs.Common.{◌≡◌, ◌∙◌, ◌+◌, ◌<◌, ◌++◌, ◌∷◌, [], ℕ, All, Bool, List, Option, Some, ap, drop, get_or, length, refl, slice_get, subst, sym, take}
-use Rattle.std.specs.Prelude.{unwrap_or}
+use Rattle.std.specs.Prelude.{IsSome, IsTrue, unwrap_or}
 use Rattle.std.proofs.Math.Seq.{take-add}
 use Rattle.std.proofs.lemmas.List.Elements.{All-get_or, All-push}
 use Rattle.std.proofs.lemmas.Option.{get_or_from_slice_get, slice_get_within}
@@ -9,6 +9,7 @@ use Rattle.sha2.specs.Hashers.{Holds256}
 use Rattle.sha2.specs.Sha256.{sha256}
 use Rattle.sound_terms.specs.declared.piece.Home.{Home}
 use Rattle.sound_terms.specs.declared.piece.Run.{Run}
+use Rattle.sound_terms.specs.Media.{sound_at}
 use Rattle.sound_terms.specs.Sounds.{SoundFacts}
 use Rattle.work_terms.specs.Disk.{Files, IsRange}
 use Rattle.list_terms.specs.Renewed.{numbered}
@@ -51,20 +52,25 @@ module _ (digests : Bool) (sounds : List SoundFacts) (homes : List Home) (source
       → now ≡ before ++ medium ∷ []
       → (((m : Medium) → found ≡ Some m → HasSource digests mid sounds m)
       → source ≡ source_digest digests mid sounds (get_or runs k d))
+      → (((m : Medium) → found ≡ Some m → HasSource digests mid sounds m)
+      → IsTrue digests → IsSome (mid (sound_at sounds (get_or runs k d).file).name))
       → medium ≡ medium_with later (k + 1) (get_or runs k d) source
       → (now ≡ numbered (medium_by digests sources sounds homes) 1 (take (k + 1) runs))
       × All (HasSource digests sources sounds) now
-  one_medium k runs d found position before now source medium below at all so_far pushed had made =
+  one_medium k runs d found position before now source medium below at all so_far pushed had there made =
       let run = get_or runs k d in
+      let known : (m : Medium) → found ≡ Some m → HasSource digests mid sounds m =
+      λ m is. subst (λ (f : Files). HasSource digests f sounds m) (sym same)
+      (one_of_all (HasSource digests sources sounds) before position m (sym at ∙ is) all) in
       let own : source ≡ source_digest digests sources sounds run =
-      subst (λ (f : Files). source ≡ source_digest digests f sounds run) same
-      (had (λ m is. subst (λ (f : Files). HasSource digests f sounds m) (sym same)
-      (one_of_all (HasSource digests sources sounds) before position m (sym at ∙ is) all))) in
+      subst (λ (f : Files). source ≡ source_digest digests f sounds run) same (had known) in
+      let exists : IsTrue digests → IsSome (sources (sound_at sounds run.file).name) =
+      λ asked. subst (λ (f : Files). IsSome (f (sound_at sounds run.file).name)) same (there known asked) in
       let is : medium ≡ medium_by digests sources sounds homes (k + 1) run =
       subst (λ (f : Files). medium ≡ medium_with f (k + 1) run source) (still ∙ same) made
       ∙ ap (λ (s : Option (List ℕ)). medium_with sources (k + 1) run s) own in (
         numbered_step (medium_by digests sources sounds homes) k runs d medium before now below so_far pushed is,
         subst (All (HasSource digests sources sounds)) (sym pushed)
             (All-push (HasSource digests sources sounds) before medium all
-            (subst (HasSource digests sources sounds) (sym is) refl)),
+            (subst (HasSource digests sources sounds) (sym is) (record { digest = refl; exists = exists }))),
       )

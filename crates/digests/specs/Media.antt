@@ -1,5 +1,5 @@
 -- The media of a consolidation, with their digests.
-use Rattle.std.specs.Prelude.{ℕ, ◌≡◌, ◌*◌, ◌++◌, Bool, List, length, Option, None, Some, if◌then◌else◌}
+use Rattle.std.specs.Prelude.{ℕ, ◌≡◌, ◌*◌, ◌++◌, Bool, IsSome, IsTrue, List, length, Option, None, Some, if◌then◌else◌}
 use Rattle.sha2.specs.declared.Sha256.{Sha256}
 use Rattle.sha2.specs.Hashers.{Holds256}
 use Rattle.sha2.specs.Sha256.{sha256}
@@ -37,9 +37,10 @@ medium_by digests sources sounds homes number run = record {
 abbrev pub media_of : (digests : Bool) → Files → List SoundFacts → List Home → List Run → List Medium
 media_of digests sources sounds homes runs = numbered (medium_by digests sources sounds homes) 1 runs
 
--- the medium has the digest of its source exactly if requested
-abbrev pub HasSource : (digests : Bool) → Files → List SoundFacts → Medium → Type 0
-HasSource digests sources sounds medium = medium.source ≡ source_digest digests sources sounds medium.run
+-- The medium has the requested digest of its source, whose file exists.
+pub record HasSource (digests : Bool) (sources : Files) (sounds : List SoundFacts) (medium : Medium) : Type 0 where
+  pub digest : medium.source ≡ source_digest digests sources sounds medium.run
+  pub exists : IsTrue digests → IsSome (sources (sound_at sounds medium.run.file).name)
 
 -- the hasher has hashed `before` and then the `count` existing sample frames of the file from `from` on
 pub record IsHashed (facts : SoundFacts) (sources : Files) (from count : ℕ) (before : List ℕ) (hasher : Sha256)

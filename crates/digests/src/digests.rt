@@ -7,7 +7,7 @@ ghost use Rattle.mediacopy.specs.Pieces.{content};
 ghost use Rattle.mediaset.specs.Runs.{EndsInDay};
 ghost use Rattle.devices.specs.Frame.{OnlyReads};
 ghost use Rattle.digests.specs.Fault.{FailsAt, IsDevice};
-ghost use Rattle.digests.specs.Media.{IsHashed, IsTellable, media_of, medium_bytes};
+ghost use Rattle.digests.specs.Media.{HasSource, IsHashed, IsTellable, media_of, medium_bytes};
 
 use crate::kept::Kept;
 use crate::wholes::source_digest;
@@ -160,6 +160,8 @@ pub fn hashed_media<S: Shelf>(
     requires { All (IsRunOf sounds.now) runs.now.runs }
     ensures media { IsTrue (S.honest shelf.old) → IfOk result (λ media. media.items
         ≡ media_of digests (S.stored shelf.old) sounds.now runs.now.homes runs.now.runs) }
+    ensures sources { IsTrue (S.honest shelf.old)
+        → IfOk result (λ media. All (HasSource digests (S.stored shelf.old) sounds.now) media.items) }
     ensures tellable { IfOk result (λ media. All (IsTellable sounds.now runs.now.homes) media.items) }
     ensures only_reads { OnlyReads S.Shelf shelf.old shelf.new result IsDevice (FailsAt sounds.now) }
 {

@@ -1,8 +1,8 @@
 // Digests of whole sources.
-ghost use Rattle.std.specs.Prelude.{◌≡◌, ◌+◌, ◌≤◌, ℕ, IfOk, IsTrue, List, OnOk, Some, length, option_copied, take, ⊤};
+ghost use Rattle.std.specs.Prelude.{◌≡◌, ◌+◌, ◌≤◌, ℕ, IfOk, IsSome, IsTrue, List, OnOk, Some, length, option_copied, take, ⊤};
 ghost use Rattle.sha2.specs.Hashers.{Holds256};
 ghost use Rattle.sha2.specs.Sha256.{sha256};
-ghost use Rattle.sound_terms.specs.Media.{IsRunOf};
+ghost use Rattle.sound_terms.specs.Media.{IsRunOf, sound_at};
 ghost use Rattle.mediacopy.specs.Pieces.{content};
 ghost use Rattle.devices.specs.Frame.{OnlyReads};
 ghost use Rattle.digests.specs.declared.medium.Medium as medium;
@@ -23,6 +23,7 @@ use wavread::Sound;
 fn length_of<S: Shelf>(shelf: &mut S, name: &str) -> Result<u64, DeviceFault>
     ensures length { IsTrue (S.honest shelf.old)
         → IfOk result (λ n. length (content (S.stored shelf.old) name.now) ≡ n) }
+    ensures exists { IsTrue (S.honest shelf.old) → OnOk result (IsSome (S.stored shelf.old name.now)) }
     ensures only_reads { OnlyReads S.Shelf shelf.old shelf.new result (λ _. ⊤) (λ _ failed. failed name.now) }
 {
     match shelf.length(name) {
@@ -67,6 +68,7 @@ fn file_digest<S: Shelf>(
 ) -> Result<[u8; 32], DeviceFault>
     ensures digest { IsTrue (S.honest shelf.old)
         → IfOk result (λ digest. digest ≡ sha256 (content (S.stored shelf.old) name.now)) }
+    ensures exists { IsTrue (S.honest shelf.old) → OnOk result (IsSome (S.stored shelf.old name.now)) }
     ensures only_reads { OnlyReads S.Shelf shelf.old shelf.new result (λ _. ⊤) (λ _ failed. failed name.now) }
 {
     let end = length_of(shelf, name)?;
@@ -95,6 +97,10 @@ pub fn source_digest<S: Shelf>(
         → ((m : medium.Medium) → option_copied before.entry ≡ Some m
         → HasSource digests (S.stored shelf.old) sounds.now m)
         → IfOk result (λ digest. digest ≡ spec.source_digest digests (S.stored shelf.old) sounds.now run.now) }
+    ensures exists { IsTrue (S.honest shelf.old)
+        → ((m : medium.Medium) → option_copied before.entry ≡ Some m
+        → HasSource digests (S.stored shelf.old) sounds.now m)
+        → IsTrue digests → OnOk result (IsSome (S.stored shelf.old (sound_at sounds.now run.now.file).name)) }
     ensures only_reads { OnlyReads S.Shelf shelf.old shelf.new result IsDevice (FailsAt sounds.now) }
 {
     if !digests {

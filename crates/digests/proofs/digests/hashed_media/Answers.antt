@@ -18,7 +18,7 @@ loop-position-preserved g c =
     c.loop-position.media.items _ c.in_ok-source.source c.in_ok-medium.medium c.loop-position-test.true
     (c.last.ensures.value ∙ ap (λ (xs : List Medium). slice_get xs (length xs - 1)) c.deref.ensures.value)
     (c.loop-position.invariant.3 honest) (c.loop-position.invariant.2 honest) c.in_ok-push.ensures.items
-    (c.in_ok-source.ensures.digest now) (c.in_ok-medium.ensures.medium then) in (
+    (c.in_ok-source.ensures.digest now) (λ known asked. c.in_ok-source.ensures.exists now known asked) (c.in_ok-medium.ensures.medium then) in (
       search rules,
       subst (All (IsTellable c.args.sounds.now c.homes-homes.result.now)) (sym c.in_ok-push.ensures.items)
           (All-push (IsTellable c.args.sounds.now c.homes-homes.result.now) c.loop-position.media.items
