@@ -84,7 +84,7 @@ def delayed(scene: Scene, call: str, path: str, number: int, words: tuple, excha
     """Runs the program; its call of this kind and number on this path is delayed, and the exchange is made meanwhile."""
     needs_strace()
     with subprocess.Popen(
-            ["strace", "-qq", "-o", scene.folder / "trace", "-P", path, "-e", f"trace={call}",
+            ["strace", "-qq", "-o", scene.folder / "trace", "-P", path, "-P", f"{path}/", "-e", f"trace={call}",
              "-e", f"inject={call}:delay_enter={DELAY}:when={number}", scene.program, *words],
             cwd=scene.folder, stdout=subprocess.PIPE, stderr=subprocess.PIPE) as process:
         try:
@@ -232,12 +232,12 @@ class Exchange:
         if new == self.victim:
             self.victim = self.path
 
-    def check(self, at: str) -> None:
+    def check(self, at: str, is_first_look: bool) -> None:
+        """All that was there is unchanged. A file that comes before the command looks for its outputs is an output."""
         files = [self.victim] if self.victim.is_file() else [self.victim / name for name in (SOUND, MARKS, "letter.txt")]
         for file in files:
             same_bytes(f"{at}: {file.name}", file.read_bytes(), self.bytes)
-        # a file that another puts there is its own, too
-        if self.kind == "other file" and self.path.is_file():
+        if self.kind == "other file" and self.path.is_file() and not is_first_look:
             same_bytes(f"{at}: the file that was put there", self.path.read_bytes(), self.bytes)
 
 
@@ -256,7 +256,7 @@ def random_exchange(number: int):
         words = (command, LIST, MEDIA, OUT, *DEPTH)
         what = f"{kind} for {target}, {state.__name__}, {command}, {call} {at}"
         got = delayed(scene, call, target, at, words, exchange.make)
-        exchange.check(what)
+        exchange.check(what, call == "statx" and at == 1)
         same_bytes(f"{what}: the source", (scene.folder / MEDIA / "A.wav").read_bytes(), wave())
         same_bytes(f"{what}: the list", (scene.folder / LIST).read_bytes(), FIRST_LIST)
         if got.status not in (0, 1):
