@@ -1,19 +1,19 @@
 //! The calls of the product: check, consolidate, render, resume and compare audio decision lists over sound files.
 //!
-//! Proved: each call has one contract, a record of `specs/Commands.antt`, `Resuming.antt` or `Schedules.antt`, which holds
-//! however the call ends; docs/PROVED.md lists its clauses with their premises. `consolidate` states it twice: for any
-//! passes (`consolidated`) and for the standard ones (`standard`). `render`, `resume` and `run_schedule` have jobs of one
-//! block of 4,096 frames; `render_watched`, `resume_watched` and `run_schedule_by` prove the same for jobs of the requested
-//! `JobLength`.
+//! Proved: each call has one contract, a record of `specs/Commands.antt`, `Resuming.antt` or `Schedules.antt`, which
+//! holds however the call ends; docs/PROVED.md lists its clauses with their premises. `consolidate` states it twice: for
+//! any passes (`consolidated`) and for the standard ones (`standard`). `render`, `resume` and `run_schedule` have jobs
+//! of one block of 4,096 frames; `render_watched`, `resume_watched` and `run_schedule_by` prove the same for jobs of the
+//! requested `JobLength`.
 //!
-//! After the first write a call ends in one of four ways (`outcome`, by `Outcome` of `execution`): with 62 at one of its
-//! files, of which the clause says only that no source failed and no other file changed, so jobs may have run before; the
-//! events ended early, because a job failed three times (66), a mark was not written (62), a worker was out of memory (57,
-//! 60), or a schedule left jobs open; every job is done and what comes last failed (62); or everything is done. In all but
-//! the first, board and files are those of a run of the board's relation over the events, from preallocated files, or from
-//! the files as they are if `resume` finds marks. So a device that fails once or twice in a job does not fail the call.
-//! Exactly the blocks of completed batches are marked; if writing marks failed, any of that batch may be. What a watch is
-//! shown is not specified.
+//! After the first write a call ends in one of four ways (`outcome`, by `Outcome` of `execution`): with 62 at the first
+//! output that cannot be preallocated, with those before it preallocated, those after it unchanged and no job run; the
+//! events ended early, because a job failed three times (66), a mark was not written (62), a worker was out of memory
+//! (57, 60), or a schedule left jobs open; every job is done and what comes last failed (62); or everything is done. In
+//! all but the first, board and files are those of a run of the board's relation over the events, from preallocated
+//! files, or from the files as they are if `resume` finds marks. So a device that fails once or twice in a job does not
+//! fail the call. Exactly the blocks of completed batches are marked; if writing marks failed, any of that batch may be.
+//! What a watch is shown is not specified.
 #![tactic(auto)]
 
 mod check_call;
