@@ -1,11 +1,9 @@
-#!/usr/bin/env python3
-"""Which crates cite each file of definitions: the last column of the second table of docs/MAP.md, which this writes."""
+"""The crates of the tree, their files of definitions, and which crates cite each file."""
 
 import re
 from pathlib import Path
 
 TOP = Path(__file__).resolve().parent.parent
-MAP = TOP / "docs/MAP.md"
 IMPORT = re.compile(r"^\s*(?:ghost )?use Rattle\.(\w+)\.specs\.(\w+)", re.M)
 
 
@@ -40,33 +38,3 @@ def citations() -> dict:
                     if folder != "proofs" or is_of_laws(*used):
                         citing.setdefault(used, set()).add(name)
     return citing
-
-
-def files_of(cell: str) -> list:
-    """The files that the first cell of a row names: one without a crate is of the crate before."""
-    files = []
-    for name in re.findall(r"`([\w/]+)`", cell):
-        crate, _, stem = name.rpartition("/")
-        files.append((crate or files[-1][0], stem))
-    return files
-
-
-def rows(text: str) -> list:
-    """The rows of the table of definitions, cut into cells."""
-    table = text[text.index("\n## The definitions\n") + 1:].partition("\n## ")[0]
-    return [row[2:-2].split(" | ") for row in re.findall(r"^\| `.* \|$", table, re.M)]
-
-
-def cited(text: str) -> str:
-    """The page with the other crates that cite the files of each row, in the order of crates.txt."""
-    known, order = citations(), list(edges())
-    for row in rows(text):
-        files = files_of(row[0])
-        names = {name for file in files for name in known.get(file, ())} - {crate for crate, _ in files}
-        last = ", ".join(sorted(names, key=order.index)) or "-"
-        text = text.replace(f"| {' | '.join(row)} |\n", f"| {' | '.join([*row[:-1], last])} |\n")
-    return text
-
-
-if __name__ == "__main__":
-    MAP.write_text(cited(MAP.read_text()))
