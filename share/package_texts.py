@@ -15,7 +15,9 @@ from pathlib import Path
 TOP = Path(__file__).resolve().parent.parent
 PROGRAM = "adlcons"
 MAINTAINER = "Fulixoma <maintainers@fulixoma.example>"
-PAGES = ("ARCHIVE.md", "LIST.md", "PROOF.md", "PROVED.md", "REFUSALS.md", "REPORT.md")
+PAGES = (
+    "ARCHIVE.md", "COMPATIBILITY.md", "FAQ.md", "FILES.md", "GLOSSARY.md", "LIMITS.md", "LIST.md", "PROOF.md", "PROVED.md",
+    "REFUSALS.md", "REPORT.md", "TRUST.md")
 OTHERS = ("proof.svg", "report.schema.json")
 # A file of the repository, by its path or, of a page, by its name.
 NAMED = re.compile(r"(?:docs|examples|tests|bench|share|crates)/[\w./-]*\w|\b[A-Z_]+\.md\b|\bLICENSE-[A-Z]+\b")

@@ -13,6 +13,9 @@ from pathlib import Path
 
 import citing
 import interface
+import pages
+import transcripts
+import workstations
 from harness import LIST, MEDIA, OUT, Cases, Mismatch, Scene, Skipped, same, same_bytes
 from tables import CHANGELOG, FIRST_LIST, VERSION, wave
 
@@ -33,9 +36,10 @@ TIME_FORM = "hh.mm.ss.ff/rrrr"
 
 
 def blocks_of(page: Path) -> list:
-    """The lines of each indented block of a page."""
-    blocks = re.findall(r"(?:^    .*\n)+", page.read_text(), re.M)
-    return [[line[4:] for line in block.splitlines()] for block in blocks]
+    """The lines of each block of a page, fenced or indented."""
+    blocks = re.finditer(r"^```\w*\n(.*?)^```$|(?:^    .*\n)+", page.read_text(), re.M | re.S)
+    return [block[1].splitlines() if block[1] is not None else [line[4:] for line in block[0].splitlines()]
+            for block in blocks]
 
 
 def with_examples(scene: Scene) -> Path:
@@ -46,18 +50,48 @@ def with_examples(scene: Scene) -> Path:
     return examples
 
 
-@case("the transcript of README.md")
-def transcript(scene: Scene) -> None:
-    """The program answers the words of README's first block as it says there."""
-    examples = with_examples(scene)
-    for name in ("new", "sound"):
-        (examples / name).mkdir()
-    lines = blocks_of(TOP / "README.md")[0]
-    same("commands and answers take turns", [line[:10] == "$ adlcons " for line in lines], [True, False] * 4)
-    for command, answer in zip(lines[::2], lines[1::2]):
-        done = subprocess.run(
-            [scene.program, *shlex.split(command)[2:]], cwd=examples, capture_output=True, timeout=TIMEOUT)
-        same(f"what {command} prints", done.stdout.decode(), f"{answer}\n")
+def runs_transcript(page: Path):
+    """The commands of the page's transcripts, run one after the other, print the lines that the page shows."""
+    def body(scene: Scene) -> None:
+        if not shutil.which("bash"):
+            raise Skipped("bash isn't installed (Debian package bash)")
+        stage = transcripts.Stage(scene.program, scene.folder)
+        for command, lines in transcripts.transcript_of(page):
+            same(f"the lines that {command} prints (tests/transcripts.py writes them)", stage.printed_by(command), lines)
+    return body
+
+
+for transcribed in transcripts.pages():
+    if transcripts.transcript_of(transcribed):
+        case.add(f"the transcripts of {transcribed.relative_to(TOP)}", runs_transcript(transcribed))
+
+
+@case("no transcript is left out")
+def all_transcripts(_: Scene) -> None:
+    """Each command that a page shows after a prompt is in a console block, so that it is run."""
+    for page in transcripts.pages():
+        shown = [line for block in blocks_of(page) for line in block if line.startswith(transcripts.PROMPT)]
+        same(f"the commands that {page.relative_to(TOP)} shows", len(shown), len(transcripts.transcript_of(page)))
+
+
+def headings_of(page: Path) -> set:
+    """The anchors of a page's headings."""
+    text = re.sub(r"^```.*?^```$", "", page.read_text(), flags=re.M | re.S)
+    return {re.sub(r"[^\w -]", "", head.lower()).replace(" ", "-") for head in re.findall(r"^#+ (.+)$", text, re.M)}
+
+
+@case("the links of pages")
+def links(_: Scene) -> None:
+    """Each Markdown link leads to a file of this repository, and to a heading of it where it names one."""
+    for page in transcripts.pages():
+        text = re.sub(r"^```.*?^```$|`[^`\n]*`", "", page.read_text(), flags=re.M | re.S)
+        for target in re.findall(r"\]\(([^()\s]+)\)", text):
+            if re.match(r"[a-z]+:", target):
+                continue
+            path, _, heading = target.partition("#")
+            there = page.parent / path if path else page
+            if not there.exists() or (heading and heading not in headings_of(there)):
+                raise Mismatch(f"{page.relative_to(TOP)} links to {target}, which doesn't exist")
 
 
 @case("the commands of MANY_MACHINES.md")
@@ -75,10 +109,15 @@ def many_machines(scene: Scene) -> None:
     same_bytes("the joined file", joined.read_bytes(), alone.read_bytes())
 
 
+def code_in(page: str, language: str) -> list:
+    """The blocks of code of a page of docs/ in this language."""
+    return re.findall(rf"^```{language}\n(.*?)^```$", (DOCS / page).read_text(), re.M | re.S)
+
+
 @case("the example of LIBRARY.md")
 def library_example(_: Scene) -> None:
-    """The example for the programmer is the program's own file, which is compiled and run."""
-    code = re.search(r"^```rust\n(.*?)^```$", (DOCS / "LIBRARY.md").read_text(), re.M | re.S)[1]
+    """The last example for the programmer is the program's own file, which is compiled and run."""
+    code = code_in("LIBRARY.md", "rust")[-1]
     same("the example", code, (TOP / "crates/adlcons/src/stored.rt").read_text().partition("\n")[2])
 
 
@@ -148,24 +187,15 @@ def distinct(words: list) -> list:
 
 def synopses(text: str) -> dict:
     """The options of each command in the lines of a page's blocks that begin with it and name a LIST."""
-    told = {}
-    for command, line in re.findall(r"^(?:    |)adlcons ([a-z]+) (LIST.*)$", text, re.M):
-        other = re.search(r"\[the options of (\w+)\]", line)
-        told[command] = told[other[1]] if other else re.findall(r"--[a-z]+", line)
-    return told
+    return {command: re.findall(r"--[a-z]+", line)
+            for command, line in re.findall(r"^(?:    |)adlcons ([a-z]+) (LIST.*)$", text, re.M)}
 
 
 @case("the synopsis of README.md")
 def synopsis(scene: Scene) -> None:
-    """README.md has a line for each command over a list, with the options that its help names; those that all of them take
-    are named below."""
-    text = (TOP / "README.md").read_text()
-    common = re.findall(r"--[a-z]+", re.search(r"All but `explain` and `help` also take ([^.]*)\.", text)[1])
-    options = {command: told for command, told in helped(scene).items() if command not in ("explain", "help")}
-    told = synopses(text)
-    same("the commands over a list", list(told), list(options))
-    for command, named in options.items():
-        same(f"the options of {command}", sorted({*told[command], *common}), sorted(set(named)))
+    """README.md has a line for each command over a list, with the options that its help names, in their order."""
+    options = {command: distinct(named) for command, named in helped(scene).items() if command not in ("explain", "help")}
+    same("the options of each command", synopses((TOP / "README.md").read_text()), options)
 
 
 @case("the man page")
@@ -352,16 +382,16 @@ def names_in_code(_: Scene) -> None:
     for page in (DOCS / "MAP.md", DOCS / "PROVED.md"):
         text = re.sub(r"(?m)^    .*", "", page.read_text())
         for name in re.findall(r"`([^`]+)`", text):
-            if not is_there(name) and name not in files_in(text):
+            if not is_there(name):
                 raise Mismatch(f"{page.name} names {name}, which isn't there")
 
 
 @case("the names of CRATES.md")
 def names_in_crates(_: Scene) -> None:
-    """CRATES.md has a part for each crate but those of tests. Each name that it quotes is in the tree, and each clause in
-    parentheses is in that crate."""
+    """CRATES.md has a part for each crate. Each name that it quotes is in the tree, and each clause in parentheses is in
+    that crate."""
     parts = re.split(r"(?m)^## (\w+)\n", (DOCS / "CRATES.md").read_text())[1:]
-    same("the crates of CRATES.md", parts[::2], citing.program_crates())
+    same("the crates of CRATES.md", parts[::2], list(citing.edges()))
     for crate, part in zip(parts[::2], parts[1::2]):
         text = " ".join(part.split())
         for name in re.findall(r"`((?:\w+::)?\w+|[\w.-]+/[\w./-]+)`", text):
@@ -371,13 +401,6 @@ def names_in_crates(_: Scene) -> None:
         for clauses in re.findall(r"\((`[a-z_]+`(?:, `[a-z_]+`)*)\)", text):
             lacks = [name for name in re.findall(r"`(\w+)`", clauses) if name not in has]
             same(f"the clauses that CRATES.md names of {crate} and it lacks", lacks, [])
-
-
-def files_in(text: str) -> set:
-    """The names without a crate in the first cells of the table of definitions, which follow one with it."""
-    if "\n## The definitions\n" not in text:
-        return set()
-    return {stem for row in citing.rows(text) for _, stem in citing.files_of(row[0])}
 
 
 def clauses_of(name: str) -> list:
@@ -394,7 +417,7 @@ def clauses_of(name: str) -> list:
 def promises(_: Scene) -> None:
     """Each clause of a promise is one of each record and call of its row."""
     rows = [row[2:-2].split(" | ") for row in re.findall(r"^\| .* \|$", (DOCS / "PROVED.md").read_text(), re.M)]
-    rows = [row for row in rows if row[0] != "What" and len(row) == 3]
+    rows = [row for row in rows if row[0] != "Promise" and len(row) == 3]
     for _, owners, clauses in rows:
         for owner in re.findall(r"`([^`]+)`", owners) or [owners]:
             named = re.findall(r"`(\w+)`", clauses) or [clauses]
@@ -404,36 +427,55 @@ def promises(_: Scene) -> None:
         raise Mismatch(f"PROVED.md has {len(rows)} promises in its tables")
 
 
-@case("the crates of README.md and MAP.md")
-def tables_of_crates(_: Scene) -> None:
-    """README.md and MAP.md list each crate, with types and calls that it has, and no other; MAP.md draws no other."""
-    for page, head in ((TOP / "README.md", "Where each promise is kept"), (DOCS / "MAP.md", "The crates")):
-        table = page.read_text().partition(f"\n## {head}\n")[2].partition("\n## ")[0]
-        rows = [row[2:-2].split(" | ") for row in re.findall(r"^\| [a-z].* \|$", table, re.M)]
-        listed = [name for row in rows for name in row[0].split(", ")]
-        same(f"the crates of {page.name}", sorted(listed), sorted(citing.program_crates()))
-        for crates, *_, names in rows:
-            has = "".join(code_of(f"{crate}/src", "rt") for crate in crates.split(", "))
-            for name in re.findall(r"\w+", " ".join(re.findall(r"`([^`]+)`", names))):
-                if not re.search(rf"\b{name}\b", has):
-                    raise Mismatch(f"{page.name} names {name} of {crates}, which isn't there")
-    drawn = set(re.findall(r"(?<!`)\[(\w+)\]", (DOCS / "MAP.md").read_text()))
+@case("the crates of MAP.md")
+def table_of_crates(_: Scene) -> None:
+    """MAP.md lists each crate, with types and calls that it has, and no other, and draws no other."""
+    text = (DOCS / "MAP.md").read_text()
+    table = text.partition("\n## The crates\n")[2].partition("\n## ")[0]
+    rows = [row[2:-2].split(" | ") for row in re.findall(r"^\| [a-z].* \|$", table, re.M)]
+    listed = [name for row in rows for name in row[0].split(", ")]
+    same("the crates of MAP.md", sorted(listed), sorted(citing.program_crates()))
+    for crates, *_, names in rows:
+        has = "".join(code_of(f"{crate}/src", "rt") for crate in crates.split(", "))
+        for name in re.findall(r"\w+", " ".join(re.findall(r"`([^`]+)`", names))):
+            if not re.search(rf"\b{name}\b", has):
+                raise Mismatch(f"MAP.md names {name} of {crates}, which isn't there")
+    drawn = set(re.findall(r"(?<!`)\[(\w+)\]", text))
     same("what MAP.md draws that is no crate", sorted(drawn - set(citing.edges())), [])
 
 
-@case("the definitions of MAP.md")
-def map_of_definitions(_: Scene) -> None:
-    """MAP.md lists each file of definitions once, with definitions that it has, and which crates cite it."""
-    text = citing.MAP.read_text()
-    for files, defined, *_ in citing.rows(text):
-        pages = [TOP / "crates" / crate / "specs" / f"{stem}.antt" for crate, stem in citing.files_of(files)]
-        has = {word for page in pages if page.exists() for word in re.findall(r"[^\s(){}:]+", page.read_text())}
-        named = re.findall(r"`([^`]+)`", " ".join(re.findall(r"\([^()]*\)", defined)))
-        same(f"the definitions that {files} lack", [name for name in named if name not in has], [])
-    files = [file for row in citing.rows(text) for file in citing.files_of(row[0])]
-    same("the files of definitions", sorted(files), citing.definitions())
-    for row, wanted in zip(citing.rows(text), citing.rows(citing.cited(text))):
-        same(f"the crates that cite {row[0]} (tests/citing.py writes them)", row[-1], wanted[-1])
+@case("the sample lists of COMPATIBILITY.md")
+def sample_lists(_: Scene) -> None:
+    """COMPATIBILITY.md has each list of tests/workstations.py, with the numbers of its refusals in their order."""
+    rows = re.findall(r"^\| (\w+) \| (\d+): [^|]*\| (\d+): [^|]*\| (\d+): ", (DOCS / "COMPATIBILITY.md").read_text(), re.M)
+    wanted = [(name, *(int(each.line.split()[1]) for each in rounds if each.line.startswith("refused")))
+              for name, (_, rounds) in workstations.EXPORTS.items()]
+    same("the lists and their refusals", [(name, *map(int, numbers)) for name, *numbers in rows], wanted)
+
+
+# Constants of the code, and how docs/LIMITS.md has them.
+LIMITS = {
+    ("MOST_LINES", 65_535): "65,535 together", ("MOST_READS", 1_048_576): "1,048,576 reads", ("READ_SIZE", 65_536): "64 KiB",
+    ("HISTORY_LIMIT", 65_536): "65,536 bytes are carried", ("LONGEST_HEADER", 66_226): "66,226 bytes",
+    ("MOST_RUNS", 32_767): "32,767 each", ("MOST_ENTRIES", 32_767): "32,767 each", ("MOST_CHANNELS", 64): "1 to 64",
+    ("LONGEST_RIFF", 4_294_967_302): "4,294,967,302 bytes", ("BLOCK_LENGTH", 4096): "4,096 samples", ("FEW", 64): "at most 64",
+    ("JOB", 786_432): "768 KiB", ("JOBS", 65_536): "about 65,536", ("TIMES", 32): "1/32 of all", ("SHORTEST", 2_097_152): "2 MiB",
+    ("LONGEST", 16_777_216): "16 MiB", ("PIECE", 65_536): "65,536 samples", ("OPEN_FILES", 28): "28 sources and 28 outputs",
+    ("AT_ONCE", 262_144): "256 KiB", ("FEW_FAULTS", 20): "refused check | 20", ("MOST", 20): "at a difference | 20",
+    ("MOST", 1000): "in a report | 1,000", ("MOST_NAMED", 1000): "of a report | 1,000", ("SHOWN_BYTES", 160): "160 bytes",
+    ("STOOD_BYTES", 60): "a word 60", ("MOST_SEARCHES", 100): "looked for | 100", ("MOST_NAMES", 1_048_576): "| 1,048,576 |",
+    ("MOST_SAMPLES", 3600 * 48_000): "an hour",
+}
+
+
+@case("the limits of LIMITS.md")
+def limits(_: Scene) -> None:
+    """The numbers of LIMITS.md are those of the code."""
+    page = (DOCS / "LIMITS.md").read_text()
+    code = {(name, int(value.replace("_", ""))) for name, value in re.findall(
+        r"^ *(?:pub(?:\(\w+\))? )?const (\w+): \w+ = ([\d_]+);", code_of("*/src", "rt"), re.M)}
+    same("the limits that the code lacks", sorted(LIMITS.keys() - code), [])
+    same("the limits that the page lacks", [words for words in LIMITS.values() if words not in page], [])
 
 
 @case("the sum of PROOF.md")
@@ -504,3 +546,85 @@ def wrong_bodies(_: Scene) -> None:
                 old = rest
             elif word == "new":
                 text = text.replace(old, rest)
+
+
+@case("the pages that are made from the tree")
+def made_pages(_: Scene) -> None:
+    """Each page that tests/pages.py makes is as it makes it now."""
+    for name, made in pages.PAGES.items():
+        if (DOCS / name).read_text() != made():
+            raise Mismatch(f"docs/{name} is out of date: run tests/pages.py")
+
+
+@case("the definitions that TRUST.md quotes")
+def quoted_definitions(_: Scene) -> None:
+    """Each line of a definition that TRUST.md quotes is in the file that it links to before."""
+    for text, quoted in re.findall(r"(.*?)^```antt\n(.*?)^```$", (DOCS / "TRUST.md").read_text(), re.M | re.S):
+        source = (DOCS / re.findall(r"\]\(([^)]*\.antt)\)", text)[-1]).resolve()
+        lines = [line.strip() for line in source.read_text().splitlines()]
+        lacks = [line for line in quoted.splitlines() if line.strip() and line.strip() not in lines]
+        same(f"the lines that aren't in {source.name}", lacks, [])
+
+
+def lines_of_crates(folder: str, kind: str) -> int:
+    """The lines of these files of the crates that aren't of tests."""
+    files = (path for crate in citing.program_crates() for path in (TOP / "crates" / crate / folder).rglob(f"*.{kind}"))
+    return sum(path.read_text().count("\n") for path in files)
+
+
+@case("the sizes in TRUST.md")
+def sizes(_: Scene) -> None:
+    """The numbers of lines that TRUST.md has are those of the tree, within 5 %."""
+    text = " ".join((DOCS / "TRUST.md").read_text().split())
+    number = r"([\d,]+)"
+    told = re.search(rf"The sum is {number} lines\..* is about {number} lines in {number} files;.* is about {number} lines\."
+                     rf".* about {number} lines of code .*, {number} of definitions and {number} of proofs", text)
+    found = {title: one for title, _, one in pages.readings()}
+    same_sound, whole = found["The new project sounds the same"], found["The program over folders: the contract of `answer_words`"]
+    wanted = (found["The exact sum of entries, rounding and clipping"].lines, same_sound.lines, len(same_sound.files),
+              whole.lines, lines_of_crates("src", "rt"), lines_of_crates("specs", "antt"), lines_of_crates("proofs", "antt"))
+    for says, is_so in zip((int(word.replace(",", "")) for word in told.groups()), wanted):
+        if abs(says - is_so) > is_so * 0.05:
+            raise Mismatch(f"TRUST.md says {says} where it is {is_so}")
+
+
+# What pages don't say any more, as CONTRIBUTING.md has it under Writing.
+PHRASES = re.compile(
+    r"\b(?:wrong bod(?:y|ies)|the kit|the house|the gate|want of memory|in (?:its|their) stead|half as long again"
+    r"|parts of a hundred|anew|la(?:id|ys) out|go(?:es|ne)? on with|looked at|hand(?:ed|s) (?:out|on)|clause speaks"
+    r"|no clause's|likewise|behind|beside|so many|gives back|times? of processors)\b")
+
+
+def prose_of(text: str) -> str:
+    """A page without its code, its quotations, and the table of words in CONTRIBUTING.md."""
+    text = re.sub(r"(?ms)^```.*?^```$|^\| Not \| But \|$.*?(?=^$)", "", text)
+    return re.sub(r"(?m)^    .*$|`[^`\n]*`|\"[^\"\n]*\"", "", text)
+
+
+@case("the English of the pages")
+def english(_: Scene) -> None:
+    """No page that a person wrote has one of these phrases."""
+    for page in (*PAGES, SHARE / "adlcons.1", TOP / "bench/HISTORY.md"):
+        if page.name not in pages.PAGES:
+            found = PHRASES.findall(prose_of(page.read_text()))
+            same(f"what {page.relative_to(TOP)} says", found, [])
+
+
+@case("the version to cite")
+def cited_version(_: Scene) -> None:
+    """CITATION.cff has the version of the program."""
+    version = re.search(r'const VERSION: &str = "([^"]*)"', (TOP / "crates/commandline/src/words.rt").read_text())[1]
+    same("the version of CITATION.cff", re.search(r"(?m)^version: (.*)$", (TOP / "CITATION.cff").read_text())[1], version)
+
+
+# System calls that pages name.
+OF_THE_SYSTEM = {"sync_file_range", "copy_file_range"}
+
+
+@case("the names of TRUST.md, DECISIONS.md and LIBRARY.md")
+def names_of_code(_: Scene) -> None:
+    """Each name that they quote and that can only be one of the code is in the tree."""
+    for page in (DOCS / name for name in ("TRUST.md", "DECISIONS.md", "LIBRARY.md")):
+        for name in re.findall(r"`((?:\w+::)*\w+)`", re.sub(r"(?ms)^```.*?^```$", "", page.read_text())):
+            if re.search(r"::|_|^[A-Z]\w*[a-z]", name) and name not in OF_THE_SYSTEM and not is_there(name):
+                raise Mismatch(f"{page.name} names {name}, which isn't there")
