@@ -142,9 +142,9 @@ module _ (plan : MediaPlan) (is : IsMediaPlan plan) (sources : Files) where
       rw own (blank_output (full_by_pieces plan is sources fit.sized) written i _ there
       (rw (add-one i) at (laid i under _ there)))
 
-  pub media_before : SourcesFit (job_plan plan) sources → (result : Result (Unit {0}) OutputFault) {written : Files}
-      {failed : List ℕ → Type 0} → IfErr result (λ fault. ⊤ → FailsAtMedium (length plan.runs) fault failed)
+  pub media_before : SourcesFit (job_plan plan) sources → (result : Result (Unit {0}) OutputFault) (written : Files)
+      (failed : List ℕ → Type 0) → IfErr result (λ fault. ⊤ → FailsAtMedium (length plan.runs) fault failed)
       → IfErr result (λ fault. (k : ℕ) → k < fault.file → IsLaidOut plan written k)
       → IfErr result (λ fault. AreBlankBefore (job_plan plan) sources fault.file written)
-  media_before fit (Ok x) fails laid = tt
-  media_before fit (Err fault) {written = written} fails laid = blank_before fit written fault.file (fails tt).0 laid
+  media_before fit (Ok x) written failed fails laid = tt
+  media_before fit (Err fault) written failed fails laid = blank_before fit written fault.file (fails tt).0 laid

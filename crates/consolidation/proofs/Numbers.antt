@@ -80,13 +80,13 @@ module _ (plan : MediaPlan) where
         λ past. grind (arith, told, report (omega (arith, past))),
       ))
 
-  pub before_failed : (result : Result (Unit {0}) OutputFault) (sources written : Files) {failed : List ℕ → Type 0}
+  pub before_failed : (result : Result (Unit {0}) OutputFault) (sources written : Files) (failed : List ℕ → Type 0)
       → IfErr result (λ fault. ⊤ → IsAt (job_plan plan) fault.file failed)
       → IfErr result (λ fault. length plan.runs < fault.file → IsSumsThere plan.report written)
       → IfErr result (λ fault. length plan.runs + 2 ≤ fault.file → IsReportThere plan.report written)
       → IfErr result (λ fault. HoldBefore (job_plan plan) fault.file sources written)
-  before_failed (Ok x) sources written at sums report = tt
-  before_failed (Err fault) sources written at sums report =
+  before_failed (Ok x) sources written failed at sums report = tt
+  before_failed (Err fault) sources written failed at sums report =
       before_there sources written fault.file (at tt).0 sums report
 
   -- a file that the work doesn't write is none of them
@@ -162,11 +162,11 @@ module _ (plan : MediaPlan) (is : IsMediaPlan plan) where
   }
 
   -- a medium that failed comes before those that come last
-  pub media_early : (result : Result (Unit {0}) OutputFault) {failed : List ℕ → Type 0}
+  pub media_early : (result : Result (Unit {0}) OutputFault) (failed : List ℕ → Type 0)
       → IfErr result (λ fault. ⊤ → FailsAtMedium (length plan.runs) fault failed)
       → IfErr result (λ fault. fault.file < (job_plan plan).last)
-  media_early (Ok x) fails = tt
-  media_early (Err fault) fails = (fails tt).0
+  media_early (Ok x) failed fails = tt
+  media_early (Err fault) failed fails = (fails tt).0
 
   -- and the outputs after it are as they were
   kept_after : (file : ℕ) (old new : Files) → ((n : List ℕ) → IsNoMedium (length plan.runs) n → new n ≡ old n)

@@ -17,7 +17,7 @@ returns-clause-finishes g c =
           (last_there plan sources _);
       in_order = search rules;
       before = λ honest sources holds. before_failed plan c.write_last.result sources _
-          last.only_writes.failed_there (last.sums_first (on honest)) (last.report_first (on honest));
+          (g.B.Bench.failed_at c.write_last.new.bench) last.only_writes.failed_there (last.sums_first (on honest)) (last.report_first (on honest));
       durable = λ honest. both_ok c.write_last.result (last.durable_list (on honest)) (last.durable_report (on honest))
           (λ list report. record {
             jobs = media_durable plan _ _ _ _ (last.only_writes.durable (on honest))

@@ -13,9 +13,11 @@ returns-clause-lays_out g c = record {
   marks = search rules;
   any_moment = search rules;
   left = search rules;
-  early = media_early c.args.self.now c.lay_out_outputs.ensures.planned c.lay_out_outputs.result c.lay_out_outputs.ensures.only_writes.failed_there;
+  early = media_early c.args.self.now c.lay_out_outputs.ensures.planned c.lay_out_outputs.result
+      (g.B.Bench.failed_at c.lay_out_outputs.new.bench) c.lay_out_outputs.ensures.only_writes.failed_there;
   before = λ honest sources fit. media_before c.args.self.now c.lay_out_outputs.ensures.planned sources fit
-      c.lay_out_outputs.result c.lay_out_outputs.ensures.only_writes.failed_there
+      c.lay_out_outputs.result (g.B.Bench.stored c.lay_out_outputs.new.bench)
+      (g.B.Bench.failed_at c.lay_out_outputs.new.bench) c.lay_out_outputs.ensures.only_writes.failed_there
       (c.lay_out_outputs.ensures.before honest);
   after = λ honest. media_after c.args.self.now c.lay_out_outputs.ensures.planned c.lay_out_outputs.result _ _
       (c.lay_out_outputs.ensures.only_writes.others honest) (c.lay_out_outputs.ensures.after honest);
