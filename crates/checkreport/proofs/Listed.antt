@@ -1,15 +1,18 @@
 -- The further faults that are listed, and whether they are all.
-use Rattle.std.proofs.Common.{◌≡◌, ◌≤◌, ◌∙◌, Bool, IsTrue, true, false, List, [], ◌∷◌, ◌++◌, ℕ, ap, append_assoc, drop, length, map, not, refl, subst, sym, take, take_all}
+use Rattle.std.proofs.Common.{◌≡◌, ◌≤◌, ◌∙◌, Bool, IsTrue, true, false, List, [], ◌∷◌, ◌++◌, ◌||◌, ℕ, ap, append_assoc, drop, length, map, not, refl, subst, sym, take, take_all}
 use Rattle.std.proofs.lemmas.List.{append-nil, map_push, take-append-drop}
+use Rattle.std.proofs.lemmas.List.Folds.{list_any-append}
+use Rattle.devices.specs.declared.source.Shelf as source
 use Rattle.work_terms.specs.Disk.{Files}
-use Rattle.work_terms.specs.Refusals.{Refusal}
+use Rattle.work_terms.specs.Refusals.{Refusal, is_device}
 use Rattle.opening.specs.Faults.{refusal_of}
+use Rattle.opening.specs.Further.{IsCounted, names_device}
 use Rattle.opening.specs.declared.fault.Fault.{Fault}
 use Rattle.opening.specs.declared.fault.Fault.TheVariants as fault
 use Rattle.adlread.specs.declared.fault.AdlFault.{AdlFault}
 use Rattle.console.specs.declared.console.Console as console
 use Rattle.checkreport.specs.Report.{ExplainedFault, faults_of}
-use Rattle.checkreport.specs.Reported.{AreListed, AreOfList, AreOfSources, PrintsRefused}
+use Rattle.checkreport.specs.Reported.{AreFound, AreListed, AreOfList, AreOfSources, AreOfText, PrintsRefused}
 
 -- a prefix
 pub listed_so_far : {X : Type 0} (k : ℕ) (all listed : List X) → listed ≡ take k all → AreListed all true listed false
@@ -55,25 +58,55 @@ pub of_honest : (honest : Bool) (list : List ℕ) (files : Files) (first : Fault
 of_honest honest list files first listed are_all is =
     subst (λ (b : Bool). AreOfList b list files first listed are_all) is
 
--- faults listed after a fault that isn't of the text
-of_sources : (honest : Bool) (list : List ℕ) (files : Files) (first : Fault)
-    → ((of : AdlFault) → first ≡ fault.List of → ⊥) → (listed : List Fault) (are_all : Bool)
-    → (IsTrue honest → AreOfSources list files first listed are_all)
-    → AreOfList honest list files first listed are_all
-of_sources honest list files (fault.List of) other listed are_all these = absurd (other of refl)
-of_sources honest list files (fault.SameName index) other listed are_all these = these
-of_sources honest list files (fault.Media index name of) other listed are_all these = these
-of_sources honest list files (fault.Entry of) other listed are_all these = these
+-- a device fault among the listed faults is one of all faults
+pub listed_devices : (all listed : List Fault) (are_all : Bool) → AreListed all true listed are_all
+    → names_device listed ≡ true → names_device all ≡ true
+listed_devices all listed true is devices = ap names_device (sym is.0) ∙ devices
+listed_devices all listed false is devices =
+    ap names_device (sym is.1) ∙ list_any-append (λ fault. is_device (refusal_of fault).number) listed is.0
+    ∙ ap (λ b. b || names_device is.0) devices
 
-pub report_of_sources : {O : Type 0} (out : console.Ghosts O) (old new : O) (honest : Bool) (list : List ℕ) (files : Files)
-    (first : Fault) → ((of : AdlFault) → first ≡ fault.List of → ⊥)
-    → PrintsRefused out old new first (λ listed are_all. IsTrue honest → AreOfSources list files first listed are_all)
-    → PrintsRefused out old new first (AreOfList honest list files first)
-report_of_sources out old new honest list files first other report = record {
-  explained = report.explained;
-  further = report.further;
-  media_error = report.media_error;
-  are_all = report.are_all;
-  these = of_sources honest list files first other (faults_of report.further) report.are_all report.these;
-  printed = report.printed;
-}
+module _ {S : Type 0} (shelf : source.Ghosts S) (before after : S) (list : List ℕ) where
+  -- found in the sources
+  found_in_sources : (first : Fault) → ((of : AdlFault) → first ≡ fault.List of → ⊥)
+      → (listed : List Fault) (are_all : Bool)
+      → (IsTrue (shelf.honest before) → AreOfSources list (shelf.stored before) first listed are_all)
+      → IsCounted shelf before after listed → AreFound shelf before after list first listed are_all
+  found_in_sources (fault.List of) other listed are_all these counted = absurd (other of refl)
+  found_in_sources (fault.SameName index) other listed are_all these counted =
+      record { of_list = these; counted = counted }
+  found_in_sources (fault.Media index name of) other listed are_all these counted =
+      record { of_list = these; counted = counted }
+  found_in_sources (fault.Entry of) other listed are_all these counted =
+      record { of_list = these; counted = counted }
+
+  pub report_of_sources : {O : Type 0} (out : console.Ghosts O) (old new : O) (first : Fault)
+      → ((of : AdlFault) → first ≡ fault.List of → ⊥)
+      → PrintsRefused out old new first (λ listed are_all.
+      (IsTrue (shelf.honest before) → AreOfSources list (shelf.stored before) first listed are_all)
+      × IsCounted shelf before after listed)
+      → PrintsRefused out old new first (AreFound shelf before after list first)
+  report_of_sources out old new first other report = record {
+    explained = report.explained;
+    further = report.further;
+    media_error = report.media_error;
+    are_all = report.are_all;
+    these = found_in_sources first other (faults_of report.further) report.are_all report.these.0 report.these.1;
+    printed = report.printed;
+  }
+
+  pub report_of_text : {O : Type 0} (out : console.Ghosts O) (old new : O) (first : Fault) (of : AdlFault)
+      → first ≡ fault.List of → PrintsRefused out old new first (AreOfText list of)
+      → PrintsRefused out old new first (AreFound shelf before after list first)
+  report_of_text out old new first of is report = record {
+    explained = report.explained;
+    further = report.further;
+    media_error = report.media_error;
+    are_all = report.are_all;
+    these = found_in_text is report.these;
+    printed = report.printed;
+  }
+    where
+      found_in_text : {first : Fault} {listed : List Fault} {are_all : Bool} → first ≡ fault.List of
+          → AreOfText list of listed are_all → AreFound shelf before after list first listed are_all
+      found_in_text is these = rw is (record { of_list = these; counted = tt })

@@ -10,7 +10,8 @@ use Rattle.list_terms.specs.Text.{text_value}
 use Rattle.adlread.specs.Further.{AreFurther}
 use Rattle.adlread.specs.declared.fault.AdlFault.{AdlFault}
 use Rattle.opening.specs.Faults.{refusal_of}
-use Rattle.opening.specs.Further.{AreAll}
+use Rattle.devices.specs.declared.source.Shelf as source
+use Rattle.opening.specs.Further.{AreAll, IsCounted}
 use Rattle.opening.specs.declared.fault.Fault.{Fault}
 use Rattle.opening.specs.declared.fault.Fault.TheVariants as fault
 use Rattle.serde_json.specs.Data.{Data, null}
@@ -67,6 +68,19 @@ AreOfList honest list files (fault.Media index name first) listed are_all =
     IsTrue honest → AreOfSources list files (fault.Media index name first) listed are_all
 AreOfList honest list files (fault.Entry first) listed are_all =
     IsTrue honest → AreOfSources list files (fault.Entry first) listed are_all
+
+-- If further faults of files say that a device failed, the store counted a failure.
+abbrev pub AreCounted : {S : Type 0} → source.Ghosts S → S → S → (first : Fault) → List Fault → Type 0
+AreCounted shelf old new (fault.List first) listed = ⊤
+AreCounted shelf old new (fault.SameName index) listed = IsCounted shelf old new listed
+AreCounted shelf old new (fault.Media index name first) listed = IsCounted shelf old new listed
+AreCounted shelf old new (fault.Entry first) listed = IsCounted shelf old new listed
+
+-- The further faults of a list, found in its text or in the sources of a store.
+pub record AreFound {S : Type 0} (shelf : source.Ghosts S) (old new : S) (list : List ℕ) (first : Fault)
+    (listed : List Fault) (are_all : Bool) : Type 0 where
+  pub of_list : AreOfList (shelf.honest old) list (shelf.stored old) first listed are_all
+  pub counted : AreCounted shelf old new first listed
 
 -- an invalid text is reported as such, whatever the files contain
 abbrev pub IsOfText : List ℕ → (first : Refusal) → Type 0

@@ -6,10 +6,11 @@ ghost use Rattle.work_terms.specs.Disk.{Files};
 ghost use Rattle.work_terms.specs.Refusals.{File, IsDue, Nowhere};
 ghost use Rattle.list_terms.specs.Heard.{IsAccepted, project_fault};
 ghost use Rattle.opening.specs.Faults.{refusal_of};
+ghost use Rattle.opening.specs.Further.{IsCounted};
 ghost use Rattle.console.specs.Printing.{Prints};
 ghost use Rattle.checkreport.specs.Parts.{after_commas, fault_text};
 ghost use Rattle.checkreport.specs.Report.{Beside, ExplainedFault, accepted_data, faults_of, unread_data};
-ghost use Rattle.checkreport.specs.Reported.{AreOfList, AreOfSources, AreOfText, IsReported, PrintsRefused, PrintsRefusedLine, PrintsUnread, no_memory};
+ghost use Rattle.checkreport.specs.Reported.{AreFound, AreOfList, AreOfSources, AreOfText, IsReported, PrintsRefused, PrintsRefusedLine, PrintsUnread, no_memory};
 
 use crate::accepted::put_report;
 use crate::explained::{Explains, Member};
@@ -58,6 +59,8 @@ pub fn put_refused<S: Shelf, X: Explains, O: Console>(
 ) -> u8
     ensures printed { PrintsRefusedLine O.Console out.old out.new first.now
         (AreOfList (S.honest shelf.old) list.now (S.stored shelf.old) first.now) }
+    ensures found { PrintsRefusedLine O.Console out.old out.new first.now
+        (AreFound S.Shelf shelf.old shelf.new list.now first.now) }
     ensures reported { IsTrue (S.honest shelf.old)
         → IsDue (refusal_of first.now) (project_fault list.now (S.stored shelf.old))
         → IsReported list.now (S.stored shelf.old) O.Console out.old out.new result }
@@ -109,7 +112,7 @@ fn put_faults<S: Shelf, X: Explains, O: Console>(
     out: &mut O,
 ) -> Result<(), AllocError>
     ensures printed { OnOk result (PrintsRefused O.Console out.old out.new first.now
-        (AreOfList (S.honest shelf.old) list.now (S.stored shelf.old) first.now)) }
+        (AreFound S.Shelf shelf.old shelf.new list.now first.now)) }
     ensures unprinted { OnErr result (out.new ≡ out.old) }
 {
     match first {
@@ -148,8 +151,9 @@ fn put_sources<S: Shelf, X: Explains, O: Console>(
     out: &mut O,
 ) -> Result<(), AllocError>
     ensures printed { OnOk result (PrintsRefused O.Console out.old out.new first.now
-        (λ listed are_all. IsTrue (S.honest shelf.old)
-        → AreOfSources list.now (S.stored shelf.old) first.now listed are_all)) }
+        (λ listed are_all. (IsTrue (S.honest shelf.old)
+        → AreOfSources list.now (S.stored shelf.old) first.now listed are_all)
+        × IsCounted S.Shelf shelf.old shelf.new listed)) }
     ensures unprinted { OnErr result (out.new ≡ out.old) }
 {
     put_first(alloc, first, explains, out)?;
@@ -171,6 +175,7 @@ fn put_further<S: Shelf, X: Explains, O: Console>(
     ensures { (printed : List ExplainedFault)
         × (IsTrue (S.honest shelf.old)
         → AreOfSources list.now (S.stored shelf.old) first.now (faults_of printed) result)
+        × IsCounted S.Shelf shelf.old shelf.new (faults_of printed)
         × Prints O.contents O.failures out.old out.new (after_commas fault_text printed) }
 {
     let Ok(further) = further_faults(alloc, list, shelf, first, usize::MAX) else {

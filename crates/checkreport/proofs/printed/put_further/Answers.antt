@@ -1,5 +1,5 @@
 use Rattle.std.proofs.Common.{◌∙◌, arith, inr, subst, true}
-use Rattle.checkreport.proofs.Listed.{listed_of_all, listed_of_first}
+use Rattle.checkreport.proofs.Listed.{listed_devices, listed_of_all, listed_of_first}
 use Rattle.checkreport.specs.Report.{faults_of}
 use Rattle.checkreport.specs.Reported.{AreListed}
 use Rattle.checkreport.proofs.printed.put_further.Goals as goal
@@ -18,6 +18,10 @@ returns g c =
                 (subst (λ faults. AreListed faults true (faults_of more.0) c.put_all-are_printed.result)
                 (c.deref.ensures.value ∙ all.2.0) more.1),
           ),
+      λ devices. c.in-Ok.ensures.counted
+          (listed_devices c.in-Ok.further.faults.items (faults_of more.0) c.put_all-are_printed.result
+          (subst (λ faults. AreListed faults true (faults_of more.0) c.put_all-are_printed.result)
+          c.deref.ensures.value more.1) devices),
       more.2,
     )
 
@@ -34,5 +38,9 @@ returns-then-further-gt0 g c =
                 (subst (λ faults. AreListed faults true (faults_of more.0) c.put_all-are_printed.result)
                 (c.deref.ensures.value ∙ all.2.0) more.1),
           ),
+      λ devices. c.in-Ok.ensures.counted
+          (listed_devices c.in-Ok.further.faults.items (faults_of more.0) c.put_all-are_printed.result
+          (subst (λ faults. AreListed faults true (faults_of more.0) c.put_all-are_printed.result)
+          c.deref.ensures.value more.1) devices),
       more.2,
     )

@@ -17,6 +17,18 @@ returns-in-Ok-clause-printed g c =
       report.further,
       report.media_error,
       report.are_all,
+      report.these.of_list,
+      prints_more g.O.Console.contents g.O.Console.failures report.printed c.end_line.ensures,
+    )
+
+pub returns-in-Ok-clause-found : goal.returns-in-Ok-clause-found
+returns-in-Ok-clause-found g c =
+    let report = c.in-Ok.ensures.printed in
+    inl (
+      report.explained,
+      report.further,
+      report.media_error,
+      report.are_all,
       report.these,
       prints_more g.O.Console.contents g.O.Console.failures report.printed c.end_line.ensures,
     )
@@ -31,7 +43,7 @@ returns-in-Ok-clause-reported g c =
             IsDue (refusal_of c.args.first.now) (read_fault (g.S.Shelf.stored c.args.shelf.now) read)) is due,
         λ _. due,
         of_honest (g.S.Shelf.honest c.args.shelf.now) c.args.list.now (g.S.Shelf.stored c.args.shelf.now)
-            c.args.first.now (faults_of report.further) report.are_all honest report.these,
+            c.args.first.now (faults_of report.further) report.are_all honest report.these.of_list,
       );
       status_is = refl;
       printed = prints_more g.O.Console.contents g.O.Console.failures report.printed c.end_line.ensures;
