@@ -13,12 +13,14 @@ const SHOWN_BYTES: usize = 160;
 
 const STOOD_BYTES: usize = 60;
 
-/// Number of bytes searched for line ends at a time.
+/// The number of bytes of a list whose line feeds are counted together.
 const BLOCK_BYTES: usize = 4096;
 
-/// The lines of a list by number; lookups are fastest in increasing order.
-///
-/// `rest` is the list after `ends` line feeds. `numbers` has one bit for each fault number already looked up.
+/// The number of lines from which on they are counted by blocks.
+const MANY_LINES: usize = 64;
+
+/// The lines of a list by their numbers, found fastest if the numbers rise. `rest` is the list after `ends` line feeds.
+/// `numbers` has a bit for each number of a fault that a line was requested for.
 #[derive(Clone, Copy)]
 pub struct ListLines<'a> {
     list: &'a [u8],
@@ -87,17 +89,17 @@ impl<'a> ListLines<'a> {
         })
     }
 
-    /// Returns the line with this number, counted from 1, without its line end and without a byte order mark.
+    /// Returns the line of this number, counted from 1, without its end. A byte order mark at the start of the list is no
+    /// part of it. The next search starts at this line.
     fn line(&mut self, number: u64) -> Option<&'a [u8]> {
         let position = usize::try_from(number.checked_sub(1)?).ok()?;
-        if position <= self.ends {
+        if position < self.ends {
             self.rest = without_mark(self.list);
             self.ends = 0;
         }
-        let (near, left) = behind_blocks(self.rest, position.saturating_sub(self.ends));
-        self.rest = near;
-        self.ends = position.saturating_sub(left);
-        let line = near.split(|byte| *byte == b'\n').nth(left)?;
+        self.rest = after_lines(self.rest, position.saturating_sub(self.ends))?;
+        self.ends = position;
+        let line = self.rest.split(|byte| *byte == b'\n').next()?;
         Some(line.strip_suffix(b"\r").unwrap_or(line))
     }
 
@@ -134,13 +136,26 @@ fn passes(time: &[u8], rate: Rate) -> bool {
     }
 }
 
-/// Skips whole blocks with together fewer than `ends` line ends. Returns the rest of the text and the number of line
-/// ends still to skip.
-///
-/// Counting per block makes lookups in long lists faster.
-fn behind_blocks(text: &[u8], ends: usize) -> (&[u8], usize) {
+/// Returns the text after this number of line feeds, or `None` if it has fewer. If there are many, those of a block of the
+/// text are counted together, which is faster than to search for each.
+fn after_lines(text: &[u8], count: usize) -> Option<&[u8]> {
+    let (mut rest, left) = if count < MANY_LINES {
+        (text, count)
+    } else {
+        after_blocks(text, count)
+    };
+    for _ in 0..left {
+        let end = rest.iter().position(|byte| *byte == b'\n')?;
+        rest = rest.get(end.saturating_add(1)..)?;
+    }
+    Some(rest)
+}
+
+/// Returns the text after the blocks with fewer than this number of line feeds, and how many of them aren't in those
+/// blocks.
+fn after_blocks(text: &[u8], count: usize) -> (&[u8], usize) {
     let mut at: usize = 0;
-    let mut left = ends;
+    let mut left = count;
     for block in text.chunks(BLOCK_BYTES) {
         let ended = line_feeds_in(block);
         if ended >= left {
