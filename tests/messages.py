@@ -1,5 +1,6 @@
 """What standard error says beside the lines of the output: it says what is so, and what to do about just that."""
 
+import json
 import os
 import re
 from urllib.parse import quote
@@ -186,13 +187,24 @@ def medium_gone_meanwhile(scene: Scene) -> None:
 
 @case("control characters in words")
 def control_characters(scene: Scene) -> None:
-    """A mistake in the words tells their control characters as the escapes of their bytes."""
-    for words in (("\x1b]0;x\a",), ("render", LIST, MEDIA, OUT, "--\x1b[2J"), ("check", LIST, MEDIA, "a\rb\u0085")):
+    """A mistake in the words tells their control and format characters as the escapes of their bytes."""
+    for words in (
+            ("\x1b]0;x\a",), ("render", LIST, MEDIA, OUT, "--\x1b[2J"), ("check", LIST, MEDIA, "a\rb\u0085"),
+            ("check", LIST, MEDIA, "a\u200bb\u00ad\U000e0041")):
         got = scene.run(*words)
         same(f"status and standard output of {words}", (got.status, got.output), (2, b""))
         raw = [character for character in got.error.decode() if character != "\n" and not character.isprintable()]
         same(f"control characters of {words} on standard error", raw, [])
     same("an escape", b"'%1B]0;x%07'" in scene.run("\x1b]0;x\a").error, True)
+
+
+@case("invisible characters in names of files")
+def invisible_names(scene: Scene) -> None:
+    """A missing file whose name looks like that of another one: its invisible characters are printed as escapes."""
+    for name in ("\u200bA.wav", "A\u00ad.wav", "A.wav\u2060", "\u3164A.wav", "A\u2800.wav", "A.\U000e0041wav", "A\ufe0f.wav"):
+        text = FIRST_LIST.replace(b"A.wav", quote(name).encode())
+        printed = "".join(each if each.isascii() else quote(each) for each in name)
+        expect_refused(scene, text, MEDIA_FILES, f"refused 21 at index 1 file {printed}")
 
 
 NEARLY = "; the folder has %s, in other capitals or another form of Unicode (NFC, NFD); rename that file"
@@ -352,6 +364,34 @@ def all_that_is_at_fault(scene: Scene) -> None:
             same_outcome(scene.run(*words), 1, f"refused {told[0]}", further=few)
     scene.put(FIRST_LIST, MEDIA_FILES)
     same_outcome(scene.run("check", "--all", LIST, MEDIA), 0, "accepted 1 entries 1 indexes")
+
+
+def faulty_faders(count: int) -> bytes:
+    return FIRST_LIST.replace(b"</ADL>", b"<FADER_LIST>\n" + b"(Fader) 1\n" * count + b"</FADER_LIST>\n</ADL>")
+
+
+def missing_files(count: int) -> bytes:
+    numbers, nothing = range(1, count + 1), b"00.00.00.00/0000"
+    return model.list_text(
+        [model.source_line(number, f"{number}.wav", nothing) for number in numbers],
+        [model.entry_line(number, number, nothing, nothing, b"00.00.01.00/0000") for number in numbers])
+
+
+@case("more faults than are listed")
+def more_faults(scene: Scene) -> None:
+    """--all lists 10,000 further faults at most and then says how many more there are; a report has them all."""
+    for text_of, first, last in (
+            (faulty_faders, "13 at line 13", "13 at line 10013"),
+            (missing_files, "21 at index 1 file 1.wav", "21 at index 10001 file 10001.wav")):
+        for count, more in ((10_001, []), (10_002, ["and 1 more"]), (10_004, ["and 3 more"])):
+            scene.put(text_of(count), MEDIA_FILES)
+            got = scene.run("check", "--all", LIST, MEDIA)
+            same("the status and standard output", (got.status, got.output), (1, f"refused {first}\n".encode()))
+            _, *told = got.error.decode().splitlines()
+            same("the last fault", told[9_999].split(": ")[0], f"also {last}")
+            same("how many more", told[10_000:], more)
+        got = scene.run("check", "--report", LIST, MEDIA)
+        same("how many faults the report has", len(json.loads(got.output)["faults"]), 10_004)
 
 
 @case("the rate behind faults")

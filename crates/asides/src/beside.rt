@@ -24,6 +24,9 @@ pub trait Asides: Drop {
 /// Number of further faults printed unless all are requested.
 pub const FEW_FAULTS: usize = 20;
 
+/// Maximum number of further faults printed if all are requested.
+pub const MOST_FAULTS: usize = 10_000;
+
 /// The additional information for two lists.
 #[derive(Drop)]
 pub struct AsidesOfTwo<A: Asides, B: Asides> {

@@ -1,17 +1,18 @@
 // Further faults of a refused list, printed one per line.
 ghost use Rattle.opening.specs.Further.{WasRead};
 
-use crate::beside::Asides;
+use crate::beside::{Asides, MOST_FAULTS};
 use crate::place::project_place;
 use crate::second_look::SecondLook;
 use adlread::{AdlFault, Faults};
-use console::{Console, put_place};
+use console::{Console, put_counted, put_place};
 use devices::Shelf;
 use findings::{FurtherExplanation, ListLines, Look};
 use opening::{Fault, further_faults};
 use std::alloc::Global;
 
-/// Prints the further faults of a list that was refused with the fault `first`, up to the maximum of `asides`.
+/// Prints the further faults of a list that was refused with the fault `first`, up to the maximum of `asides`, and
+/// at most [`MOST_FAULTS`].
 ///
 /// Then prints the number of the others, or for faults of the text only that there are more. Prints nothing if the
 /// faults can't be determined.
@@ -25,7 +26,7 @@ pub fn tell_further<S: Shelf, E: Console, A: Asides>(
 )
     ensures { WasRead S.Shelf shelf.old shelf.new }
 {
-    let most = asides.most();
+    let most = asides.most().min(MOST_FAULTS);
     if let Fault::List(first) = first {
         tell_further_lines(alloc, list, *first, most, err);
         return;
@@ -74,15 +75,32 @@ fn tell_further_lines<E: Console>(
         };
         tell_also(&Fault::List(fault), &mut lines, &look, err);
     }
-    if faults.next_fault(alloc).is_some() {
+    tell_more_lines(alloc, &mut faults, most, err);
+}
+
+/// Prints how many more faults there are after `most` of them; whether there are any if those were few, since to count
+/// them the rest of the list is read.
+fn tell_more_lines<E: Console>(alloc: Global, faults: &mut Faults<'_>, most: usize, err: &mut E) {
+    if faults.next_fault(alloc).is_none() {
+        return;
+    }
+    if most < MOST_FAULTS {
         err.print_line("and more");
+        return;
+    }
+    for more in 1..u64::MAX {
+        if faults.next_fault(alloc).is_none() {
+            err.print_line(format_args!("and {more} more"));
+            return;
+        }
     }
 }
 
 /// Prints a further fault: its number, location, meaning and details.
 fn tell_also<E: Console>(fault: &Fault, lines: &mut ListLines<'_>, look: &Look, err: &mut E) {
     let number = fault.number();
-    err.print(format_args!("also {number:02}"));
+    let words = if number < 10 { "also 0" } else { "also " };
+    put_counted(err, words, u64::from(number));
     put_place(err, project_place(fault));
     err.print_line(FurtherExplanation::of(fault, lines.at(fault), look));
 }
