@@ -139,15 +139,16 @@ def reports(scene: Scene) -> None:
 
 @case("the batch of ARCHIVE.md")
 def batch(scene: Scene) -> None:
-    """The batch of ARCHIVE.md makes again just the outputs that aren't finished, and notes the lists that are refused."""
+    """The batch of ARCHIVE.md makes again only the outputs that aren't finished, and notes the lists that are refused."""
     if not shutil.which("bash"):
         raise Skipped("bash isn't installed (Debian package bash)")
-    script = next(block for block in blocks_of(DOCS / "ARCHIVE.md") if block[0].startswith("for list in"))
+    script = next(block for block in blocks_of(DOCS / "ARCHIVE.md") if block[0] == ": > refused")
     for name in ("lists", "media", "out", "path"):
         (scene.folder / name).mkdir()
     (scene.folder / "path/adlcons").symlink_to(scene.program)
     (scene.folder / "media/A.wav").write_bytes(wave())
-    for name, text in (("one", FIRST_LIST), ("two", FIRST_LIST), ("whole", FIRST_LIST), ("bad", b"no list")):
+    for name, text in (("one", FIRST_LIST), ("two", FIRST_LIST), ("cut", FIRST_LIST), ("full", FIRST_LIST),
+                       ("whole", FIRST_LIST), ("bad", b"no list")):
         (scene.folder / f"lists/{name}.adl").write_bytes(text)
     environment = {**os.environ, "PATH": f"{scene.folder / 'path'}:{os.environ['PATH']}"}
 
@@ -155,8 +156,10 @@ def batch(scene: Scene) -> None:
         subprocess.run(["bash", "-c", "\n".join(script)], cwd=scene.folder, env=environment, check=False,
                        capture_output=True, timeout=TIMEOUT)
         same("the lists that are refused", (scene.folder / "refused").read_text(), "lists/bad.adl\n")
-        (scene.folder / "refused").unlink()
-        for name in ("one", "two", "whole"):
+        same("the lists whose command failed otherwise", (scene.folder / "failed").read_text(), "")
+        statuses = {path.stem: path.read_text() for path in (scene.folder / "out").glob("*.status")}
+        same("the statuses", statuses, {"one": "0\n", "two": "0\n", "cut": "0\n", "full": "0\n", "whole": "0\n", "bad": "1\n"})
+        for name in ("one", "two", "cut", "full", "whole"):
             subprocess.run(["sha256sum", "-c", "--status", "SHA256SUMS"], cwd=scene.folder / "out" / name, check=True)
         return {path: path.stat().st_mtime_ns for path in (scene.folder / "out").glob("*/M00001.wav")}
 
@@ -166,6 +169,11 @@ def batch(scene: Scene) -> None:
     with open(scene.folder / "out/two/M00001.wav", "r+b") as file:
         file.truncate(100)
     (scene.folder / "out/two/consolidated.adl").unlink()
+    # Sums that were cut short on a full disk, with the status of that and with another.
+    for name in ("cut", "full"):
+        sums = scene.folder / "out" / name / "SHA256SUMS"
+        sums.write_text(sums.read_text().splitlines(True)[0])
+    (scene.folder / "out/full.status").write_text("1\n")
     after = made()
     same("what is left alone", [path.parent.name for path in sorted(before) if before[path] == after[path]], ["whole"])
 
