@@ -74,6 +74,14 @@ def all_transcripts(_: Scene) -> None:
         same(f"the commands that {page.relative_to(TOP)} shows", len(shown), len(transcripts.transcript_of(page)))
 
 
+@case("the folders that transcripts make")
+def made_folders(_: Scene) -> None:
+    """No two transcripts make the same folder, so a reader can run those of all pages in one copy of examples/."""
+    made = [folder for page in transcripts.pages() for command, _ in transcripts.transcript_of(page)
+            if command.startswith("mkdir ") for folder in shlex.split(command)[1:]]
+    same("the folders that are made more than once", sorted({folder for folder in made if made.count(folder) > 1}), [])
+
+
 def headings_of(page: Path) -> set:
     """The anchors of a page's headings."""
     text = re.sub(r"^```.*?^```$", "", page.read_text(), flags=re.M | re.S)
