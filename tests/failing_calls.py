@@ -87,8 +87,10 @@ def refusals_of(call: Call) -> set:
         return {(52, ""), *((number, name) for name in ([file] if file else SOURCES) for number in (21, 22))}
     if file:
         return {(62, file)}
+    # the folder is compared at each sync of a file in it
+    media = (f"M{number:05}.wav" for number in range(1, MEDIA_COUNT + 1))
     return {(20, OUT), *((62, name) for name in (
-        "render.wav", "render.marks", REPORT, "M00001.wav", "SHA256SUMS", "consolidated.json", "consolidated.adl"))}
+        "render.wav", "render.marks", REPORT, *media, "SHA256SUMS", "consolidated.json", "consolidated.adl"))}
 
 
 def check_failed(got: Outcome, failed: list, times: int, written: dict, begun: dict, whole: tuple) -> None:
