@@ -1,4 +1,5 @@
-"""The public items of the libraries, as a caller sees them: each with its first doc line, its signature and its premises."""
+"""The public items of the libraries, as a caller sees them: each with its first doc sentence (an enum with its whole comment), its
+signature and its premises."""
 
 import re
 import textwrap
@@ -12,6 +13,32 @@ WIDTH = 110
 ITEM = re.compile(r"^pub (fn|struct|enum|trait|const|type|static) (\w+)", re.M)
 REEXPORT = re.compile(r"^pub use ([\w:]+?)(?:::\{([^}]*)\}|::(\w+));", re.M | re.S)
 IMPL = re.compile(r"^impl\b.*?\{$", re.M | re.S)
+# What the block of a crate begins with.
+NOTES = {
+    "consolidate": """
+Names of the toolchain: `Global` is the allocator, which `rt.alloc()` returns for the `rt: HostRuntime` that `main`
+receives. For `files: R` pass `&rt`: a `&HostRuntime` meets the bounds `Files` (of `std::fs`), `FileExt` (of
+`std::os::unix::fs`) and `AllocGlobal` (of the prelude).
+
+Contracts: `requires` is what the caller has to prove, `ensures` what holds when the call has returned. In a clause
+`x.now` is the value behind the reference `x`. `ghost` marks what only contracts and proofs see, not the program. In a
+`ghost` member `Files` is a definition: the bytes of each stored file, by its name.
+
+Two types have the name `Fault`: this crate's has that of `opening` in its variant `Project`. Two have the name
+`Written`: this crate's adds the notices to that of `consolidation`, which is the outcome of a plan. Two have the name
+`CompareFault`: `compare` returns that of `comparing`.
+""",
+}
+# Items of crates without a block of their own, by the crate in whose block they are: each with its crate.
+LOWER = {
+    "consolidate": (("mediaset", "RunFault"), ("relink", "RelinkFault")),
+    "rendering": (("renderplan", "Plan"),),
+    "consolidation": (
+        ("silence", "run"), ("relink", "relink"), ("relink", "relink_homed"), ("mediaset", "runs"), ("mediaset", "Runs"),
+        ("mediacopy", "lay_out"), ("mediacopy", "lay_out_in"), ("mediacopy", "copy_piece"), ("mediacopy", "fetch_piece"),
+        ("mediacopy", "place_piece"), ("mediacopy", "CopyJob"), ("mediacopy", "CopyFault"), ("mediacopy", "LayoutFault"),
+    ),
+}
 CLAUSE = re.compile(r"\b(requires|ensures)\b\*?(?: (\w+))? (?=\{)")
 
 
@@ -29,8 +56,8 @@ def files_of(crate: str, module: str) -> list:
             if f"{module}.rt" in path.split("/") or module in path.split("/")[:-1]]
 
 
-def doc_above(text: str, start: int) -> str:
-    """The first sentence of the doc comment that ends right above a place."""
+def comment_above(text: str, start: int) -> list:
+    """The paragraphs of the doc comment that ends right above a place."""
     found = []
     for line in reversed(text[:start].splitlines()):
         line = line.strip()
@@ -38,7 +65,12 @@ def doc_above(text: str, start: int) -> str:
             found.insert(0, line[3:].strip())
         elif not line.startswith("#["):
             break
-    paragraph = " ".join(found).strip() if "" not in found else " ".join(found[:found.index("")])
+    return [" ".join(paragraph.split("\n")).strip() for paragraph in "\n".join(found).split("\n\n")]
+
+
+def doc_above(text: str, start: int) -> str:
+    """The first sentence of the doc comment that ends right above a place."""
+    paragraph = comment_above(text, start)[0]
     sentence = re.match(r"(.*?\.)(?: (?=[A-Z`0-9])|$)", paragraph)
     return sentence[1] if sentence else paragraph
 
@@ -159,7 +191,11 @@ def type_lines(crate: str, text: str, found: re.Match) -> list:
     name = found[2]
     whole = re.match(r"pub \w+ \w+[^{;(]*", text[found.start():])[0]
     head, opened = joined(whole), text[found.start() + len(whole)]
-    lines = [*documented(doc_above(text, found.start())), *derived(text, found.start())]
+    paragraphs = [documented(paragraph) for paragraph in comment_above(text, found.start())]
+    doc = documented(doc_above(text, found.start()))
+    if found[1] == "enum":
+        doc = sum(([*lines, "///"] for lines in paragraphs), [])[:-1]
+    lines = [*doc, *derived(text, found.start())]
     if opened == "{":
         brace = text.index("{", found.start())
         body = parts(text[brace:closing(text, brace)])
@@ -203,19 +239,60 @@ def item_lines(crate: str, name: str, texts: list) -> list:
     return []
 
 
+def is_variant(lines: list) -> bool:
+    """Whether an item is documented as a variant of another one, which is shown before it."""
+    return lines[0].startswith("/// The same")
+
+
+def function_name(lines: list) -> str:
+    """The name of an item that is a function, else nothing."""
+    return "".join(re.findall(r"^pub fn (\w+)", "\n".join(lines), re.M)[:1])
+
+
+def in_order(items: list) -> list:
+    """Functions before types. A function comes before those whose names continue its own."""
+    names = [name for name in map(function_name, items) if name]
+    plain = {name: min((other for other in names if f"{name}_".startswith(f"{other}_")), key=len) for name in names}
+    first = {}
+    for place, name in enumerate(names):
+        first.setdefault(plain[name], place)
+
+    def rank(lines: list) -> tuple:
+        name = function_name(lines)
+        return (0, first[plain[name]], name != plain[name]) if name else (1, 0, False)
+
+    return sorted(items, key=rank)
+
+
+def note_on(crate: str) -> list:
+    """The remark that the block of a crate begins with, as an item."""
+    paragraphs = [textwrap.wrap(" ".join(paragraph.split()), WIDTH - 3)
+                  for paragraph in NOTES.get(crate, "").strip().split("\n\n")]
+    lines = sum(([*(f"// {line}" for line in wrapped_lines), "//"] for wrapped_lines in paragraphs if wrapped_lines), [])
+    return [lines[:-1]] if lines else []
+
+
+def lower_items(crate: str) -> list:
+    """The items of lower crates that are in the block of a crate, each with the name of its own."""
+    return [[f"// In the crate {lower}:", *item_lines(lower, name, list(sources(lower).values()))]
+            for lower, name in LOWER.get(crate, ())]
+
+
 def exports(crate: str) -> tuple:
     """What the root of a crate exports: its own items, each by its lines, and names of other crates."""
     root = sources(crate)["lib.rt"]
     own = [item_lines(crate, found[2], [root]) for found in ITEM.finditer(root)]
     others = {}
     for path, listed, single in REEXPORT.findall(root):
+        found = []
         for name in filter(None, (word.strip() for word in (listed or single).split(","))):
             lines = item_lines(crate, name.split(" as ")[0], files_of(crate, path.split("::")[0]))
             if lines:
-                own.append(lines)
+                found.append(lines)
             else:
                 others.setdefault(path.split("::")[0], []).append(name)
-    return own, others
+        own += sorted(found, key=is_variant)
+    return [*note_on(crate), *in_order(own), *lower_items(crate)], others
 
 
 def head_of(crate: str) -> str:
