@@ -1,5 +1,5 @@
-"""The public items of the libraries, as a caller sees them: each with its first doc sentence (an enum with its whole comment), its
-signature and its premises."""
+"""The public items of the libraries, as a caller sees them: each with the first sentence of its doc comment (an enum with all
+of it), its signature and its premises."""
 
 import re
 import textwrap
