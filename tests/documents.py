@@ -124,8 +124,8 @@ def code_in(page: str, language: str) -> list:
 
 @case("the example of LIBRARY.md")
 def library_example(_: Scene) -> None:
-    """The last example for the programmer is the program's own file, which is compiled and run."""
-    code = code_in("LIBRARY.md", "rust")[-1]
+    """The second example for the programmer is the program's own file, which is compiled and run."""
+    code = code_in("LIBRARY.md", "rust")[1]
     same("the example", code, (TOP / "crates/adlcons/src/stored.rt").read_text().partition("\n")[2])
 
 

@@ -16,7 +16,8 @@ TIMEOUT = 1200
 
 @case("the program of LIBRARY.md")
 def library_program(scene: Scene) -> None:
-    """The program that LIBRARY.md has for two folders compiles in a copy of this tree, and consolidates an example."""
+    """The program that LIBRARY.md has for two folders, with its shelf that counts, compiles in a copy of this tree, and
+    consolidates an example."""
     if not shutil.which("rt"):
         raise Skipped("rt isn't in the path (the Rattle toolchain)")
     examples = with_examples(scene)
@@ -26,11 +27,16 @@ def library_program(scene: Scene) -> None:
     line = re.search(r"`(mine: [\w ]+)`", (DOCS / "LIBRARY.md").read_text())[1]
     (tree / "crates.txt").write_text(f"{(TOP / 'crates.txt').read_text()}{line}\n")
     (tree / "crates/mine/src").mkdir(parents=True)
-    for name, code in zip(("main.rt", "counted.rt"), code_in("LIBRARY.md", "rust")):
+    main, _, counted = code_in("LIBRARY.md", "rust")
+    shelf = re.search(r"FolderShelf::new\(.*\)\?", main)[0]
+    main = main.replace("use anyhow", "mod counted;\n\nuse anyhow", 1)
+    main = main.replace(shelf, f"counted::Counted::new({shelf})")
+    main = main.replace("    Ok(())\n", '    println!(rt; "{} bytes", shelf.bytes())?;\n    Ok(())\n')
+    for name, code in (("main.rt", main), ("counted.rt", counted)):
         (tree / "crates/mine/src" / name).write_text(code)
     words = [examples / "dialogue/dialogue.adl", examples / "dialogue/media", scene.folder / OUT]
     done = subprocess.run(["rt", "try", "--", *words], cwd=tree / "crates/mine", capture_output=True, timeout=TIMEOUT)
     printed = done.stdout.decode()
-    if "2 media files, 4 entries\n" not in printed or done.returncode:
+    if "3 media written\n" not in printed or done.returncode:
         raise Mismatch(f"the program doesn't run: {printed}{done.stderr.decode()}")
-    same("what it writes", sorted(scene.files()), ["M00001.wav", "M00002.wav", "consolidated.adl"])
+    same("what it writes", sorted(scene.files()), ["M00001.wav", "M00002.wav", "M00003.wav", "consolidated.adl"])
