@@ -81,7 +81,8 @@ def refusals_of(call: Call) -> set:
     """The numbers and names of the refusals that may come where a call fails."""
     folder, _, file = call.file.partition("/")
     if folder == LIST:
-        return {(21, LIST)}
+        # any output that exists may be a list that can't be identified
+        return {(21, LIST), (62, "render.wav"), (62, "render.marks")}
     if folder == MEDIA:
         # 52 names its file on standard error alone
         return {(52, ""), *((number, name) for name in ([file] if file else SOURCES) for number in (21, 22))}
