@@ -235,7 +235,7 @@ class Exchange:
     def check(self, at: str, is_first_look: bool) -> None:
         """All that was there is unchanged. A file that comes before the command looks for its outputs is an output."""
         files = [self.victim] if self.victim.is_file() else [self.victim / name for name in (SOUND, MARKS, "letter.txt")]
-        for file in files:
+        for file in () if is_first_look and self.victim.is_dir() else files:
             same_bytes(f"{at}: {file.name}", file.read_bytes(), self.bytes)
         if self.kind == "other file" and self.path.is_file() and not is_first_look:
             same_bytes(f"{at}: the file that was put there", self.path.read_bytes(), self.bytes)
@@ -256,7 +256,8 @@ def random_exchange(number: int):
         words = (command, LIST, MEDIA, OUT, *DEPTH)
         what = f"{kind} for {target}, {state.__name__}, {command}, {call} {at}"
         got = delayed(scene, call, target, at, words, exchange.make)
-        exchange.check(what, call == "statx" and at == 1)
+        first = "openat" if target == OUT else "statx"
+        exchange.check(what, call == first and at == 1)
         same_bytes(f"{what}: the source", (scene.folder / MEDIA / "A.wav").read_bytes(), wave())
         same_bytes(f"{what}: the list", (scene.folder / LIST).read_bytes(), FIRST_LIST)
         if got.status not in (0, 1):

@@ -172,8 +172,22 @@ where
     }
     if replaced.overwrite == Overwrite::Files {
         require_unshared(rt, places, list, replaced.files, shelf, &mut found, err)?;
+        require_held(rt, places.out, held)?;
     }
     Ok(found)
+}
+
+/// Returns an error if the path of the output leads to another folder than the one that is held, so that files of that
+/// folder may have been examined.
+fn require_held<R: Files>(rt: &R, path: &str, held: &HeldFolder<R::File>) -> Result<(), OpenFault> {
+    let HeldFolder::Locked(folder) = held else {
+        return Ok(());
+    };
+    match folder.metadata() {
+        Ok(found) if is_found_at(rt, &found, listed(path)) => Ok(()),
+        Ok(_) => Err(OpenFault::Busy),
+        Err(error) => Err(OpenFault::Unlisted(error)),
+    }
 }
 
 /// Records the files of these names, which a rendering would write to or empty. Returns an error, and prints why, if one of
